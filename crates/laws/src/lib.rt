@@ -1,0 +1,1 @@
+// Theorems only, in specs/: this crate has no code.

@@ -1,0 +1,217 @@
+-- The starred cases of document 01's section on program K, its small unstarred ones, 003's l$, and a case or two for each of the refusals 1
+-- to 11: one table and one theorem, by evaluation of the definitions from the bytes of the tables. Cases of 256 entries or 4,097 bytes belong to the program of cases.
+use mathlib.Core.Path.{_≡_, refl}
+use mathlib.Core.List.{List, [], _∷_, _++_, map}
+use Prim.Native.Nat.{ℕ}
+use lib.ListN.{length}
+use Prim.Native.Char.{code}
+use Prim.Native.String.{String}
+use Prim.Native.String.{[] as nil, _∷_ as _then_}
+use Rattle.semantics.specs.Text.{Text, All, sameText, least, joined, somePasses, orElse, apply, apply₂}
+use Rattle.semantics.specs.Pattern.{inRange, nullable, before, heads, matches}
+use Rattle.semantics.specs.Ambiguity.{shareByte, nextPairs, samePattern, samePair, visit, explore, wordRests, rests, states, reached, bothEnd, overlaps, onward, twoCuts, badRepeat}
+use Rattle.semantics.specs.Lens.{constLanguage, language, cutAt, partsWithin, parts, get, keyOf, sameKey, entryOf, entries, answers, keeping, takeEntry, andThen, armOf, writeArm, writeParts, writeMatch, write, put, create}
+use Rattle.semantics.specs.Table.{at, two, nodeCount, poolLength, sizesWrong, nodeAt, below, nodes, pool, kindOf, patternOf, lensOf, wordOf, treeAt, patternAt, lensAt, wordAt, provided, build, treeOf, treesFrom, trees, patternSize, lensSize, positions, treePositions, treeSize, holdsMatch, line, unknownKind, isBroken, nestedMatch, nested, overLimit, firstRound, rootOf, rootLine, typingLines, treeLines, secondRound, lines, firstThatHolds}
+use Rattle.semantics.specs.Calls.{Answer, gives, refuses, refuseIf, rootAnswer, verdict, program, withProgram, tooLong, notOf, output, checkCall, getCall, putCall, createCall, digits, decimal, field, programLine, lenscheckLine}
+
+-- the bytes of a quoted text
+bytesOf : String → Text
+bytesOf nil = []
+bytesOf (c then s) = code c ∷ bytesOf s
+
+-- To unfold this is to unfold every definition that a call computes with.
+evaluates : Unit {0}
+unfolding sameText least joined somePasses orElse apply apply₂ inRange nullable before heads matches shareByte nextPairs samePattern samePair visit explore wordRests rests states reached bothEnd overlaps onward twoCuts badRepeat constLanguage language cutAt partsWithin parts get keyOf sameKey entryOf entries answers keeping takeEntry andThen armOf writeArm writeParts writeMatch write put create at two nodeCount poolLength sizesWrong nodeAt below nodes pool kindOf patternOf lensOf wordOf treeAt patternAt lensAt wordAt provided build treeOf treesFrom trees patternSize lensSize positions treePositions treeSize holdsMatch line unknownKind isBroken nestedMatch nested overLimit firstRound rootOf rootLine typingLines treeLines secondRound lines firstThatHolds refuseIf rootAnswer verdict program withProgram tooLong notOf output checkCall getCall putCall createCall digits decimal field programLine lenscheckLine
+evaluates = tt
+
+-- a node as document 01 writes it: its kind and its operands a, b, c
+data Row : Type 0 where
+  node : ℕ → ℕ → ℕ → ℕ → Row
+
+kindByte : Row → ℕ
+kindByte (node kind a b c) = kind
+
+operands : Row → Text
+operands (node kind a b c) = a ∷ b ∷ c ∷ []
+
+-- a table: sizes, kinds, operand records, pool
+table : List Row → String → Text
+table rows poolText =
+    length rows ∷ 0 ∷ length (bytesOf poolText) ∷ map kindByte rows ++ joined (map operands rows) ++ bytesOf poolText
+
+-- Program K, with kind 18 (key) at node 8, or another
+K-with : ℕ → Text
+K-with kind =
+    table
+    (node 1 65 90 0
+    ∷ node 4 0 0 0
+    ∷ node 2 0 1 0
+    ∷ node 1 48 57 0
+    ∷ node 4 3 0 0
+    ∷ node 0 0 0 0
+    ∷ node 0 0 0 1
+    ∷ node 0 0 1 1
+    ∷ node kind 2 0 0
+    ∷ node 17 4 5 6
+    ∷ node 16 7 0 0
+    ∷ node 19 9 10 0
+    ∷ node 19 8 11 0
+    ∷ node 22 12 0 0
+    ∷ node 21 13 0 0
+    ∷ [])
+    "0;"
+
+K : Text
+K = K-with 18
+
+-- a* joined with a*
+twoStars : Text
+twoStars = table (node 1 97 97 0 ∷ node 4 0 0 0 ∷ node 16 1 0 0 ∷ node 19 2 2 0 ∷ []) ""
+
+-- copy A-M or copy from `first` to Z
+letters : ℕ → Text
+letters first = table (node 1 65 77 0 ∷ node 1 first 90 0 ∷ node 16 0 0 0 ∷ node 16 1 0 0 ∷ node 20 2 3 0 ∷ []) ""
+
+-- repeat of const `a` to the empty word
+repeatOfNothing : Text
+repeatOfNothing = table (node 0 0 0 1 ∷ node 0 0 0 0 ∷ node 17 0 1 0 ∷ node 21 2 0 0 ∷ []) "a"
+
+-- repeat of copy a*
+repeatOfStar : Text
+repeatOfStar = table (node 1 97 97 0 ∷ node 4 0 0 0 ∷ node 16 1 0 0 ∷ node 21 2 0 0 ∷ []) ""
+
+-- copy of (a or a)
+sameTwice : Text
+sameTwice = table (node 0 0 0 1 ∷ node 3 0 0 0 ∷ node 16 1 0 0 ∷ []) "a"
+
+-- 003's entries x* y* z* $, with y hidden and x* the key, repeated as matches or as they are
+xyz : List Row → Text
+xyz more =
+    table
+    (node 0 0 0 1
+    ∷ node 4 0 0 0
+    ∷ node 0 0 1 1
+    ∷ node 4 2 0 0
+    ∷ node 0 0 2 1
+    ∷ node 4 4 0 0
+    ∷ node 0 0 3 1
+    ∷ node 0 0 0 0
+    ∷ node 18 1 0 0
+    ∷ node 17 3 7 7
+    ∷ node 16 5 0 0
+    ∷ node 16 6 0 0
+    ∷ node 19 10 11 0
+    ∷ node 19 9 12 0
+    ∷ node 19 8 13 0
+    ∷ more)
+    "xyz$"
+
+-- two arms with one sheet: a to x or b to x
+oneSheet : Text
+oneSheet = table (node 0 0 0 1 ∷ node 0 0 1 1 ∷ node 0 0 2 1 ∷ node 17 0 2 0 ∷ node 17 1 2 1 ∷ node 20 3 4 0 ∷ []) "abx"
+
+-- a join whose sheets alone are cut two ways: (x to a, y to aa) and (z to a, w to aa)
+sheetsClash : Text
+sheetsClash =
+    table
+    (node 0 0 0 1
+    ∷ node 0 0 0 2
+    ∷ node 0 0 2 1
+    ∷ node 0 0 3 1
+    ∷ node 0 0 4 1
+    ∷ node 0 0 5 1
+    ∷ node 17 2 0 2
+    ∷ node 17 3 1 3
+    ∷ node 20 6 7 0
+    ∷ node 17 4 0 4
+    ∷ node 17 5 1 5
+    ∷ node 20 9 10 0
+    ∷ node 19 8 11 0
+    ∷ [])
+    "aaxyzw"
+
+-- a word of eight bytes, joined with itself again and again
+doubled : Text
+doubled =
+    table
+    (node 0 0 0 8
+    ∷ node 2 0 0 0
+    ∷ node 2 1 1 0
+    ∷ node 2 2 2 0
+    ∷ node 2 3 3 0
+    ∷ node 2 4 4 0
+    ∷ node 16 5 0 0
+    ∷ [])
+    "abcdefgh"
+
+data Case : Type 0 where
+  checks : Text → Answer ℕ → Case
+  prints : Text → String → Case
+  gets : Text → String → ℕ → Answer Text → Case
+  puts : Text → String → String → ℕ → Answer Text → Case
+  creates : Text → String → ℕ → Answer Text → Case
+
+abbrev Holds : Case → Type 0
+Holds (checks t answer) = checkCall t ≡ answer
+Holds (prints t text) = lenscheckLine t ≡ bytesOf text
+Holds (gets t old lent answer) = getCall t (bytesOf old) lent ≡ answer
+Holds (puts t new old lent answer) = putCall t (bytesOf new) (bytesOf old) lent ≡ answer
+Holds (creates t new lent answer) = createCall t (bytesOf new) lent ≡ answer
+
+result : String → Answer Text
+result t = gives (bytesOf t)
+
+cases : List Case
+cases =
+    checks K (gives 15)
+    ∷ prints K "ok 15 4 3\n"
+    ∷ prints [] "refused 1 0\n"
+    ∷ gets K "AB1;C22;" 4096 (result "AB;C;")
+    ∷ gets K "" 0 (result "")
+    ∷ puts K "C;AB;" "AB1;C22;" 4096 (result "C22;AB1;")
+    ∷ puts K "C;AB;" "AB1;C22;" 8 (result "C22;AB1;")
+    ∷ puts K "C;AB;" "AB1;C22;" 7 (refuses 16 0)
+    ∷ puts K "C;D;" "AB1;C22;" 4096 (result "C22;D0;")
+    ∷ puts K "AB;AB;" "AB1;C22;" 4096 (result "AB1;AB0;")
+    ∷ puts K "A;A;" "A1;A2;" 4096 (result "A1;A2;")
+    ∷ creates K "AB;" 4096 (result "AB0;")
+    ∷ gets K "Z;" 4096 (result "Z;")
+    ∷ gets K "[;" 4096 (refuses 13 0)
+    ∷ gets K "@;" 4096 (refuses 13 0)
+    ∷ creates K "AB1;" 4096 (refuses 14 0)
+    ∷ puts (K-with 16) "C;AB;" "AB1;C22;" 4096 (result "C1;AB22;")
+    ∷ checks twoStars (refuses 7 3)
+    ∷ checks (letters 77) (refuses 9 4)
+    ∷ checks (letters 78) (gives 5)
+    ∷ checks repeatOfNothing (refuses 11 3)
+    ∷ checks repeatOfStar (refuses 10 3)
+    ∷ checks sameTwice (gives 3)
+    ∷ puts (xyz (node 22 14 0 0 ∷ node 21 15 0 0 ∷ [])) "xxzzz$x$" "xyz$xxyyzz$" 4096 (result "xxyyzzz$xy$")
+    ∷ puts (xyz (node 21 14 0 0 ∷ [])) "xxzzz$x$" "xyz$xxyyzz$" 4096 (result "xxyzzz$xyy$")
+    ∷ puts oneSheet "x" "b" 4096 (result "b")
+    ∷ puts oneSheet "x" "a" 4096 (result "a")
+    ∷ creates oneSheet "x" 4096 (result "a")
+    ∷ checks (0 ∷ 0 ∷ 0 ∷ []) (refuses 1 0)
+    ∷ checks (table (node 1 65 90 0 ∷ node 5 0 0 0 ∷ []) "") (refuses 2 1)
+    ∷ checks (table (node 1 65 90 0 ∷ node 16 1 0 0 ∷ []) "") (refuses 3 1)
+    ∷ checks (table (node 1 65 90 0 ∷ node 16 0 0 1 ∷ []) "") (refuses 3 1)
+    ∷ checks (table (node 1 65 90 0 ∷ node 4 0 0 0 ∷ []) "") (refuses 3 1)
+    ∷ checks (table (node 1 65 90 0 ∷ node 18 0 0 0 ∷ node 22 1 0 0 ∷ node 22 2 0 0 ∷ []) "") (refuses 4 3)
+    ∷ checks doubled (refuses 5 5)
+    ∷ checks (table (node 1 65 90 0 ∷ node 0 0 0 1 ∷ node 17 0 1 1 ∷ []) "x") (refuses 6 2)
+    ∷ checks sheetsClash (refuses 8 12)
+    ∷ []
+
+-- Program K as document 01 counts it: 65 bytes.
+K-size : length K ≡ 65
+unfolding K K-with table bytesOf kindByte operands joined
+K-size = refl
+
+infixr 5 _&_
+_&_ : {P Q : Type 0} → P → Q → P × Q
+p & q = (p, q)
+
+-- Every case holds.
+cases-hold : All Holds cases
+unfolding bytesOf kindByte operands table K-with K twoStars letters repeatOfNothing repeatOfStar sameTwice oneSheet sheetsClash doubled xyz result cases evaluates
+cases-hold = refl & refl & refl & refl & refl & refl & refl & refl & refl & refl & refl & refl & refl & refl & refl & refl & refl & refl & refl & refl & refl & refl & refl & refl & refl & refl & refl & refl & refl & refl & refl & refl & refl & refl & refl & refl & refl & tt

@@ -1,0 +1,1 @@
+// Definitions only, in specs/: this crate has no code.
