@@ -1,0 +1,9 @@
+-- Laws that the proofs of several functions cite.
+pub mod RightSizes
+pub mod Trees
+pub mod KindBytes
+pub mod Decoding
+pub mod Sorts
+pub mod Measures
+pub mod Turns
+pub mod Rounds
