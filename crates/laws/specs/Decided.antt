@@ -8,9 +8,8 @@ use native.Mathlib.Omega.{arith}
 use lib.ListN.{length, length-append}
 use Rattle.semantics.specs.Text.{Text, sameText, joined, somePasses, All, Member}
 use Rattle.semantics.specs.Pattern.{Pattern, star, In, nullable}
-use Rattle.semantics.specs.Ambiguity.{TwoCuts, Overlap, BadRepeat, Pair, nextPairs, bothEnd, states, reached, onward, overlaps, twoCuts, badRepeat}
+use Rattle.semantics.specs.Ambiguity.{TwoCuts, Overlap, TwoLists, BadRepeat, Pair, nextPairs, bothEnd, states, reached, onward, overlaps, twoCuts, badRepeat}
 use Rattle.laws.specs.Basics.{bool-cases, not-both, and-both, and-of, or-either, or-left, or-right, sameText-eq, sameText-refl, member-right, all-at, all-of, passes-at, passes-of}
-use Rattle.laws.specs.Cuts.{two-lists}
 use Rattle.laws.specs.Membership.{nullable-in, in-nullable}
 use Rattle.laws.specs.States.{member-one, member-cond, cond-member, member-joined-map, joined-map-member}
 use Rattle.laws.specs.Search.{next-in, in-next, Among, next-among, Found, reached-keeps, reached-finds}
@@ -204,7 +203,7 @@ cuts-apart (c ∷ u) v (d ∷ u′) v′ e n =
     (cuts-apart u v u′ v′ (cc) (λ q. n (cc)))
 
 -- Two cuts are a text u that both have, and a text w by which the second goes further.
-cuts-iff : (r s : Pattern) → Runs (Moved s) (r, r) ↔ TwoCuts r s
+pub cuts-iff : (r s : Pattern) → Runs (Moved s) (r, r) ↔ TwoCuts r s
 cuts-iff r s = (to, from)
   where
     longer : (u : Text) (c : ℕ) (x : Text) → ¬ (u ≡ u ++ c ∷ x)
@@ -332,6 +331,22 @@ lists-cuts r (p ∷ ps) (q ∷ qs) i j e n =
           other-cut = λ d. not-both (subst (λ t. sameText p t ≡ true) d (sameText-refl p)) f;
         }
 
+-- and two cuts begin two lists of parts
+cuts-lists : (r : Pattern) → TwoCuts r (star r) → TwoLists r
+unfolding joined In
+cuts-lists r t =
+    let (ps, e, i) = t .right-in in
+    let (qs, f, j) = t .right-in′ in
+    let same = t .same-text in
+    record {
+      parts = t .left ∷ ps;
+      parts-in = (t .left-in, i);
+      parts′ = t .left′ ∷ qs;
+      parts-in′ = (t .left-in′, j);
+      same-text = cc;
+      other-parts = λ d. t .other-cut (cc);
+    }
+
 pub badRepeat-iff : (r : Pattern) → (badRepeat r ≡ true) ↔ BadRepeat r
 unfolding badRepeat
 badRepeat-iff r = (to, from)
@@ -340,7 +355,7 @@ badRepeat-iff r = (to, from)
     to e =
         ⊎-map
         (nullable-in r)
-        (λ f. two-lists r (twoCuts-iff r (star r) .0 f))
+        (λ f. cuts-lists r (twoCuts-iff r (star r) .0 f))
         (or-either (nullable r) (twoCuts r (star r)) e)
 
     empty : In r [] → nullable r || twoCuts r (star r) ≡ true

@@ -5,6 +5,8 @@ pub mod Cuts
 pub mod States
 pub mod Search
 pub mod Decided
+pub mod PositionAutomaton
+pub mod Walks
 pub mod WellTyped
 pub mod Pieces
 pub mod GetPut

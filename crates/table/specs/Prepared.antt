@@ -1,15 +1,14 @@
 -- What reading a table answers, and what it leaves in the prepared program: the numbers that every later layer reads.
 use mathlib.Core.Path.{_≡_}
-use mathlib.Core.Bool.{Bool, true, false, cond}
+use mathlib.Core.Bool.{false, cond}
 use mathlib.Core.List.{List, [], _∷_, _++_}
 use mathlib.Core.Option.{Option, none, some}
 use Prim.Native.Nat.{ℕ, _+_, _*_, _≤_, _<_}
-use lib.ListN.{length, take, drop, getD}
+use lib.ListN.{take, drop, getD}
 use Rattle.semantics.specs.Text.{Text}
 use Rattle.semantics.specs.Pattern.{Pattern, word, range, concat, alt, star}
 use Rattle.semantics.specs.Lens.{Lens, copy, const, key, join, union, repeat, match, source, sheet}
 use Rattle.semantics.specs.Table.{nodeCount, poolLength, sizesWrong, nodes, trees, Tree, Trees, pattern, lens, broken, treeAt, pool, treeSize, treePositions, holdsMatch, isBroken, nested, overLimit, Line, line, firstRound, rootLine, firstThatHolds}
-use Rattle.table.specs.declared.Table.{Table}
 use Rattle.table.specs.declared.TableAnswer.{TableAnswer}
 use Rattle.table.specs.declared.TableAnswer.the-variants.{Ready, Refused}
 use Rattle.table.specs.declared.Kind.{Kind}

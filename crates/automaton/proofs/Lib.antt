@@ -1,0 +1,4 @@
+pub mod Steps
+pub mod Parts
+pub mod Frames
+pub mod Turns

@@ -1,0 +1,101 @@
+// The position automata of a program's nodes, in the prepared program. Only the functions of this crate know where its numbers stand.
+pub mod build;
+pub mod program;
+pub mod rows;
+
+use positions::Set;
+ghost use mathlib.Core.Path.{_≡_};
+ghost use Prim.Native.Nat.{_+_, _*_, _≤_, _<_};
+ghost use lib.ListN.{length};
+ghost use Rattle.automaton.specs.Rows.{rowAt, followOf, standsIn, shareIn, automatonAt};
+
+pub enum Side {
+    Source,
+    Sheet,
+}
+
+// An automaton by value: where its rows start, how many positions it has, whether the empty text belongs, and where texts begin and end.
+pub struct Automaton {
+    pub start: usize,
+    pub count: usize,
+    pub nullable: bool,
+    pub first: Set,
+    pub last: Set,
+}
+
+fn side_index(side: Side) -> usize
+    ensures { λ r. ⌜ (r ≡ Rattle.automaton.specs.Rows.sideIndex side) × (r < 2) ⌝ }
+{
+    match side {
+        Side::Source => 0,
+        Side::Sheet => 1,
+    }
+}
+
+fn set_at(prepared: &[u64], i: usize) -> Set
+    requires { ⌜ i + 1 < length (now prepared) ⌝ }
+    ensures { λ r. ⌜ r ≡ Rattle.automaton.specs.Rows.setAt (now (prepared .entry)) i ⌝ }
+{
+    Set {
+        low: prepared[i],
+        high: prepared[i + 1],
+    }
+}
+
+pub fn automaton_of(prepared: &[u64], node: usize, side: Side) -> Automaton
+    requires { ⌜ 16 * node + 16 ≤ length (now prepared) ⌝ }
+    ensures { λ r. ⌜ r ≡ automatonAt (now (prepared .entry)) node side ⌝ }
+{
+    let s = side_index(side);
+    let i = 16 * node + 4 + 6 * s;
+    let first = set_at(prepared, i + 2);
+    let last = set_at(prepared, i + 4);
+    Automaton {
+        start: prepared[i] as usize,
+        count: prepared[16 * node + 1 + s] as usize,
+        nullable: prepared[i + 1] == 1,
+        first: first,
+        last: last,
+    }
+}
+
+// The positions that may follow the position of a row.
+pub fn follow(prepared: &[u64], row: usize) -> Set
+    requires { ⌜ rowAt row + 4 ≤ length (now prepared) ⌝ }
+    ensures { λ r. ⌜ r ≡ followOf (now (prepared .entry)) row ⌝ }
+{
+    set_at(prepared, 1536 + 4 * row + 2)
+}
+
+// Whether a byte may stand at the position of a row.
+pub fn stands(prepared: &[u64], row: usize, byte: u8) -> bool
+    requires { ⌜ rowAt row + 4 ≤ length (now prepared) ⌝ }
+    ensures { λ r. ⌜ r ≡ standsIn (now (prepared .entry)) row byte ⌝ }
+{
+    let i = 1536 + 4 * row;
+    let c = byte as u64;
+    prepared[i] <= c && c <= prepared[i + 1]
+}
+
+// Whether the positions of two rows share a byte.
+pub fn share(prepared: &[u64], row: usize, other: usize) -> bool
+    requires { ⌜ rowAt row + 4 ≤ length (now prepared) ⌝ }
+    requires { ⌜ rowAt other + 4 ≤ length (now prepared) ⌝ }
+    ensures { λ r. ⌜ r ≡ shareIn (now (prepared .entry)) row other ⌝ }
+{
+    let i = 1536 + 4 * row;
+    let j = 1536 + 4 * other;
+    larger(prepared[i], prepared[j]) <= smaller(prepared[i + 1], prepared[j + 1])
+}
+
+fn larger(a: u64, b: u64) -> u64
+    ensures { λ r. ⌜ r ≡ Prim.Native.Nat.max a b ⌝ }
+{
+    if a < b { b } else { a }
+}
+
+fn smaller(a: u64, b: u64) -> u64
+    ensures { λ r. ⌜ r ≡ Prim.Native.Nat.min a b ⌝ }
+{
+    if a < b { a } else { b }
+}

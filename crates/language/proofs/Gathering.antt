@@ -1,0 +1,60 @@
+-- Sets that are gathered position by position: what the loops over the positions cite. Assumes nothing.
+use mathlib.Core.Path.{_≡_, sym, _∙_}
+use mathlib.Core.Bool.{Bool, true, _||_}
+use mathlib.Core.Logic.{_↔_, inl, inr, ⊎-elim}
+use Prim.Native.Nat.{ℕ, _+_, _<_}
+use native.Mathlib.Omega.{arith}
+use borrow.Author.Tests.{eqb-true, eqb-false, eq-eqb}
+use lib.Dec.{eqb}
+use Rattle.laws.specs.Basics.{bool-cases, not-both, or-either, or-left, or-right}
+use Rattle.positions.specs.declared.Set.{Set}
+use Rattle.positions.specs.Positions.{holds, Empty, Added}
+use Rattle.language.specs.Sets.{Gathered, Grown}
+
+-- A set grew by a test's positions where the test is true exactly of what was given.
+pub grown-by :
+    (given : ℕ → Type 0) (x : ℕ → Bool) (s t : Set)
+    → ((q : ℕ) → holds t q ≡ (x q || holds s q))
+    → ((q : ℕ) → (x q ≡ true) ↔ given q)
+    → Grown given s t
+grown-by given x s t joined is =
+    record {
+      grown-iff = λ q. (
+        λ e. ⊎-elim (λ new. inr (is q .0 new)) (λ old. inl old) (or-either (x q) (holds s q) (sym (joined q) ∙ e)),
+        λ e. joined q ∙ ⊎-elim (λ old. or-right (x q) (holds s q) old) (λ new. or-left (x q) (holds s q) (is q .1 new)) e,
+      );
+    }
+
+-- It did not grow where nothing was given.
+pub grown-not : (given : ℕ → Type 0) (s : Set) → ((q : ℕ) → given q → ⊥) → Grown given s s
+grown-not given s none = record { grown-iff = λ q. (λ e. inl e, λ e. ⊎-elim (λ old. old) (λ new. absurd (none q new)) e) }
+
+-- It grew by one position.
+pub grown-with :
+    (given : ℕ → Type 0) (p : ℕ) (s t : Set) → Added s p t → ((q : ℕ) → given q → q ≡ p) → given p → Grown given s t
+grown-with given p s t added only g = grown-by given (λ q. eqb q p) s t added (λ q. (λ e. rw (eqb-true q p e) g, λ h. eq-eqb q p (only q h)))
+
+module _ (gives : ℕ → ℕ → Type 0) where
+  -- No position gives anything to the empty set.
+  pub gathered-none : (s : Set) → Empty s → Gathered gives 0 s
+  gathered-none s none =
+      record { held-iff = λ q. (λ e. absurd (not-both e (none q)), λ g. let (p, l, x) = g in absurd (omega arith)) }
+
+  -- With what position n gives, the set has what the positions below n + 1 give.
+  pub gathered-more : (n : ℕ) (s t : Set) → Gathered gives n s → Grown (gives n) s t → Gathered gives (n + 1) t
+  gathered-more n s t before grown = record { held-iff = λ q. (there q, back q) }
+    where
+      there : (q : ℕ) → holds t q ≡ true → (p : ℕ) × (p < n + 1) × gives p q
+      there q e =
+          ⊎-elim
+          (λ old. let (p, l, g) = before .held-iff q .0 old in (p, (omega arith), g))
+          (λ new. (n, (omega arith), new))
+          (grown .grown-iff q .0 e)
+
+      back : (q : ℕ) → (p : ℕ) × (p < n + 1) × gives p q → holds t q ≡ true
+      back q (p, l, g) =
+          grown .grown-iff q .1
+          (⊎-elim
+          (λ e. inr (rw (eqb-true p n e) at g))
+          (λ e. let ne = eqb-false p n e in inl (before .held-iff q .1 (p, (omega arith), g)))
+          (bool-cases (eqb p n)))

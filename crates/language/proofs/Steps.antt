@@ -1,0 +1,200 @@
+-- One byte read, forward and backward, by the laws of the position automaton. Assumes nothing.
+use mathlib.Core.Path.{_≡_, refl, sym, _∙_}
+use mathlib.Core.Bool.{Bool, true, false}
+use mathlib.Core.List.{List, [], _∷_, _++_, append-assoc}
+use mathlib.Core.Logic.{_↔_, Iff·symm, Iff·trans}
+use Prim.Native.Nat.{ℕ, _+_, _<_}
+use native.Mathlib.Omega.{arith}
+use Rattle.semantics.specs.Text.{Text}
+use Rattle.semantics.specs.Pattern.{Pattern, In, matches}
+use Rattle.semantics.specs.Table.{positions}
+use Rattle.laws.specs.Basics.{not-both, false-of-not-true}
+use Rattle.laws.specs.Membership.{matches-iff}
+use Rattle.laws.specs.PositionAutomaton.{standsAt, firstAt, followAt, restAt, ReadsAt, first-law, follow-law, last-law}
+use Rattle.positions.specs.declared.Set.{Set}
+use Rattle.positions.specs.Positions.{holds, Empty, Shared}
+use Rattle.automaton.specs.declared.Automaton.{Automaton}
+use Rattle.automaton.specs.Rows.{Room, Describes, standsIn, followOf}
+use Rattle.language.specs.declared.Run.{Run}
+use Rattle.language.specs.Sets.{Gathered, Standing, Following, Leading}
+use Rattle.language.specs.Runs.{Forward, Backward}
+
+-- Two tests that are true of the same agree.
+same-test : (a b : Bool) → (a ≡ true) ↔ (b ≡ true) → a ≡ b
+same-test true b is = sym (is .0 refl)
+same-test false b is = sym (false-of-not-true b (λ e. not-both (is .1 e) refl))
+
+-- What an answer is told by tells whether the text belongs.
+answer-is : (r : Pattern) (t : Text) (here : Bool) {A : Type 0} → (here ≡ true) ↔ A → In r t ↔ A → here ≡ matches r t
+answer-is r t here told is = same-test here (matches r t) (Iff·trans told (Iff·trans (Iff·symm is) (Iff·symm (matches-iff r t))))
+
+-- Two tests that agree allow the same readings.
+allowed-iff : (r : Pattern) (c : ℕ) (u : Text) {may allowed : ℕ → Bool} → ((p : ℕ) → may p ≡ allowed p) → ReadsAt r may c u ↔ ReadsAt r allowed c u
+allowed-iff r c u is = (reads is, reads (λ p. sym (is p)))
+  where
+    reads : {f g : ℕ → Bool} → ((p : ℕ) → f p ≡ g p) → ReadsAt r f c u → ReadsAt r g c u
+    reads same x =
+        record {
+          position = x .position;
+          in-pattern = x .in-pattern;
+          allowed = sym (same (x .position)) ∙ x .allowed;
+          stands = x .stands;
+          rest-in = x .rest-in;
+        }
+
+-- Where the set is empty, no text goes on from what was read.
+pub stuck : {r : Pattern} {t : Text} {run : Run} → Forward r t run → Empty (run .set) → (c : ℕ) (u : Text) → matches r (t ++ c ∷ u) ≡ false
+stuck {r} {t} known none c u =
+    false-of-not-true (matches r (t ++ c ∷ u)) (λ e. let x = known .onward-iff c u .0 (matches-iff r (t ++ c ∷ u) .0 e) in not-both (x .allowed) (none (x .position)))
+
+-- A byte more leaves it so.
+pub stuck-steps : {r : Pattern} {t : Text} {run : Run} → Forward r t run → Empty (run .set) → (c : ℕ) → Forward r (t ++ c ∷ []) (record { here = false; set = run .set })
+stuck-steps {r} {t} known none c =
+    record {
+      here-is = sym (stuck known none c []);
+      onward-iff = λ e u. (
+        λ i.
+            let j = rw (append-assoc t (c ∷ []) (e ∷ u)) at i in
+            absurd (not-both (matches-iff r (t ++ c ∷ e ∷ u) .1 j) (stuck known none c (e ∷ u))),
+        λ x. absurd (not-both (x .allowed) (none (x .position))),
+      );
+    }
+
+module _ {r : Pattern} {a : Automaton} {prepared : List ℕ} (room : Room a prepared) (d : Describes r a prepared) where
+  -- A set has room for each position of the pattern, and the count of rows is that of positions.
+  few : (p : ℕ) → p < positions r → p < 128
+  few p l = omega (arith, d .count-is, room .few)
+
+  counted : (p : ℕ) → p < a .count → p < positions r
+  counted p l = omega (arith, d .count-is)
+
+  -- A byte may stand at a position by its row as by the pattern.
+  stands-is : (p c : ℕ) → p < positions r → standsIn prepared (a .start + p) c ≡ standsAt r p c
+  unfolding standsIn standsAt
+  stands-is p c l = let row = d .row-is p l in rw (row .low-is, row .high-is)
+
+  module _ {s : Set} {c : ℕ} {here : Set} (stood : Gathered (Standing prepared a s c) (a .count) here) where
+    -- The positions of a set at which the byte may stand.
+    stood-iff : (p : ℕ) → (holds here p ≡ true) ↔ ((p < positions r) × (holds s p ≡ true) × (standsAt r p c ≡ true))
+    stood-iff q = (
+      λ e.
+          let (p, l, g) = stood .held-iff q .0 e in
+          let k = counted p l in
+          rw (g .itself) (k, g .held, sym (stands-is p c k) ∙ g .stands),
+      λ h.
+          let (l, e, f) = h in
+          stood .held-iff q .1 (q, omega (arith, d .count-is), record { itself = refl; held = e; stands = stands-is q c l ∙ f }),
+    )
+
+    -- To read a byte from one of a set's positions is to be past one at which it may stand.
+    past-iff : (u : Text) → ReadsAt r (holds s) c u ↔ ((p : ℕ) × (p < positions r) × (holds here p ≡ true) × In (restAt r p) u)
+    past-iff u = (
+      λ x. let p = x .position in (p, x .in-pattern, stood-iff p .1 (x .in-pattern, x .allowed, x .stands), x .rest-in),
+      λ h.
+          let (p, l, e, i) = h in
+          let (k, f, g) = stood-iff p .0 e in
+          record { position = p; in-pattern = l; allowed = f; stands = g; rest-in = i },
+    )
+
+    -- A text may end past such a position exactly if one of them is a last position.
+    ended-iff : ReadsAt r (holds s) c [] ↔ Shared here (a .last)
+    ended-iff = (
+      λ x.
+          let (p, l, e, i) = past-iff [] .0 x in
+          (p, few p l, e, d .last-is p ∙ last-law r p l .0 i),
+      λ h.
+          let (p, l, e, f) = h in
+          let k = stood-iff p .0 e .0 in
+          past-iff [] .1 (p, k, e, last-law r p k .1 (sym (d .last-is p) ∙ f)),
+    )
+
+    -- It goes on past them at the positions that may follow them.
+    onward-iff : {next : Set} → Gathered (Following prepared a here) (a .count) next → (e : ℕ) (u : Text) → ReadsAt r (holds s) c (e ∷ u) ↔ ReadsAt r (holds next) e u
+    onward-iff gone e u = (
+      λ x.
+          let (p, l, h, i) = past-iff (e ∷ u) .0 x in
+          let y = follow-law r p l e u .0 i in
+          let q = y .position in
+          let f = d .row-is p l .follow-is q ∙ y .allowed in
+          record {
+            position = q;
+            in-pattern = y .in-pattern;
+            allowed = gone .held-iff q .1 (p, omega (arith, d .count-is), record { held = h; follows = f });
+            stands = y .stands;
+            rest-in = y .rest-in;
+          },
+      λ y.
+          let q = y .position in
+          let (p, l, g) = gone .held-iff q .0 (y .allowed) in
+          let k = counted p l in
+          let f = sym (d .row-is p k .follow-is q) ∙ g .follows in
+          let i =
+          follow-law r p k e u .1 (
+          record { position = q; in-pattern = y .in-pattern; allowed = f; stands = y .stands; rest-in = y .rest-in }
+          ) in
+          past-iff (e ∷ u) .1 (p, k, g .held, i),
+    )
+
+    -- Where the set has the positions behind which t may stand, the byte and t can be read from one of the allowed positions exactly if one
+    -- of them is among those at which it may stand.
+    read-iff :
+        (t : Text) → ((p : ℕ) → p < positions r → (holds s p ≡ true) ↔ In (restAt r p) t)
+        → (may : Set) (allowed : ℕ → Bool) → ((p : ℕ) → holds may p ≡ allowed p)
+        → ReadsAt r allowed c t ↔ Shared may here
+    read-iff t behind may allowed is = (
+      λ x.
+          let p = x .position in
+          let l = x .in-pattern in
+          (p, few p l, is p ∙ x .allowed, stood-iff p .1 (l, behind p l .1 (x .rest-in), x .stands)),
+      λ h.
+          let (p, l, e, f) = h in
+          let (k, g, m) = stood-iff p .0 f in
+          record { position = p; in-pattern = k; allowed = sym (is p) ∙ e; stands = m; rest-in = behind p k .0 g },
+    )
+
+  -- ---- The run forward
+
+  pub forward-begins : Forward r [] (record { here = a .nullable; set = a .first })
+  unfolding matches
+  forward-begins = record { here-is = d .nullable-is; onward-iff = λ c u. Iff·trans (first-law r c u) (allowed-iff r c u (λ p. sym (d .first-is p))) }
+
+  pub forward-steps :
+      {t : Text} {run : Run} → Forward r t run → {c : ℕ} {here : Set} → Gathered (Standing prepared a (run .set) c) (a .count) here
+      → {ends : Bool} → (ends ≡ true) ↔ Shared here (a .last)
+      → {next : Set} → Gathered (Following prepared a here) (a .count) next
+      → Forward r (t ++ c ∷ []) (record { here = ends; set = next })
+  forward-steps {t} known {c} stood {ends} told gone =
+      record {
+        here-is = answer-is r (t ++ c ∷ []) ends told (Iff·trans (known .onward-iff c []) (ended-iff stood));
+        onward-iff = λ e u. rw (append-assoc t (c ∷ []) (e ∷ u)) (Iff·trans (known .onward-iff c (e ∷ u)) (onward-iff stood gone e u));
+      }
+
+  -- ---- The run backward
+
+  pub backward-begins : Backward r [] (record { here = a .nullable; set = a .last })
+  unfolding matches
+  backward-begins =
+      record {
+        here-is = d .nullable-is;
+        behind-iff = λ p l. (λ e. last-law r p l .1 (sym (d .last-is p) ∙ e), λ i. d .last-is p ∙ last-law r p l .0 i);
+      }
+
+  pub backward-steps :
+      {t : Text} {run : Run} → Backward r t run → {c : ℕ} {here : Set} → Gathered (Standing prepared a (run .set) c) (a .count) here
+      → {begins : Bool} → (begins ≡ true) ↔ Shared (a .first) here
+      → {next : Set} → Gathered (Leading prepared a here) (a .count) next
+      → Backward r (c ∷ t) (record { here = begins; set = next })
+  backward-steps {t} known {c} {here} stood {begins} told {next} led =
+      record {
+        here-is = answer-is r (c ∷ t) begins told (Iff·trans (first-law r c t) (reads (a .first) (firstAt r) (d .first-is)));
+        behind-iff = λ p l. Iff·trans (led-iff p l) (Iff·symm (Iff·trans (follow-law r p l c t) (reads (followOf prepared (a .start + p)) (followAt r p) (d .row-is p l .follow-is))));
+      }
+    where
+      reads : (may : Set) (allowed : ℕ → Bool) → ((p : ℕ) → holds may p ≡ allowed p) → ReadsAt r allowed c t ↔ Shared may here
+      reads = read-iff stood t (known .behind-iff)
+
+      led-iff : (p : ℕ) → p < positions r → (holds next p ≡ true) ↔ Shared (followOf prepared (a .start + p)) here
+      led-iff p l = (
+        λ e. let (q, k, g) = led .held-iff p .0 e in rw (g .itself) (g .leads),
+        λ s. led .held-iff p .1 (p, omega (arith, d .count-is), record { itself = refl; leads = s }),
+      )

@@ -1,0 +1,31 @@
+-- What a run over a text knows of it: whether the part that was read belongs, and by which positions it can go on.
+use mathlib.Core.Path.{_≡_}
+use mathlib.Core.Bool.{true}
+use mathlib.Core.List.{List, [], _∷_, _++_}
+use mathlib.Core.Logic.{_↔_}
+use Prim.Native.Nat.{ℕ, _<_}
+use Rattle.semantics.specs.Text.{Text}
+use Rattle.semantics.specs.Pattern.{Pattern, In, matches}
+use Rattle.semantics.specs.Table.{positions}
+use Rattle.laws.specs.PositionAutomaton.{ReadsAt, restAt}
+use Rattle.positions.specs.Positions.{holds}
+use Rattle.automaton.specs.declared.Automaton.{Automaton}
+use Rattle.automaton.specs.Rows.{Describes}
+use Rattle.language.specs.declared.Run.{Run}
+
+-- The text t was read from its beginning; the set has the positions at which the next byte can stand.
+pub record Forward (r : Pattern) (t : Text) (run : Run) : Type 0 where
+  pub here-is : run .here ≡ matches r t
+  pub onward-iff : (c : ℕ) (u : Text) → In r (t ++ c ∷ u) ↔ ReadsAt r (holds (run .set)) c u
+
+-- The text t was read from its end; the set has the positions behind which it may stand.
+pub record Backward (r : Pattern) (t : Text) (run : Run) : Type 0 where
+  pub here-is : run .here ≡ matches r t
+  pub behind-iff : (p : ℕ) → p < positions r → (holds (run .set) p ≡ true) ↔ In (restAt r p) t
+
+-- One byte more was read, behind the text or in front of it.
+pub record Advanced (prepared : List ℕ) (a : Automaton) (byte : ℕ) (before after : Run) : Type 0 where
+  pub advanced : (r : Pattern) → Describes r a prepared → (t : Text) → Forward r t before → Forward r (t ++ byte ∷ []) after
+
+pub record Retreated (prepared : List ℕ) (a : Automaton) (byte : ℕ) (before after : Run) : Type 0 where
+  pub retreated : (r : Pattern) → Describes r a prepared → (t : Text) → Backward r t before → Backward r (byte ∷ t) after

@@ -1,0 +1,348 @@
+-- Bits of numbers, and the positions of a set that they stand for: what the functions' proofs cite. Assumes nothing.
+use mathlib.Core.Path.{_≡_, refl, sym, ap, ap₂, _∙_}
+use mathlib.Core.Bool.{Bool, true, false, not, _&&_, _||_, cond, true≢false, false≢true}
+use mathlib.Core.Logic.{_≢_, _↔_}
+use Prim.Native.Nat.{ℕ, zero, suc, _+_, _-_, _*_, _/_, _%_, _^_, _≤_, _<_, suc-le-suc}
+use native.Mathlib.Nat.{zero-div, div-one, one-mul, pow-suc, mul-mod-left, mul-div-cancel, zero-lt-suc, lt-of-le-of-lt, lt-of-lt-of-le, mul-assoc, div-eq-of-lt}
+use native.Mathlib.Numerals.{one-add, add-one}
+use native.Mathlib.Omega.{arith}
+use borrow.Author.Tests.{ltb-true, ltb-false, lt-ltb, le-ltb, leb-true, leb-false, le-leb, lt-leb, eqb-true, eqb-false, eq-eqb, ne-eqb, not-true}
+use lib.Arith.{lt-one}
+use lib.Bits.{bitAnd, bitOr, and-shr, and-mod, or-shr, or-mod, or-lt, and-le-l, shifted-even}
+use lib.Dec.{ltb, leb, eqb, eqb·zero-suc, eqb·suc-zero, eqb·suc-suc}
+use lib.Pow.{shl-exact, shl-shr, shr-lt, shr-shr, field, mod-mod-pow, pow-add, pow-mono}
+use Rattle.positions.specs.declared.Set.{Set}
+use Rattle.positions.specs.Positions.{bit, holds, Empty, Shared, holdsMoved, Moved}
+
+-- ---- Truth values
+
+-- Where neither is true, both are false.
+or-false : (x y : Bool) → (x || y) ≡ false → (x ≡ false) × (y ≡ false)
+or-false true y e = absurd (true≢false e)
+or-false false y e = (refl, e)
+
+-- A false side adds nothing.
+or-false-right : (x : Bool) → (x || false) ≡ x
+or-false-right true = refl
+or-false-right false = refl
+
+-- Where both are true, each is.
+and-true : (x y : Bool) → (x && y) ≡ true → (x ≡ true) × (y ≡ true)
+and-true true y e = (refl, e)
+and-true false y e = absurd (false≢true e)
+
+-- Two tests for equality agree where the equations do.
+pub same-test : (a b x y : ℕ) → (a ≡ b → x ≡ y) → (x ≡ y → a ≡ b) → eqb a b ≡ eqb x y
+same-test a b x y there back = go (eqb x y) refl
+  where
+    go : (t : Bool) → eqb x y ≡ t → eqb a b ≡ t
+    go true e = eq-eqb a b (back (eqb-true x y e))
+    go false e = ne-eqb a b (λ h. eqb-false x y e (there h))
+
+-- ---- One bit
+
+-- The bits of half a number are its own, one place down.
+bit-suc : (j n : ℕ) → bit (suc j) n ≡ bit j (n / 2)
+unfolding bit
+bit-suc j n = rw (← (one-add j), ← (shr-shr n 1 j))
+
+-- Zero has no bit.
+pub bit-zero : (j : ℕ) → bit j 0 ≡ false
+unfolding bit
+bit-zero j = rw zero-div
+
+-- Bit 0 of a number says whether it is odd.
+bit-first : (n : ℕ) → bit 0 n ≡ eqb (n % 2) 1
+unfolding bit
+bit-first n = rw div-one
+
+-- A power of two has one bit.
+bit-power : (i j : ℕ) → bit j (2 ^ i) ≡ eqb j i
+unfolding bit
+bit-power zero zero = refl
+bit-power zero (suc j) = bit-suc j 1 ∙ bit-zero j ∙ sym (eqb·suc-zero j)
+bit-power (suc i) zero = bit-first (2 ^ suc i) ∙ rw (pow-suc 2 i, mul-mod-left (2 ^ i) 2) (sym (eqb·zero-suc i))
+bit-power (suc i) (suc j) =
+    bit-suc j (2 ^ suc i) ∙ ap (λ (n : ℕ). bit j (n / 2)) (pow-suc 2 i)
+    ∙ ap (bit j) (mul-div-cancel (2 ^ i) (zero-lt-suc 1)) ∙ bit-power i j ∙ sym (eqb·suc-suc j i)
+
+-- One shifted by i places has bit i, and no other.
+pub bit-shifted : (i j : ℕ) → i < 64 → bit j (1 * 2 ^ i % 2 ^ 64) ≡ eqb j i
+bit-shifted i j h = ap (bit j) (shl-exact 1 i 64 (omega arith) (omega arith) ∙ one-mul (2 ^ i)) ∙ bit-power i j
+
+-- A number cut to w bits has its own bits below w.
+bit-cut : (w n j : ℕ) → j < w → bit j (n % 2 ^ w) ≡ bit j n
+unfolding bit
+bit-cut w n j h =
+    let cut : (w - j - 1) + 1 + j ≡ w = omega arith in
+    rw (← cut, field n ((w - j - 1) + 1) j, mod-mod-pow (n / 2 ^ j) (w - j - 1) 1)
+
+-- Shifted up by i places, a number has its bits i places up, and none below.
+bit-up : (n i j : ℕ) → i ≤ j → bit j (n * 2 ^ i) ≡ bit (j - i) n
+unfolding bit
+bit-up n i j h =
+    let back : i + (j - i) ≡ j = omega arith in
+    ap (λ (k : ℕ). eqb (n * 2 ^ i / 2 ^ k % 2) 1) (sym back) ∙ rw (← (shr-shr (n * 2 ^ i) i (j - i)), shl-shr n i)
+
+bit-under : (n i j : ℕ) → j < i → bit j (n * 2 ^ i) ≡ false
+unfolding bit
+bit-under n i j h =
+    let parts : suc (i - j - 1) + j ≡ i = omega arith in
+    rw (← parts, pow-add 2 (suc (i - j - 1)) j, ← (mul-assoc n (2 ^ suc (i - j - 1)) (2 ^ j)), shl-shr (n * 2 ^ suc (i - j - 1)) j, shifted-even n (i - j - 1))
+
+-- Shifted down, it has them as many places down.
+bit-down : (n i j : ℕ) → bit j (n / 2 ^ i) ≡ bit (i + j) n
+unfolding bit
+bit-down n i j = rw (shr-shr n i j)
+
+-- A number has no bit beyond its width.
+bit-beyond : (w n j : ℕ) → n < 2 ^ w → w ≤ j → bit j n ≡ false
+unfolding bit
+bit-beyond w n j h l = rw (div-eq-of-lt (lt-of-lt-of-le h (pow-mono l)))
+
+-- A place below w at which n has a bit.
+abbrev SomeBit : ℕ → ℕ → Type 0
+SomeBit w n = (j : ℕ) × (j < w) × (bit j n ≡ true)
+
+-- A number that is not zero has a bit, below its width.
+some-bit : (w n : ℕ) → n < 2 ^ w → n ≢ 0 → SomeBit w n
+some-bit zero n h nz = absurd (nz (lt-one h))
+some-bit (suc w) n h nz = go (eqb (n % 2) 1) refl (some-bit w (n / 2) (shr-lt w 1 (rw add-one h)))
+  where
+    go : (b : Bool) → eqb (n % 2) 1 ≡ b → (n / 2 ≢ 0 → SomeBit w (n / 2)) → SomeBit (suc w) n
+    go true e higher = (0, zero-lt-suc w, bit-first n ∙ e)
+    go false e higher =
+        let found = higher (λ (z : n / 2 ≡ 0). nz (omega (arith, eqb-false (n % 2) 1 e))) in
+        (suc (found .0), suc-le-suc (found .1), bit-suc (found .0) n ∙ found .2)
+
+-- ---- The three places of a position
+
+module _ (s : Set) (q : ℕ) where
+  -- What the set holds at each.
+  pub holds-low : q < 64 → holds s q ≡ bit q (s .low)
+  unfolding holds
+  holds-low h = simp (lt-ltb q 64 h)
+
+  pub holds-high : 64 ≤ q → q < 128 → holds s q ≡ bit (q - 64) (s .high)
+  unfolding holds
+  holds-high h l = simp (le-ltb q 64 h, lt-ltb q 128 l)
+
+  pub holds-past : 128 ≤ q → holds s q ≡ false
+  unfolding holds
+  holds-past h = simp (le-ltb q 64 (omega arith), le-ltb q 128 h)
+
+  -- An answer that is right at each of the three is what the set holds.
+  pub holds-by : {b : Bool} → (q < 64 → bit q (s .low) ≡ b) → (64 ≤ q → q < 128 → bit (q - 64) (s .high) ≡ b) → (128 ≤ q → b ≡ false)
+      → holds s q ≡ b
+  holds-by {b} low high past = go (ltb q 64) (ltb q 128) refl refl
+    where
+      go : (x y : Bool) → ltb q 64 ≡ x → ltb q 128 ≡ y → holds s q ≡ b
+      go true y e f = let h = ltb-true q 64 e in holds-low h ∙ low h
+      go false true e f = let h = ltb-false q 64 e in let l = ltb-true q 128 f in holds-high h l ∙ high h l
+      go false false e f = let h = ltb-false q 128 f in holds-past h ∙ sym (past h)
+
+-- ---- Two sets at once
+
+-- The operation on the low numbers, and on the high ones.
+abbrev pub each : (ℕ → ℕ → ℕ) → Set → Set → Set
+each op s t = record { low = op (s .low) (t .low); high = op (s .high) (t .high) }
+
+-- The remainder by 2 is 1 or 0.
+as-digit : (n : ℕ) → n % 2 ≡ cond (eqb (n % 2) 1) 1 0
+as-digit n = go (eqb (n % 2) 1) refl
+  where
+    go : (b : Bool) → eqb (n % 2) 1 ≡ b → n % 2 ≡ cond b 1 0
+    go true e = eqb-true (n % 2) 1 e
+    go false e = omega (arith, eqb-false (n % 2) 1 e)
+
+module _
+    (op : ℕ → ℕ → ℕ)
+    (f : Bool → Bool → Bool)
+    (op-shr : (a b k : ℕ) → op a b / 2 ^ k ≡ op (a / 2 ^ k) (b / 2 ^ k))
+    (op-mod : (a b k : ℕ) → op a b % 2 ^ k ≡ op (a % 2 ^ k) (b % 2 ^ k))
+    (digits : (x y : Bool) → eqb (op (cond x 1 0) (cond y 1 0)) 1 ≡ f x y)
+  where
+    -- An operation on digits is one on bits.
+    bit-op : (a b j : ℕ) → bit j (op a b) ≡ f (bit j a) (bit j b)
+    unfolding bit
+    bit-op a b j = rw (op-shr, op-mod _ _ 1) (ap₂ (λ (x y : ℕ). eqb (op x y) 1) (as-digit (a / 2 ^ j)) (as-digit (b / 2 ^ j)) ∙ digits (bit j a) (bit j b))
+
+    -- On both numbers of two sets it is one on positions.
+    holds-op : f false false ≡ false → (s t : Set) (q : ℕ) → holds (each op s t) q ≡ f (holds s q) (holds t q)
+    holds-op nothing s t q =
+        holds-by (each op s t) q
+        (λ h. bit-op _ _ q ∙ sym (ap₂ f (holds-low s q h) (holds-low t q h)))
+        (λ h l. bit-op _ _ (q - 64) ∙ sym (ap₂ f (holds-high s q h l) (holds-high t q h l)))
+        (λ h. ap₂ f (holds-past s q h) (holds-past t q h) ∙ nothing)
+
+-- On the digits 1 and 0 the two are the tests' own `or` and `and`.
+or-digits : (x y : Bool) → eqb (bitOr (cond x 1 0) (cond y 1 0)) 1 ≡ (x || y)
+or-digits true true = refl
+or-digits true false = refl
+or-digits false true = refl
+or-digits false false = refl
+
+and-digits : (x y : Bool) → eqb (bitAnd (cond x 1 0) (cond y 1 0)) 1 ≡ (x && y)
+and-digits true true = refl
+and-digits true false = refl
+and-digits false true = refl
+and-digits false false = refl
+
+-- The bits of an `or`.
+bit-or : (a b j : ℕ) → bit j (bitOr a b) ≡ (bit j a || bit j b)
+bit-or = bit-op bitOr _||_ or-shr or-mod or-digits
+
+-- What the two numbers' `or` and `and` hold.
+pub holds-or : (s t : Set) (q : ℕ) → holds (each bitOr s t) q ≡ (holds s q || holds t q)
+holds-or = holds-op bitOr _||_ or-shr or-mod or-digits refl
+
+holds-and : (s t : Set) (q : ℕ) → holds (each bitAnd s t) q ≡ (holds s q && holds t q)
+holds-and = holds-op bitAnd _&&_ and-shr and-mod and-digits refl
+
+-- ---- A set moved up by n
+
+module _ (s : Set) (n q : ℕ) where
+  -- what it holds where nothing of s can come, and where what stood n below comes
+  moved-none : (128 ≤ q → ⊥) → q < n → false ≡ holdsMoved s n q
+  moved-none h l = rw (lt-ltb q 128 (omega arith), lt-leb n q l)
+
+  moved-past : 128 ≤ q → holdsMoved s n q ≡ false
+  moved-past h = rw (le-ltb q 128 h)
+
+  moved-some : q < 128 → n ≤ q → holds s (q - n) ≡ holdsMoved s n q
+  moved-some h l = rw (lt-ltb q 128 h, le-leb n q l)
+
+  -- a number of the set shifted up by i places, where bit j of it stands for position q
+  shifted-bit :
+      (m i j : ℕ)
+      → j < 64
+      → q < 128
+      → (i ≤ j → holds s (q - n) ≡ bit (j - i) m)
+      → (i ≤ j → n ≤ q)
+      → (j < i → q < n)
+      → bit j (m * 2 ^ i % 2 ^ 64) ≡ holdsMoved s n q
+  shifted-bit m i j h l there up under = bit-cut 64 (m * 2 ^ i) j h ∙ go (leb i j) refl
+    where
+      go : (b : Bool) → leb i j ≡ b → bit j (m * 2 ^ i) ≡ holdsMoved s n q
+      go true e = let k = leb-true i j e in bit-up m i j k ∙ sym (there k) ∙ moved-some l (up k)
+      go false e = let k = leb-false i j e in bit-under m i j k ∙ moved-none (omega arith) (under k)
+
+module _ (s : Set) (n : ℕ) where
+  -- moved by 128 or more it is empty
+  pub moved-away : 128 ≤ n → (r : Set) → Empty r → Moved s n r
+  moved-away h r none q = none q ∙ go (ltb q 128) refl
+    where
+      go : (b : Bool) → ltb q 128 ≡ b → false ≡ (b && (leb n q && holds s (q - n)))
+      go true e = let k = ltb-true q 128 e in rw (lt-leb n q (omega arith))
+      go false e = refl
+
+  -- moved by 64 or more, `low` comes into `high`
+  pub moved-far : 64 ≤ n → n < 128 → Moved s n (record { low = 0; high = s .low * 2 ^ (n - 64) % 2 ^ 64 })
+  moved-far h l q =
+      holds-by (record { low = 0; high = s .low * 2 ^ (n - 64) % 2 ^ 64 }) q
+      (λ k. bit-zero q ∙ moved-none s n q (omega arith) (omega arith))
+      (λ k m.
+      shifted-bit s n q (s .low) (n - 64) (q - 64) (omega arith) m
+      (λ u. let same : q - 64 - (n - 64) ≡ q - n = omega arith in rw same (holds-low s (q - n) (omega arith)))
+      (λ u. omega arith)
+      (λ u. omega arith))
+      (moved-past s n q)
+
+  -- not moved it is itself
+  pub moved-not : n ≡ 0 → Moved s n s
+  moved-not e q = go (ltb q 128) refl
+    where
+      go : (b : Bool) → ltb q 128 ≡ b → holds s q ≡ (b && (leb n q && holds s (q - n)))
+      go true f = let same : q - n ≡ q = omega arith in rw (same, le-leb n q (omega arith))
+      go false f = holds-past s q (ltb-false q 128 f)
+
+  -- moved by less, `low` comes into both numbers
+  pub moved-near :
+      0 < n
+      → n < 64
+      → s .low < 2 ^ 64
+      → Moved s n (record { low = s .low * 2 ^ n % 2 ^ 64; high = bitOr (s .high * 2 ^ n % 2 ^ 64) (s .low / 2 ^ (64 - n)) })
+  moved-near z h fits q =
+      holds-by (record { low = s .low * 2 ^ n % 2 ^ 64; high = bitOr (s .high * 2 ^ n % 2 ^ 64) (s .low / 2 ^ (64 - n)) }) q
+      (λ k. shifted-bit s n q (s .low) n q k (omega arith) (λ u. holds-low s (q - n) (omega arith)) (λ u. u) (λ u. u))
+      (λ k m. bit-or (s .high * 2 ^ n % 2 ^ 64) (s .low / 2 ^ (64 - n)) (q - 64) ∙ ap₂ _||_ (bit-cut 64 (s .high * 2 ^ n) (q - 64) (omega arith)) (from-low k) ∙ go k m (leb n (q - 64)) refl)
+      (moved-past s n q)
+    where
+      -- what is shifted down to the bottom of `high` is the top of `low`
+      from-low : 64 ≤ q → bit (q - 64) (s .low / 2 ^ (64 - n)) ≡ bit (q - n) (s .low)
+      from-low k =
+          let same : 64 - n + (q - 64) ≡ q - n = omega arith in
+          bit-down (s .low) (64 - n) (q - 64) ∙ ap (λ (j : ℕ). bit j (s .low)) same
+
+      go :
+          64 ≤ q
+          → q < 128
+          → (b : Bool)
+          → leb n (q - 64) ≡ b
+          → (bit (q - 64) (s .high * 2 ^ n) || bit (q - n) (s .low)) ≡ holdsMoved s n q
+      go k m true e =
+          let u = leb-true n (q - 64) e in
+          let same : q - 64 - n ≡ q - n - 64 = omega arith in
+          ap₂ _||_ (bit-up (s .high) n (q - 64) u) (bit-beyond 64 (s .low) (q - n) fits (omega arith))
+          ∙ or-false-right _
+          ∙ ap (λ (j : ℕ). bit j (s .high)) same
+          ∙ sym (holds-high s (q - n) (omega arith) (omega arith))
+          ∙ moved-some s n q m (omega arith)
+      go k m false e =
+          let u = leb-false n (q - 64) e in
+          ap₂ _||_ (bit-under (s .high) n (q - 64) u) (sym (holds-low s (q - n) (omega arith))) ∙ moved-some s n q m (omega arith)
+
+-- ---- No position, or some
+
+-- Whether the `or` of the two numbers is zero.
+abbrev pub blank : Set → Bool
+blank s = eqb (bitOr (s .low) (s .high)) 0
+
+-- A position that the set holds.
+abbrev SomeHeld : Set → Type 0
+SomeHeld s = (p : ℕ) × (p < 128) × (holds s p ≡ true)
+
+module _ (s : Set) where
+  -- Where it is zero, the set holds nothing.
+  none-held : blank s ≡ true → Empty s
+  none-held e p = holds-by s p (λ h. neither p .0) (λ h l. neither (p - 64) .1) (λ h. refl)
+    where
+      neither : (j : ℕ) → (bit j (s .low) ≡ false) × (bit j (s .high) ≡ false)
+      neither j = or-false _ _ (sym (bit-or (s .low) (s .high) j) ∙ ap (bit j) (eqb-true _ 0 e) ∙ bit-zero j)
+
+  -- Where it is not, the set holds some position.
+  some-held : s .low < 2 ^ 64 → s .high < 2 ^ 64 → blank s ≡ false → SomeHeld s
+  some-held l h e =
+      let (j, k, found) = some-bit 64 (bitOr (s .low) (s .high)) (or-lt 64 _ _ l h) (eqb-false _ 0 e) in
+      place j k (bit j (s .low)) refl (sym (bit-or (s .low) (s .high) j) ∙ found)
+    where
+      place : (j : ℕ) → j < 64 → (x : Bool) → bit j (s .low) ≡ x → (x || bit j (s .high)) ≡ true → SomeHeld s
+      place j k true e f = (j, omega arith, holds-low s j k ∙ e)
+      place j k false e f =
+          let back : 64 + j - 64 ≡ j = omega arith in
+          (64 + j, omega arith, holds-high s (64 + j) (omega arith) (omega arith) ∙ rw back f)
+
+-- So that test says whether the set is empty.
+pub empty-test : (s : Set) → s .low < 2 ^ 64 → s .high < 2 ^ 64 → (blank s ≡ true) ↔ Empty s
+empty-test s l h = (none-held s, λ none. go none (blank s) refl)
+  where
+    go : Empty s → (t : Bool) → blank s ≡ t → t ≡ true
+    go none true e = refl
+    go none false e = let (p, k, held) = some-held s l h e in sym (none p) ∙ held
+
+-- On the `and` of two sets it says whether they share a position.
+pub shared-test : (s t : Set) → s .low < 2 ^ 64 → s .high < 2 ^ 64 → (not (blank (each bitAnd s t)) ≡ true) ↔ Shared s t
+shared-test s t l h = (found, λ w. go w (blank both) refl)
+  where
+    both : Set
+    both = each bitAnd s t
+
+    found : not (blank both) ≡ true → Shared s t
+    found e =
+        let (p, k, held) = some-held both (lt-of-le-of-lt (and-le-l _ _) l) (lt-of-le-of-lt (and-le-l _ _) h) (not-true _ e) in
+        let (in-s, in-t) = and-true _ _ (sym (holds-and s t p) ∙ held) in
+        (p, k, in-s, in-t)
+
+    go : Shared s t → (x : Bool) → blank both ≡ x → not x ≡ true
+    go (p, k, in-s, in-t) true e = sym (none-held both e p) ∙ holds-and s t p ∙ ap₂ _&&_ in-s in-t
+    go w false e = refl

@@ -1,0 +1,2 @@
+-- What a set of positions holds.
+pub mod Positions

@@ -1,0 +1,106 @@
+// Sets of at most 128 positions, each step in constant time.
+ghost use mathlib.Core.Path.{_≡_};
+ghost use mathlib.Core.Bool.{true};
+ghost use mathlib.Core.Logic.{_↔_};
+ghost use Prim.Native.Nat.{_<_};
+ghost use Rattle.positions.specs.Positions.{holds, Empty, Only, Added, Joined, Shared, Moved};
+
+// Positions 0 to 63 are the bits of low, 64 to 127 those of high.
+pub struct Set {
+    pub low: u64,
+    pub high: u64,
+}
+
+impl Set {
+    // The set that holds nothing.
+    pub fn empty() -> Set
+        ensures { λ r. ⌜ Empty r ⌝ }
+    {
+        Set { low: 0, high: 0 }
+    }
+
+    // Whether the set holds p; it holds nothing from 128 on.
+    pub fn has(self, p: usize) -> bool
+        ensures { λ r. ⌜ r ≡ holds self p ⌝ }
+    {
+        if p < 64 {
+            return (self.low >> p) % 2 == 1;
+        }
+        if p < 128 {
+            return (self.high >> (p - 64)) % 2 == 1;
+        }
+        false
+    }
+
+    // The set of p alone.
+    fn only(p: usize) -> Set
+        requires { ⌜ p < 128 ⌝ }
+        ensures { λ r. ⌜ Only p r ⌝ }
+    {
+        if 64 <= p {
+            Set {
+                low: 0,
+                high: 1 << (p - 64),
+            }
+        } else {
+            Set {
+                low: 1 << p,
+                high: 0,
+            }
+        }
+    }
+
+    // The set with p added.
+    pub fn with(self, p: usize) -> Set
+        requires { ⌜ p < 128 ⌝ }
+        ensures { λ r. ⌜ Added self p r ⌝ }
+    {
+        Set::only(p).union(self)
+    }
+
+    // What one of the two holds.
+    pub fn union(self, other: Set) -> Set
+        ensures { λ r. ⌜ Joined self other r ⌝ }
+    {
+        Set {
+            low: self.low | other.low,
+            high: self.high | other.high,
+        }
+    }
+
+    // The positions moved up by n; those that would come to 128 or more are dropped.
+    pub fn moved(self, n: usize) -> Set
+        ensures { λ r. ⌜ Moved self n r ⌝ }
+    {
+        if 128 <= n {
+            return Set::empty();
+        }
+        if 64 <= n {
+            return Set {
+                low: 0,
+                high: self.low << (n - 64),
+            };
+        }
+        if n == 0 {
+            return self;
+        }
+        Set {
+            low: self.low << n,
+            high: (self.high << n) | (self.low >> (64 - n)),
+        }
+    }
+
+    // Whether the two share a position.
+    pub fn meets(self, other: Set) -> bool
+        ensures { λ r. ⌜ (r ≡ true) ↔ Shared self other ⌝ }
+    {
+        ((self.low & other.low) | (self.high & other.high)) != 0
+    }
+
+    // Whether the set holds nothing.
+    pub fn is_empty(self) -> bool
+        ensures { λ r. ⌜ (r ≡ true) ↔ Empty self ⌝ }
+    {
+        (self.low | self.high) == 0
+    }
+}

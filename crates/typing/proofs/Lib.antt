@@ -1,0 +1,4 @@
+pub mod Cells
+pub mod Walked
+pub mod Faults
+pub mod Turns

@@ -1,0 +1,20 @@
+-- `typing::round::node_count` meets its contract. Assumes nothing.
+use Rattle.semantics.specs.Table.{at, nodeCount}
+use mathlib.Core.Path.{refl}
+use native.Mathlib.Omega.{arith}
+use borrow.Author.Needs.{needs}
+use Rattle.typing.proofs.round.node_count.Statement.{statement}
+use Rattle.typing.proofs.round.node_count.Tie as tie
+
+shared-slice-read-result : tie.Need-shared-slice-read-result
+shared-slice-read-result c = search needs
+
+cast-result : tie.Need-cast-result
+cast-result c = omega (arith, c .shared-slice-known .given 0)
+
+returns : tie.Need-returns
+unfolding nodeCount at
+returns c = refl
+
+pub node-count-spec : {M : Type 1} → statement M
+node-count-spec = tie.close (tie.spec shared-slice-read-result cast-result returns)

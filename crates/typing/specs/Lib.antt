@@ -1,0 +1,3 @@
+-- What the functions of this crate say of their results.
+pub mod Stages
+pub mod Round

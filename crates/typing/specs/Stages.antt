@@ -1,0 +1,157 @@
+-- A stage: from some states of a first automaton, texts are read to its end and beside it, from its start, in a second. The pairs of
+-- positions that are reached stand in cells, two words of 64 bits for each position of the first: the set of those of the second.
+use mathlib.Core.Path.{_≡_}
+use mathlib.Core.Bool.{Bool, true, false, _&&_, _||_}
+use mathlib.Core.List.{List, [], _∷_}
+use mathlib.Core.Logic.{_⊎_, _↔_}
+use mathlib.Core.Option.{none, some}
+use Prim.Native.Nat.{ℕ, zero, suc, _+_, _*_, _≤_, _<_}
+use lib.Dec.{eqb}
+use lib.ListN.{length}
+use Rattle.semantics.specs.Pattern.{Pattern}
+use Rattle.laws.specs.Walks.{State, Staged}
+use Rattle.positions.specs.declared.Set.{Set}
+use Rattle.positions.specs.Positions.{holds, Empty, Shared}
+use Rattle.automaton.specs.declared.Automaton.{Automaton}
+use Rattle.automaton.specs.Rows.{setAt, followOf, shareIn, Describes}
+use Rattle.typing.specs.declared.questions.Marked.{Marked}
+
+-- ---- Sets that are gathered position by position
+
+-- whether the test is true of some number below n
+unfoldable pub anyBelow : ℕ → (ℕ → Bool) → Bool
+anyBelow zero test = false
+anyBelow (suc n) test = test n || anyBelow n test
+
+-- r holds the positions that one of 0 to n - 1 gives.
+pub record Gathered (n : ℕ) (gives : ℕ → ℕ → Bool) (r : Set) : Type 0 where
+  pub holds-is : (q : ℕ) → holds r q ≡ anyBelow n (λ p. gives p q)
+
+-- a position of the set gives those that may follow it
+abbrev pub byFollow : List ℕ → ℕ → Set → ℕ → ℕ → Bool
+byFollow prepared start set p q = holds set p && holds (followOf prepared (start + p)) q
+
+-- whether a position is in the set and shares a byte with that of a row
+abbrev pub chosenBy : List ℕ → ℕ → ℕ → Set → ℕ → Bool
+chosenBy prepared row start set p = holds set p && shareIn prepared row (start + p)
+
+-- it gives itself, if it is chosen
+abbrev pub byChoice : List ℕ → ℕ → ℕ → Set → ℕ → ℕ → Bool
+byChoice prepared row start set p q = chosenBy prepared row start set p && eqb q p
+
+-- ---- Cells
+
+-- row x of the cells
+abbrev pub rowOf : List ℕ → ℕ → Set
+rowOf cells x = setAt cells (2 * x)
+
+-- whether the pair (x, y) is set
+abbrev pub held : List ℕ → ℕ → ℕ → Bool
+held cells x y = holds (rowOf cells x) y
+
+-- a position of the set gives its row
+abbrev pub byRow : List ℕ → Set → ℕ → ℕ → Bool
+byRow cells set x y = holds set x && held cells x y
+
+unfoldable pub total : List ℕ → ℕ
+total [] = 0
+total (x ∷ xs) = x + total xs
+
+-- If something changed, the cells' sum has grown; if not, they are the same.
+pub record Change (before after : List ℕ) (changed : Bool) : Type 0 where
+  pub grows : changed ≡ true → total before < total after
+  pub same : changed ≡ false → after ≡ before
+
+-- Row x has gained a set.
+pub record Gained (x : ℕ) (set : Set) (before after : List ℕ) (changed : Bool) : Type 0 where
+  pub change : Change before after changed
+  pub row-is : (y : ℕ) → held after x y ≡ (held before x y || holds set y)
+  pub others : (i y : ℕ) → ¬ (i ≡ x) → held after i y ≡ held before i y
+
+-- Positions x and y of two automata, x in the first set and y in the second, that share a byte.
+pub record Meets (prepared : List ℕ) (a b : Automaton) (xs ys : Set) (x y : ℕ) : Type 0 where
+  pub left : x < a .count
+  pub right : y < b .count
+  pub in-left : holds xs x ≡ true
+  pub in-right : holds ys y ≡ true
+  pub share : shareIn prepared (a .start + x) (b .start + y) ≡ true
+
+-- The rows from `from` to before `to` have gained the pairs that meet.
+pub record Poured (prepared : List ℕ) (a b : Automaton) (xs ys : Set) (from to : ℕ) (before after : List ℕ) (changed : Bool) : Type 0 where
+  pub change : Change before after changed
+  pub keeps : (x y : ℕ) → held before x y ≡ true → held after x y ≡ true
+  pub only : (x y : ℕ) → held after x y ≡ true → (held before x y ≡ true) ⊎ Meets prepared a b xs ys x y
+  pub all : (x y : ℕ) → from ≤ x → x < to → Meets prepared a b xs ys x y → held after x y ≡ true
+
+-- one common byte leads from the pair (x, y) to the pair (i, j)
+abbrev pub Onward : List ℕ → Automaton → Automaton → ℕ → ℕ → ℕ → ℕ → Type 0
+Onward prepared a b x y i j = Meets prepared a b (followOf prepared (a .start + x)) (followOf prepared (b .start + y)) i j
+
+-- The pairs that some text leads to: the first automaton begins at a position of `begun`, the second at its start.
+pub data Reached (prepared : List ℕ) (a b : Automaton) (begun : Set) : ℕ → ℕ → Type 0 where
+  begins : {x y : ℕ} → Meets prepared a b begun (b .first) x y → Reached prepared a b begun x y
+  goes : {x y i j : ℕ} → Reached prepared a b begun x y → Onward prepared a b x y i j → Reached prepared a b begun i j
+
+-- Only reached pairs are set.
+abbrev pub Sound : List ℕ → Automaton → Automaton → Set → List ℕ → Type 0
+Sound prepared a b begun cells = (x y : ℕ) → held cells x y ≡ true → Reached prepared a b begun x y
+
+-- No pair is lost, and none is set that is not reached.
+pub record Led (prepared : List ℕ) (a b : Automaton) (before after : List ℕ) : Type 0 where
+  pub keeps : (x y : ℕ) → held before x y ≡ true → held after x y ≡ true
+  pub sound : (begun : Set) → Sound prepared a b begun before → Sound prepared a b begun after
+
+-- The pairs of the rows from `from` to before `to` have been led on by one byte.
+pub record Swept (prepared : List ℕ) (a b : Automaton) (from to : ℕ) (before after : List ℕ) (changed : Bool) : Type 0 where
+  pub change : Change before after changed
+  pub led : Led prepared a b before after
+  pub closed :
+      changed ≡ false
+      → (x y i j : ℕ)
+      → from ≤ x
+      → x < to
+      → y < b .count
+      → held after x y ≡ true
+      → Onward prepared a b x y i j
+      → held after i j ≡ true
+
+-- No pair is set.
+pub record Blank (cells : List ℕ) : Type 0 where
+  pub size : length cells ≡ 256
+  pub none-held : (x y : ℕ) → held cells x y ≡ false
+
+-- Exactly the reached pairs are set.
+pub record Filled (prepared : List ℕ) (a b : Automaton) (begun : Set) (cells : List ℕ) : Type 0 where
+  pub sound : Sound prepared a b begun cells
+  pub complete : (x y : ℕ) → Reached prepared a b begun x y → held cells x y ≡ true
+
+-- ---- States
+
+-- the states that are marked
+abbrev pub In : Marked → State → Type 0
+In m none = m .start ≡ true
+In m (some p) = holds (m .at) p ≡ true
+
+-- The marked positions are the automaton's.
+pub record Within (a : Automaton) (m : Marked) : Type 0 where
+  pub within : (p : ℕ) → holds (m .at) p ≡ true → p < a .count
+
+-- The start alone is marked.
+pub record StartOnly (m : Marked) : Type 0 where
+  pub start-is : m .start ≡ true
+  pub nothing : Empty (m .at)
+
+-- r holds the positions that may come next from a marked state.
+pub record NextOf (prepared : List ℕ) (a : Automaton) (m : Marked) (r : Set) : Type 0 where
+  pub next-is : (q : ℕ) → holds r q ≡ (m .start && holds (a .first) q || anyBelow (a .count) (λ p. byFollow prepared (a .start) (m .at) p q))
+
+-- A marked state is final.
+abbrev pub SomeFinal : Automaton → Marked → Type 0
+SomeFinal a m = ((m .start ≡ true) × (a .nullable ≡ true)) ⊎ Shared (m .at) (a .last)
+
+-- r has the states to which some text leads the second automaton from its start, and the first from a marked state to a final one.
+pub record StagedBy (prepared : List ℕ) (a b : Automaton) (m r : Marked) : Type 0 where
+  pub inside : Within b r
+  pub staged :
+      (p q : Pattern) → Describes p a prepared → Describes q b prepared
+      → (y : State) → In r y ↔ Staged p q (In m) y
