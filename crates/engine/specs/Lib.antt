@@ -1,0 +1,4 @@
+-- What the calls answer, in terms of the definitions of the calls.
+pub mod Answers
+pub mod Line
+pub mod Results

@@ -1,0 +1,42 @@
+-- What the calls that give a text have in common: the text is made in a slice of the call's own, and then copied out.
+use mathlib.Core.Path.{_≡_}
+use Prim.Native.Nat.{ℕ, _≤_, min}
+use lib.ListN.{length}
+use Rattle.semantics.specs.Text.{Text}
+use Rattle.semantics.specs.Pattern.{matches}
+use Rattle.semantics.specs.Lens.{Lens, language, get}
+use Rattle.semantics.specs.Calls.{gives, program, maxText, output, bufferAfter}
+use Rattle.semantics.specs.Calls.{Answer as Outcome}
+use Rattle.automaton.specs.declared.Side.{Side}
+use Rattle.automaton.specs.Rows.{sideOf}
+use Rattle.lens.specs.declared.Wrote.{Wrote}
+use Rattle.lens.specs.declared.Wrote.the-variants.{Count}
+use Rattle.lens.specs.Overlay.{Writes}
+use Rattle.engine.specs.declared.Answer.{Answer}
+use Rattle.engine.specs.Answers.{answerFor}
+use mathlib.Core.Bool.{Bool}
+
+-- The answer and the buffer afterwards are those of the outcome.
+pub record GivesText (outcome : Outcome Text) (before after : Text) (answer : Answer) : Type 0 where
+  pub answer-is : answer ≡ answerFor length outcome
+  pub buffer-is : after ≡ bufferAfter outcome before
+
+-- The bytes that were counted are in the slice.
+pub record Counted (wrote : Wrote) (result : Text) : Type 0 where
+  pub within : (n : ℕ) → wrote ≡ Count n → n ≤ length result
+
+-- Whatever text was written into the slice, a slice as long as a result may be, it is given or refused as document 01 says.
+pub record Finishes (wrote : Wrote) (result before after : Text) (answer : Answer) : Type 0 where
+  pub finishes :
+      (text start : Text)
+      → length result ≡ min (length before) maxText
+      → Writes text start result wrote
+      → GivesText (output (length before) text) before after answer
+
+-- It tells whether the text belongs to the root's language on that side.
+pub record Decides (bytes : Text) (side : Side) (text : Text) (answer : Bool) : Type 0 where
+  pub decides : (l : Lens) → program bytes ≡ gives l → answer ≡ matches (language (sideOf side) l) text
+
+-- The sheet of the source is given, or refused for its length.
+pub record GivesSheet (bytes source before after : Text) (answer : Answer) : Type 0 where
+  pub gives-sheet : (l : Lens) → program bytes ≡ gives l → GivesText (output (length before) (get l source)) before after answer

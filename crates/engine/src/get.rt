@@ -1,0 +1,84 @@
+// The call Get: a sheet from a source.
+use crate::Answer;
+use crate::Checked;
+use crate::check_in;
+use crate::full_room;
+use crate::results::belongs_to_root;
+use crate::results::finish;
+use crate::results::no_flags;
+use crate::results::no_text;
+use crate::results::room_in;
+use crate::results::root_of;
+use crate::some_room;
+use automaton::Side;
+use lens::Mode;
+use lens::read::emit;
+ghost use mathlib.Core.Path.{_≡_};
+ghost use Prim.Native.Nat.{_≤_, min};
+ghost use lib.ListN.{length};
+ghost use Rattle.semantics.specs.Calls.{getCall};
+ghost use Rattle.engine.specs.Answers.{Ready};
+ghost use Rattle.engine.specs.Results.{GivesText, GivesSheet};
+
+// The call, with room first for most programs and then for every program.
+pub fn get(bytes: &[u8], source: &[u8], out: &mut [u8]) -> Answer
+    ensures { λ r. ⌜ GivesText (getCall (now (bytes .entry)) (now (source .entry)) (length (now (out .entry)))) (now (out .entry)) (now (out .exit)) r ⌝ }
+{
+    let mut prepared = some_room();
+    let checked = check_in(bytes, &mut prepared);
+    match checked {
+        Checked::Accepted => get_with(bytes, &prepared, source, out),
+        Checked::Refused { number, node } => Answer::Refusal { number, node },
+        Checked::Small => get_large(bytes, source, out),
+    }
+}
+
+// The same with room for every program.
+fn get_large(bytes: &[u8], source: &[u8], out: &mut [u8]) -> Answer
+    ensures { λ r. ⌜ GivesText (getCall (now (bytes .entry)) (now (source .entry)) (length (now (out .entry)))) (now (out .entry)) (now (out .exit)) r ⌝ }
+{
+    let mut prepared = full_room();
+    let checked = check_in(bytes, &mut prepared);
+    match checked {
+        Checked::Accepted => get_with(bytes, &prepared, source, out),
+        Checked::Refused { number, node } => Answer::Refusal { number, node },
+        Checked::Small => Answer::Refusal { number: 0, node: 0 },
+    }
+}
+
+// The sheet of a source, of a program that is accepted and prepared.
+fn get_with(bytes: &[u8], prepared: &[u64], source: &[u8], out: &mut [u8]) -> Answer
+    requires { ⌜ Ready (now bytes) (now prepared) ⌝ }
+    ensures { λ r. ⌜ GivesText (getCall (now (bytes .entry)) (now (source .entry)) (length (now (out .entry)))) (now (out .entry)) (now (out .exit)) r ⌝ }
+{
+    if 4096 < source.len() {
+        return Answer::Refusal { number: 12, node: 0 };
+    }
+    if !belongs_to_root(bytes, prepared, Side::Source, source) {
+        return Answer::Refusal { number: 13, node: 0 };
+    }
+    let mut result = no_text();
+    let room = room_in(out.len());
+    get_into(bytes, prepared, source, &mut result[0..room], out)
+}
+
+// The sheet, made in a slice as long as a result may be.
+fn get_into(
+    bytes: &[u8],
+    prepared: &[u64],
+    source: &[u8],
+    result: &mut [u8],
+    out: &mut [u8],
+) -> Answer
+    requires { ⌜ Ready (now bytes) (now prepared) ⌝ }
+    requires { ⌜ length (now source) ≤ 4096 ⌝ }
+    requires { ⌜ length (now result) ≡ min (length (now out)) 4096 ⌝ }
+    ensures { λ r. ⌜ GivesSheet (now (bytes .entry)) (now (source .entry)) (now (out .entry)) (now (out .exit)) r ⌝ }
+{
+    let mut flags = no_flags();
+    let root = root_of(bytes);
+    let wrote = emit(
+        bytes, prepared, root, Mode::Get, source, &mut flags, result,
+    );
+    finish(wrote, result, out)
+}

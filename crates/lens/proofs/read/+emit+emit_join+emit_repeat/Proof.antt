@@ -1,0 +1,700 @@
+-- The proof of the cycle of calls {emit, emit_join, emit_repeat}: the node falls. `emit` at a node has the measure 2 * node + 1; between it and
+-- the measures of lower nodes lie those of the join of two of them, and of the repeat that the node is. Assumes nothing.
+use Prim.Native.Nat.{ℕ, suc, _+_, _-_, _*_, _≤_, _<_, max}
+use native.Mathlib.Nat.{le-max-left, le-max-right, max-le, suc-max-suc}
+use native.Mathlib.Omega.{arith}
+use borrow.Author.Needs.{needs}
+use lib.ListN.{length}
+use mathlib.Core.Path.{refl}
+use Rattle.lens.specs.declared.Wrote.the-variants.{Count, Full}
+use Rattle.lens.proofs.Nodes.{lens-read, shown-const, shown-join, shown-union, shown-repeat, shown-match, node-prepared, child-below, left-below, right-below, sheet-below, arm-below}
+use Rattle.lens.proofs.Emission.{emits-copy, emits-const, emits-key, emits-join, emits-union, emits-match, emitted-within, emitted-length, sum-within, shorter, join-full, join-next}
+use Rattle.lens.proofs.Repeats.{Repeating, repeat-begins, repeat-ends, repeat-room, repeat-length, repeat-lends, part-within, part-flagged, repeat-full, repeat-next}
+use Rattle.lens.specs.Emitting.{sideFor}
+use borrow.Fn.Kinds.{In}
+use borrow.Fn.PlainCycle.{Measures, is, falls, and}
+use Rattle.lens.proofs.read.emit.Reads as emit
+use Rattle.lens.proofs.read.emit.Kinds as emit-kinds
+use Rattle.lens.proofs.read.+emit+emit_join+emit_repeat.Lts-emit as emit-lts
+use Rattle.lens.proofs.read.emit_join.Reads as emit-join
+use Rattle.lens.proofs.read.emit_join.Kinds as emit-join-kinds
+use Rattle.lens.proofs.read.+emit+emit_join+emit_repeat.Lts-emit_join as emit-join-lts
+use Rattle.lens.proofs.read.emit_repeat.Reads as emit-repeat
+use Rattle.lens.proofs.read.emit_repeat.Kinds as emit-repeat-kinds
+use Rattle.lens.proofs.read.+emit+emit_join+emit_repeat.Lts-emit_repeat as emit-repeat-lts
+use Rattle.language.proofs.suffixes.Reads as suffixes-reads
+use Rattle.lens.proofs.cuts.cut_at.Reads as cut-at-reads
+use Rattle.lens.proofs.cuts.first_part.Reads as first-part-reads
+use Rattle.lens.proofs.read.arm_of.Reads as arm-of-reads
+use Rattle.lens.proofs.read.automaton_for.Reads as automaton-for-reads
+use Rattle.lens.proofs.read.emit_copy.Reads as emit-copy-reads
+use Rattle.lens.proofs.read.side_of.Reads as side-of-reads
+use Rattle.lens.proofs.read.word_of.Reads as word-of-reads
+use Rattle.lens.proofs.texts.write_text.Reads as write-text-reads
+use Rattle.table.proofs.Table.node.Reads as node-reads
+use Rattle.lens.proofs.read.+emit+emit_join+emit_repeat.{statement}
+use Rattle.lens.proofs.read.+emit+emit_join+emit_repeat.Tie.{close}
+
+-- the measure falls from a join to its halves, and from a node to the join of two lower ones
+left-falls : (a b : ℕ) → 2 * a + 1 < 2 * max a b + 2
+left-falls a b = omega (arith, le-max-left a b)
+
+right-falls : (a b : ℕ) → 2 * b + 1 < 2 * max a b + 2
+right-falls a b = omega (arith, le-max-right a b)
+
+join-falls : {a b node : ℕ} → a < node → b < node → 2 * max a b + 2 < 2 * node + 1
+join-falls {a} {b} {node} h k = let both : max (suc a) (suc b) ≤ node = max-le h k in omega (arith, rw suc-max-suc at both)
+
+abbrev μ-emit : Measures 5 emit-kinds.ps ℕ
+μ-emit κs a = 2 * a .1 .1 .0 + 1
+
+abbrev μ-emit-join : Measures 5 emit-join-kinds.ps ℕ
+μ-emit-join κs a = 2 * max (a .1 .1 .0) (a .1 .1 .1 .0) + 2
+
+abbrev μ-emit-repeat : Measures 5 emit-repeat-kinds.ps ℕ
+μ-emit-repeat κs a = 2 * a .1 .1 .0
+
+abbrev emit-at : ℕ → In 5 emit-kinds.ps
+emit-at t = and 5 emit-kinds.ps (is 5 emit-kinds.ps μ-emit t) emit.Pre
+
+abbrev emit-below : ℕ → In 5 emit-kinds.ps
+emit-below t = and 5 emit-kinds.ps (falls 5 emit-kinds.ps _<_ μ-emit t) emit.Pre
+
+abbrev emit-join-at : ℕ → In 5 emit-join-kinds.ps
+emit-join-at t = and 5 emit-join-kinds.ps (is 5 emit-join-kinds.ps μ-emit-join t) emit-join.Pre
+
+abbrev emit-join-below : ℕ → In 5 emit-join-kinds.ps
+emit-join-below t =
+    and 5 emit-join-kinds.ps (falls 5 emit-join-kinds.ps _<_ μ-emit-join t) emit-join.Pre
+
+abbrev emit-repeat-at : ℕ → In 5 emit-repeat-kinds.ps
+emit-repeat-at t =
+    and 5 emit-repeat-kinds.ps (is 5 emit-repeat-kinds.ps μ-emit-repeat t) emit-repeat.Pre
+
+abbrev emit-repeat-below : ℕ → In 5 emit-repeat-kinds.ps
+emit-repeat-below t =
+    and 5 emit-repeat-kinds.ps (falls 5 emit-repeat-kinds.ps _<_ μ-emit-repeat t) emit-repeat.Pre
+
+abbrev emit-calls : ℕ → emit-lts.Claims
+emit-calls t = (node-reads.Asked, node-reads.Learnt, emit-copy-reads.Asked, emit-copy-reads.Learnt, word-of-reads.Asked, word-of-reads.Learnt, write-text-reads.Asked, write-text-reads.Learnt, emit-join-below t, emit-join.Post, side-of-reads.Asked, side-of-reads.Learnt, arm-of-reads.Asked, arm-of-reads.Learnt, emit-below t, emit.Post, emit-repeat-below t, emit-repeat.Post)
+
+abbrev emit-join-calls : ℕ → emit-join-lts.Claims
+emit-join-calls t = (automaton-for-reads.Asked, automaton-for-reads.Learnt, cut-at-reads.Asked, cut-at-reads.Learnt, emit-below t, emit.Post)
+
+abbrev emit-repeat-calls : ℕ → emit-repeat-lts.Claims
+emit-repeat-calls t = (automaton-for-reads.Asked, automaton-for-reads.Learnt, suffixes-reads.Asked, suffixes-reads.Learnt, first-part-reads.Asked, first-part-reads.Learnt, emit-below t, emit.Post)
+
+emit-node-requires : (t : ℕ) → emit-lts.Need-node-requires (emit-calls t) (emit-at t) emit.Post
+emit-node-requires t c κs = search needs
+
+emit-enum-told : (t : ℕ) → emit-lts.Need-enum-told (emit-calls t) (emit-at t) emit.Post
+emit-enum-told t c = search needs
+
+emit-enum-told-2 : (t : ℕ) → emit-lts.Need-enum-told-2 (emit-calls t) (emit-at t) emit.Post
+emit-enum-told-2 t c = search needs
+
+emit-enum-told-3 : (t : ℕ) → emit-lts.Need-enum-told-3 (emit-calls t) (emit-at t) emit.Post
+emit-enum-told-3 t c = search needs
+
+emit-enum-told-4 : (t : ℕ) → emit-lts.Need-enum-told-4 (emit-calls t) (emit-at t) emit.Post
+emit-enum-told-4 t c = search needs
+
+emit-enum-told-5 : (t : ℕ) → emit-lts.Need-enum-told-5 (emit-calls t) (emit-at t) emit.Post
+emit-enum-told-5 t c = search needs
+
+emit-enum-told-6 : (t : ℕ) → emit-lts.Need-enum-told-6 (emit-calls t) (emit-at t) emit.Post
+emit-enum-told-6 t c = search needs
+
+emit-emit-copy-requires : (t : ℕ) → emit-lts.Need-emit-copy-requires (emit-calls t) (emit-at t) emit.Post
+emit-emit-copy-requires t c κs = search needs
+
+emit-enum-known-kind : (t : ℕ) → emit-lts.Need-enum-known-kind (emit-calls t) (emit-at t) emit.Post
+emit-enum-known-kind t c = search needs
+
+emit-word-of-requires : (t : ℕ) → emit-lts.Need-word-of-requires (emit-calls t) (emit-at t) emit.Post
+emit-word-of-requires t c κs =
+    let at-node = c .before .before .before in
+    let start = at-node .before .before .before .before .before .before in
+    sheet-below (start .pre .1 .0) (shown-const (at-node .node .ensures) (c .before .kind .given .1))
+
+emit-emit-copy-requires-2 : (t : ℕ) → emit-lts.Need-emit-copy-requires-2 (emit-calls t) (emit-at t) emit.Post
+emit-emit-copy-requires-2 t c κs = search needs
+
+emit-enum-told-7 : (t : ℕ) → emit-lts.Need-enum-told-7 (emit-calls t) (emit-at t) emit.Post
+emit-enum-told-7 t c = search needs
+
+emit-write-text-requires : (t : ℕ) → emit-lts.Need-write-text-requires (emit-calls t) (emit-at t) emit.Post
+emit-write-text-requires t c κs = search needs
+
+emit-enum-known-kind-2 : (t : ℕ) → emit-lts.Need-enum-known-kind-2 (emit-calls t) (emit-at t) emit.Post
+emit-enum-known-kind-2 t c = search needs
+
+emit-emit-join-requires : (t : ℕ) → emit-lts.Need-emit-join-requires (emit-calls t) (emit-at t) emit.Post
+emit-emit-join-requires t c κs =
+    let at-kind2 = c .before .before .before in
+    let at-node = at-kind2 .before .before in
+    let start = at-node .before .before .before .before .before .before in
+    let s = shown-join (at-node .node .ensures) (at-kind2 .kind2 .given .1) in (omega (arith, join-falls (s .left-lower) (s .right-lower), start .pre .0), (left-below (start .pre .1 .0) s, (right-below (start .pre .1 .0) s, start .pre .1 .1)))
+
+emit-enum-known-kind-3 : (t : ℕ) → emit-lts.Need-enum-known-kind-3 (emit-calls t) (emit-at t) emit.Post
+emit-enum-known-kind-3 t c = search needs
+
+emit-side-of-requires : (t : ℕ) → emit-lts.Need-side-of-requires (emit-calls t) (emit-at t) emit.Post
+emit-side-of-requires t c κs = search needs
+
+emit-arm-of-requires : (t : ℕ) → emit-lts.Need-arm-of-requires (emit-calls t) (emit-at t) emit.Post
+emit-arm-of-requires t c κs =
+    let at-kind3 = c .before .before in
+    let at-node = at-kind3 .before .before in
+    let start = at-node .before .before .before .before .before .before in
+    node-prepared (left-below (start .pre .1 .0) (shown-union (at-node .node .ensures) (at-kind3 .kind3 .given .1))) _
+
+emit-emit-requires : (t : ℕ) → emit-lts.Need-emit-requires (emit-calls t) (emit-at t) emit.Post
+emit-emit-requires t c κs =
+    let at-arm-of = c .before .before in
+    let at-side-of = at-arm-of .before in
+    let at-kind3 = at-side-of .before .before in
+    let at-node = at-kind3 .before .before in
+    let start = at-node .before .before .before .before .before .before in
+    let below = arm-below (start .pre .1 .0) (start .args .mode) (shown-union (at-node .node .ensures) (at-kind3 .kind3 .given .1)) (rw (at-side-of .side-of .ensures) at (at-arm-of .arm-of .ensures)) in (omega (arith, below .0, start .pre .0), (below .1, start .pre .1 .1))
+
+emit-enum-known-kind-4 : (t : ℕ) → emit-lts.Need-enum-known-kind-4 (emit-calls t) (emit-at t) emit.Post
+emit-enum-known-kind-4 t c = search needs
+
+emit-emit-repeat-requires : (t : ℕ) → emit-lts.Need-emit-repeat-requires (emit-calls t) (emit-at t) emit.Post
+emit-emit-repeat-requires t c κs =
+    let at-kind4 = c .before .before .before in
+    let at-node = at-kind4 .before .before in
+    let start = at-node .before .before .before .before .before .before in
+    (omega (arith, start .pre .0), ((start .pre .1 .0), (shown-repeat (at-node .node .ensures) (at-kind4 .kind4 .given .1), start .pre .1 .1)))
+
+emit-enum-known-kind-5 : (t : ℕ) → emit-lts.Need-enum-known-kind-5 (emit-calls t) (emit-at t) emit.Post
+emit-enum-known-kind-5 t c = search needs
+
+emit-emit-requires-2 : (t : ℕ) → emit-lts.Need-emit-requires-2 (emit-calls t) (emit-at t) emit.Post
+emit-emit-requires-2 t c κs =
+    let at-kind5 = c .before .before .before in
+    let at-node = at-kind5 .before .before in
+    let start = at-node .before .before .before .before .before .before in
+    let s = shown-match (at-node .node .ensures) (at-kind5 .kind5 .given .1) in (omega (arith, s .lower, start .pre .0), (child-below (start .pre .1 .0) s, start .pre .1 .1))
+
+emit-returns : (t : ℕ) → emit-lts.Need-returns (emit-calls t) (emit-at t) emit.Post
+emit-returns t c = lens-read _ (c .before .before .before .before .before .before .before .before .pre .1 .0) (c .before .before .node .ensures) (c .enum-told .given .1) refl
+
+emit-returns-2 : (t : ℕ) → emit-lts.Need-returns-2 (emit-calls t) (emit-at t) emit.Post
+emit-returns-2 t c = lens-read _ (c .before .before .before .before .before .before .before .before .pre .1 .0) (c .before .before .node .ensures) (c .enum-told2 .given .1) refl
+
+emit-returns-3 : (t : ℕ) → emit-lts.Need-returns-3 (emit-calls t) (emit-at t) emit.Post
+emit-returns-3 t c = lens-read _ (c .before .before .before .before .before .before .before .before .pre .1 .0) (c .before .before .node .ensures) (c .enum-told3 .given .1) refl
+
+emit-returns-4 : (t : ℕ) → emit-lts.Need-returns-4 (emit-calls t) (emit-at t) emit.Post
+emit-returns-4 t c = lens-read _ (c .before .before .before .before .before .before .before .before .pre .1 .0) (c .before .before .node .ensures) (c .enum-told4 .given .1) refl
+
+emit-returns-5 : (t : ℕ) → emit-lts.Need-returns-5 (emit-calls t) (emit-at t) emit.Post
+emit-returns-5 t c = lens-read _ (c .before .before .before .before .before .before .before .before .pre .1 .0) (c .before .before .node .ensures) (c .enum-told5 .given .1) refl
+
+emit-same-length : (t : ℕ) → emit-lts.Need-same-length (emit-calls t) (emit-at t) emit.Post
+emit-same-length t c = search needs
+
+emit-returns-6 : (t : ℕ) → emit-lts.Need-returns-6 (emit-calls t) (emit-at t) emit.Post
+emit-returns-6 t c =
+    let at-emit-copy = c .before .before in
+    let at-enum-told6 = at-emit-copy .before .before in
+    let at-node = at-enum-told6 .before .before in
+    let start = at-node .before .before .before .before .before .before in
+    emits-copy (start .pre .1 .0) (at-node .node .ensures) (at-enum-told6 .enum-told6 .given .1) (at-emit-copy .emit-copy .ensures)
+
+emit-same-length-2 : (t : ℕ) → emit-lts.Need-same-length-2 (emit-calls t) (emit-at t) emit.Post
+emit-same-length-2 t c = search needs
+
+emit-returns-7 : (t : ℕ) → emit-lts.Need-returns-7 (emit-calls t) (emit-at t) emit.Post
+emit-returns-7 t c =
+    let at-emit-copy2 = c .before .before in
+    let at-word-of = at-emit-copy2 .before .before in
+    let at-kind = at-word-of .before .before in
+    let at-node = at-kind .before .before in
+    let start = at-node .before .before .before .before .before .before in
+    emits-const (start .pre .1 .0) (at-node .node .ensures) (at-kind .kind .given .1) (at-word-of .word-of .ensures) (at-emit-copy2 .emit-copy2 .ensures)
+
+emit-same-length-3 : (t : ℕ) → emit-lts.Need-same-length-3 (emit-calls t) (emit-at t) emit.Post
+emit-same-length-3 t c = search needs
+
+emit-returns-8 : (t : ℕ) → emit-lts.Need-returns-8 (emit-calls t) (emit-at t) emit.Post
+emit-returns-8 t c =
+    let at-write-text = c .before .before in
+    let at-enum-told7 = at-write-text .before .before in
+    let at-node = at-enum-told7 .before .before in
+    let start = at-node .before .before .before .before .before .before in
+    emits-key (start .pre .1 .0) (at-node .node .ensures) (at-enum-told7 .enum-told7 .given .1) (at-write-text .write-text .ensures)
+
+emit-same-length-4 : (t : ℕ) → emit-lts.Need-same-length-4 (emit-calls t) (emit-at t) emit.Post
+emit-same-length-4 t c = search needs
+
+emit-same-length-5 : (t : ℕ) → emit-lts.Need-same-length-5 (emit-calls t) (emit-at t) emit.Post
+emit-same-length-5 t c = search needs
+
+emit-returns-9 : (t : ℕ) → emit-lts.Need-returns-9 (emit-calls t) (emit-at t) emit.Post
+emit-returns-9 t c =
+    let at-emit-join = c .before .before .before .before in
+    let at-kind2 = at-emit-join .before .before .before .before in
+    let at-node = at-kind2 .before .before in
+    let start = at-node .before .before .before .before .before .before in
+    emits-join (start .pre .1 .0) (at-node .node .ensures) (at-kind2 .kind2 .given .1) (at-emit-join .emit-join .ensures)
+
+emit-same-length-6 : (t : ℕ) → emit-lts.Need-same-length-6 (emit-calls t) (emit-at t) emit.Post
+emit-same-length-6 t c = search needs
+
+emit-same-length-7 : (t : ℕ) → emit-lts.Need-same-length-7 (emit-calls t) (emit-at t) emit.Post
+emit-same-length-7 t c = search needs
+
+emit-returns-10 : (t : ℕ) → emit-lts.Need-returns-10 (emit-calls t) (emit-at t) emit.Post
+emit-returns-10 t c =
+    let at-emit = c .before .before .before .before in
+    let at-arm-of = at-emit .before .before .before in
+    let at-side-of = at-arm-of .before in
+    let at-kind3 = at-side-of .before .before in
+    let at-node = at-kind3 .before .before in
+    let start = at-node .before .before .before .before .before .before in
+    emits-union (start .pre .1 .0) (at-node .node .ensures) (at-kind3 .kind3 .given .1) (rw (at-side-of .side-of .ensures) at (at-arm-of .arm-of .ensures)) (at-emit .emit .ensures)
+
+emit-same-length-8 : (t : ℕ) → emit-lts.Need-same-length-8 (emit-calls t) (emit-at t) emit.Post
+emit-same-length-8 t c = search needs
+
+emit-same-length-9 : (t : ℕ) → emit-lts.Need-same-length-9 (emit-calls t) (emit-at t) emit.Post
+emit-same-length-9 t c = search needs
+
+emit-returns-11 : (t : ℕ) → emit-lts.Need-returns-11 (emit-calls t) (emit-at t) emit.Post
+emit-returns-11 t c = search needs
+
+emit-same-length-10 : (t : ℕ) → emit-lts.Need-same-length-10 (emit-calls t) (emit-at t) emit.Post
+emit-same-length-10 t c = search needs
+
+emit-same-length-11 : (t : ℕ) → emit-lts.Need-same-length-11 (emit-calls t) (emit-at t) emit.Post
+emit-same-length-11 t c = search needs
+
+emit-returns-12 : (t : ℕ) → emit-lts.Need-returns-12 (emit-calls t) (emit-at t) emit.Post
+emit-returns-12 t c =
+    let at-emit2 = c .before .before .before .before in
+    let at-kind5 = at-emit2 .before .before .before .before in
+    let at-node = at-kind5 .before .before in
+    let start = at-node .before .before .before .before .before .before in
+    emits-match (start .pre .1 .0) (at-node .node .ensures) (at-kind5 .kind5 .given .1) (at-emit2 .emit2 .ensures)
+
+emit-join-automaton-for-requires : (t : ℕ) → emit-join-lts.Need-automaton-for-requires (emit-join-calls t) (emit-join-at t) emit-join.Post
+emit-join-automaton-for-requires t c κs = node-prepared (c .before .before .before .before .before .pre .1 .0) _
+
+emit-join-automaton-for-requires-2 : (t : ℕ) → emit-join-lts.Need-automaton-for-requires-2 (emit-join-calls t) (emit-join-at t) emit-join.Post
+emit-join-automaton-for-requires-2 t c κs = node-prepared (c .before .before .before .before .before .before .pre .1 .1 .0) _
+
+emit-join-cut-at-requires : (t : ℕ) → emit-join-lts.Need-cut-at-requires (emit-join-calls t) (emit-join-at t) emit-join.Post
+emit-join-cut-at-requires t c κs =
+    let at-automaton-for = c .before .before in
+    let start = at-automaton-for .before .before .before .before .before .before in
+    (rw (at-automaton-for .automaton-for .ensures) ((node-prepared (start .pre .1 .0) (sideFor (start .args .mode))) .room), (rw (c .before .automaton-for2 .ensures) ((node-prepared (start .pre .1 .1 .0) (sideFor (start .args .mode))) .room), start .pre .1 .1 .1))
+
+emit-join-sub-emit : (t : ℕ) → emit-join-lts.Need-sub-emit (emit-join-calls t) (emit-join-at t) emit-join.Post
+emit-join-sub-emit t c = search needs
+
+emit-join-part-emit-start : (t : ℕ) → emit-join-lts.Need-part-emit-start (emit-join-calls t) (emit-join-at t) emit-join.Post
+emit-join-part-emit-start t c = search needs
+
+emit-join-part-emit-end : (t : ℕ) → emit-join-lts.Need-part-emit-end (emit-join-calls t) (emit-join-at t) emit-join.Post
+emit-join-part-emit-end t c = search needs
+
+emit-join-emit-requires : (t : ℕ) → emit-join-lts.Need-emit-requires (emit-join-calls t) (emit-join-at t) emit-join.Post
+emit-join-emit-requires t c κs =
+    let at-cut-at = c .before .before .before .before .before in
+    let start = at-cut-at .before .before .before .before .before .before .before .before .before in
+    (omega (arith, left-falls (start .args .left) (start .args .right), start .pre .0), ((start .pre .1 .0), shorter (at-cut-at .cut-at .result - 0) 0 (start .args .text .now) (omega (arith, start .pre .1 .1 .1, at-cut-at .cut-at .ensures .same-length))))
+
+emit-join-enum-known-n : (t : ℕ) → emit-join-lts.Need-enum-known-n (emit-join-calls t) (emit-join-at t) emit-join.Post
+emit-join-enum-known-n t c = search needs
+
+emit-join-enum-told : (t : ℕ) → emit-join-lts.Need-enum-told (emit-join-calls t) (emit-join-at t) emit-join.Post
+emit-join-enum-told t c = search needs
+
+emit-join-same-length : (t : ℕ) → emit-join-lts.Need-same-length (emit-join-calls t) (emit-join-at t) emit-join.Post
+emit-join-same-length t c = search needs
+
+emit-join-same-length-2 : (t : ℕ) → emit-join-lts.Need-same-length-2 (emit-join-calls t) (emit-join-at t) emit-join.Post
+emit-join-same-length-2 t c = search needs
+
+emit-join-returns : (t : ℕ) → emit-join-lts.Need-returns (emit-join-calls t) (emit-join-at t) emit-join.Post
+emit-join-returns t c =
+    let at-emit = c .before .before .before .before .before .before in
+    let at-cut-at = at-emit .before .before .before .before .before .before in
+    let at-automaton-for2 = at-cut-at .before .before in
+    let at-automaton-for = at-automaton-for2 .before in
+    let start = at-automaton-for .before .before .before .before .before .before in
+    join-full (start .pre .1 .0) (start .pre .1 .1 .0) (at-automaton-for .automaton-for .ensures) (at-automaton-for2 .automaton-for2 .ensures) (at-cut-at .cut-at .ensures) (at-emit .emit .ensures) (c .enum-told .given .1)
+
+emit-join-sub-emit-2 : (t : ℕ) → emit-join-lts.Need-sub-emit-2 (emit-join-calls t) (emit-join-at t) emit-join.Post
+emit-join-sub-emit-2 t c = search needs
+
+emit-join-part-emit-start-2 : (t : ℕ) → emit-join-lts.Need-part-emit-start-2 (emit-join-calls t) (emit-join-at t) emit-join.Post
+emit-join-part-emit-start-2 t c = search needs
+
+emit-join-part-emit-end-2 : (t : ℕ) → emit-join-lts.Need-part-emit-end-2 (emit-join-calls t) (emit-join-at t) emit-join.Post
+emit-join-part-emit-end-2 t c = search needs
+
+emit-join-sub-emit-3 : (t : ℕ) → emit-join-lts.Need-sub-emit-3 (emit-join-calls t) (emit-join-at t) emit-join.Post
+emit-join-sub-emit-3 t c =
+    let at-n = c .before .before .before in
+    let at-emit = at-n .before .before .before .before .before .before in
+    let start = at-emit .before .before .before .before .before .before .before .before .before .before .before .before .before .before .before in
+    emitted-within (start .pre .1 .0) (at-emit .emit .ensures) (at-n .n .given .1)
+
+emit-join-part-emit-start-3 : (t : ℕ) → emit-join-lts.Need-part-emit-start-3 (emit-join-calls t) (emit-join-at t) emit-join.Post
+emit-join-part-emit-start-3 t c =
+    let at-n = c .before .before .before in
+    let at-emit = at-n .before .before .before .before .before .before in
+    let start = at-emit .before .before .before .before .before .before .before .before .before .before .before .before .before .before .before in
+    emitted-within (start .pre .1 .0) (at-emit .emit .ensures) (at-n .n .given .1)
+
+emit-join-part-emit-end-3 : (t : ℕ) → emit-join-lts.Need-part-emit-end-3 (emit-join-calls t) (emit-join-at t) emit-join.Post
+emit-join-part-emit-end-3 t c = search needs
+
+emit-join-emit-requires-2 : (t : ℕ) → emit-join-lts.Need-emit-requires-2 (emit-join-calls t) (emit-join-at t) emit-join.Post
+emit-join-emit-requires-2 t c κs =
+    let at-emit = c .before .before .before .before .before .before .before .before .before .before in
+    let at-cut-at = at-emit .before .before .before .before .before .before in
+    let start = at-cut-at .before .before .before .before .before .before .before .before .before in
+    (omega (arith, right-falls (start .args .left) (start .args .right), start .pre .0), ((start .pre .1 .1 .0), shorter (length (start .args .text .now) - at-cut-at .cut-at .result) (at-cut-at .cut-at .result) (start .args .text .now) (omega (arith, start .pre .1 .1 .1, at-cut-at .cut-at .ensures .same-length, at-emit .emit .kept))))
+
+emit-join-enum-known-m : (t : ℕ) → emit-join-lts.Need-enum-known-m (emit-join-calls t) (emit-join-at t) emit-join.Post
+emit-join-enum-known-m t c = search needs
+
+emit-join-enum-told-2 : (t : ℕ) → emit-join-lts.Need-enum-told-2 (emit-join-calls t) (emit-join-at t) emit-join.Post
+emit-join-enum-told-2 t c = search needs
+
+emit-join-same-length-3 : (t : ℕ) → emit-join-lts.Need-same-length-3 (emit-join-calls t) (emit-join-at t) emit-join.Post
+emit-join-same-length-3 t c = search needs
+
+emit-join-same-length-4 : (t : ℕ) → emit-join-lts.Need-same-length-4 (emit-join-calls t) (emit-join-at t) emit-join.Post
+emit-join-same-length-4 t c = search needs
+
+emit-join-returns-2 : (t : ℕ) → emit-join-lts.Need-returns-2 (emit-join-calls t) (emit-join-at t) emit-join.Post
+emit-join-returns-2 t c =
+    let at-emit2 = c .before .before .before .before .before .before in
+    let at-n = at-emit2 .before .before .before .before .before in
+    let at-emit = at-n .before .before .before .before .before .before in
+    let at-cut-at = at-emit .before .before .before .before .before .before in
+    let at-automaton-for2 = at-cut-at .before .before in
+    let at-automaton-for = at-automaton-for2 .before in
+    let start = at-automaton-for .before .before .before .before .before .before in
+    join-next (start .pre .1 .0) (start .pre .1 .1 .0) (at-automaton-for .automaton-for .ensures) (at-automaton-for2 .automaton-for2 .ensures) (at-cut-at .cut-at .ensures) (at-emit .emit .ensures) (at-n .n .given .1) (at-emit2 .emit2 .ensures) Full (c .enum-told2 .given .1)
+
+emit-join-add-t18 : (t : ℕ) → emit-join-lts.Need-add-t18 (emit-join-calls t) (emit-join-at t) emit-join.Post
+emit-join-add-t18 t c =
+    let at-emit2 = c .before .before .before .before .before .before .before in
+    let at-n = at-emit2 .before .before .before .before .before in
+    let at-emit = at-n .before .before .before .before .before .before in
+    let start = at-emit .before .before .before .before .before .before .before .before .before .before .before .before .before .before .before in
+    omega (arith, sum-within (at-emit .emit .last .1 .1 .1 .1 .1 .1 .0) (at-emit2 .emit2 .last .1 .1 .1 .1 .1 .1 .0) (emitted-within (start .pre .1 .0) (at-emit .emit .ensures) (at-n .n .given .1)) (emitted-within (start .pre .1 .1 .0) (at-emit2 .emit2 .ensures) (c .before .m .given .1)) (at-emit2 .emit2 .kept .1 .1 .1 .1 .1 .1 .0), at-emit .emit .kept, start .good)
+
+emit-join-same-length-5 : (t : ℕ) → emit-join-lts.Need-same-length-5 (emit-join-calls t) (emit-join-at t) emit-join.Post
+emit-join-same-length-5 t c = search needs
+
+emit-join-same-length-6 : (t : ℕ) → emit-join-lts.Need-same-length-6 (emit-join-calls t) (emit-join-at t) emit-join.Post
+emit-join-same-length-6 t c = search needs
+
+emit-join-returns-3 : (t : ℕ) → emit-join-lts.Need-returns-3 (emit-join-calls t) (emit-join-at t) emit-join.Post
+emit-join-returns-3 t c =
+    let at-emit2 = c .before .before .before .before .before .before .before in
+    let at-n = at-emit2 .before .before .before .before .before in
+    let at-emit = at-n .before .before .before .before .before .before in
+    let at-cut-at = at-emit .before .before .before .before .before .before in
+    let at-automaton-for2 = at-cut-at .before .before in
+    let at-automaton-for = at-automaton-for2 .before in
+    let start = at-automaton-for .before .before .before .before .before .before in
+    join-next (start .pre .1 .0) (start .pre .1 .1 .0) (at-automaton-for .automaton-for .ensures) (at-automaton-for2 .automaton-for2 .ensures) (at-cut-at .cut-at .ensures) (at-emit .emit .ensures) (at-n .n .given .1) (at-emit2 .emit2 .ensures) (Count _) (c .before .m .given .1)
+
+abbrev emit-repeat-Inv-loop : emit-repeat-lts.InvT-loop
+emit-repeat-Inv-loop bytes prepared node child mode text flags₀ out₀ part o₀ n₀ flags out o n = Repeating bytes child mode text flags₀ out₀ flags out o n
+
+abbrev emit-repeat-μ-loop : emit-repeat-lts.MeasureT-loop
+emit-repeat-μ-loop bytes prepared node child mode text flags₀ out₀ part o₀ n₀ flags out o n = length text - o
+
+emit-repeat-automaton-for-requires : (t : ℕ) → emit-repeat-lts.Need-automaton-for-requires (emit-repeat-calls t) (emit-repeat-at t) emit-repeat.Post emit-repeat-Inv-loop emit-repeat-μ-loop
+emit-repeat-automaton-for-requires t c κs = node-prepared (c .before .before .before .before .before .pre .1 .0) _
+
+emit-repeat-suffixes-requires : (t : ℕ) → emit-repeat-lts.Need-suffixes-requires (emit-repeat-calls t) (emit-repeat-at t) emit-repeat.Post emit-repeat-Inv-loop emit-repeat-μ-loop
+emit-repeat-suffixes-requires t c κs =
+    let start = c .before .before .before .before .before .before .before in
+    (rw (c .before .automaton-for .ensures) ((node-prepared (start .pre .1 .0) (sideFor (start .args .mode))) .room), start .pre .1 .1 .1)
+
+emit-repeat-automaton-for-requires-2 : (t : ℕ) → emit-repeat-lts.Need-automaton-for-requires-2 (emit-repeat-calls t) (emit-repeat-at t) emit-repeat.Post emit-repeat-Inv-loop emit-repeat-μ-loop
+emit-repeat-automaton-for-requires-2 t c κs =
+    let start = c .before .before .before .before .before .before .before .before .before .before in
+    node-prepared (child-below (start .pre .1 .0) (start .pre .1 .1 .0)) _
+
+emit-repeat-loop-holds : (t : ℕ) → emit-repeat-lts.Need-loop-holds (emit-repeat-calls t) (emit-repeat-at t) emit-repeat.Post emit-repeat-Inv-loop emit-repeat-μ-loop
+emit-repeat-loop-holds t c =
+    let at-suffixes = c .before .before .before in
+    let at-automaton-for = at-suffixes .before .before in
+    let start = at-automaton-for .before .before .before .before .before .before in
+    repeat-begins (start .pre .1 .0) (start .pre .1 .1 .0) (at-automaton-for .automaton-for .ensures) (at-suffixes .suffixes .ensures) (omega (arith, start .pre .1 .1 .1, at-suffixes .suffixes .kept))
+
+emit-repeat-sub-first-part : (t : ℕ) → emit-repeat-lts.Need-sub-first-part (emit-repeat-calls t) (emit-repeat-at t) emit-repeat.Post emit-repeat-Inv-loop emit-repeat-μ-loop
+emit-repeat-sub-first-part t c = search needs
+
+emit-repeat-part-first-part-start : (t : ℕ) → emit-repeat-lts.Need-part-first-part-start (emit-repeat-calls t) (emit-repeat-at t) emit-repeat.Post emit-repeat-Inv-loop emit-repeat-μ-loop
+emit-repeat-part-first-part-start t c = search needs
+
+emit-repeat-part-first-part-end : (t : ℕ) → emit-repeat-lts.Need-part-first-part-end (emit-repeat-calls t) (emit-repeat-at t) emit-repeat.Post emit-repeat-Inv-loop emit-repeat-μ-loop
+emit-repeat-part-first-part-end t c = search needs
+
+emit-repeat-sub-first-part-2 : (t : ℕ) → emit-repeat-lts.Need-sub-first-part-2 (emit-repeat-calls t) (emit-repeat-at t) emit-repeat.Post emit-repeat-Inv-loop emit-repeat-μ-loop
+emit-repeat-sub-first-part-2 t c = omega (arith, c .before .before .loop .inv .within, c .before .before .loop .inv .flags-more)
+
+emit-repeat-part-first-part-start-2 : (t : ℕ) → emit-repeat-lts.Need-part-first-part-start-2 (emit-repeat-calls t) (emit-repeat-at t) emit-repeat.Post emit-repeat-Inv-loop emit-repeat-μ-loop
+emit-repeat-part-first-part-start-2 t c = omega (arith, c .before .before .before .loop .inv .within, c .before .before .before .loop .inv .flags-more)
+
+emit-repeat-part-first-part-end-2 : (t : ℕ) → emit-repeat-lts.Need-part-first-part-end-2 (emit-repeat-calls t) (emit-repeat-at t) emit-repeat.Post emit-repeat-Inv-loop emit-repeat-μ-loop
+emit-repeat-part-first-part-end-2 t c = search needs
+
+emit-repeat-first-part-requires : (t : ℕ) → emit-repeat-lts.Need-first-part-requires (emit-repeat-calls t) (emit-repeat-at t) emit-repeat.Post emit-repeat-Inv-loop emit-repeat-μ-loop
+emit-repeat-first-part-requires t c κs =
+    let at-loop-test = c .before .before .before in
+    let at-loop = at-loop-test .before in
+    let at-automaton-for2 = at-loop .before in
+    let start = at-automaton-for2 .before .before .before .before .before .before .before .before .before .before .before in
+    (rw (at-automaton-for2 .automaton-for2 .ensures) ((node-prepared (child-below (start .pre .1 .0) (start .pre .1 .1 .0)) (sideFor (start .args .mode))) .room), repeat-lends (at-loop .loop .inv) (at-loop-test .loop-test .taken))
+
+emit-repeat-add-end : (t : ℕ) → emit-repeat-lts.Need-add-end (emit-repeat-calls t) (emit-repeat-at t) emit-repeat.Post emit-repeat-Inv-loop emit-repeat-μ-loop
+emit-repeat-add-end t c =
+    let at-loop-test = c .before .before .before .before in
+    let at-loop = at-loop-test .before in
+    let at-automaton-for2 = at-loop .before in
+    let start = at-automaton-for2 .before .before .before .before .before .before .before .before .before .before .before in
+    omega (arith, part-within (start .pre .1 .0) (start .pre .1 .1 .0) (at-automaton-for2 .automaton-for2 .ensures) (at-loop .loop .inv) (at-loop-test .loop-test .taken) (c .first-part .ensures), start .good)
+
+emit-repeat-add-past : (t : ℕ) → emit-repeat-lts.Need-add-past (emit-repeat-calls t) (emit-repeat-at t) emit-repeat.Post emit-repeat-Inv-loop emit-repeat-μ-loop
+emit-repeat-add-past t c =
+    let at-loop-test = c .before .before .before .before in
+    let at-loop = at-loop-test .before in
+    let at-automaton-for2 = at-loop .before in
+    let start = at-automaton-for2 .before .before .before .before .before .before .before .before .before .before .before in
+    omega (arith, part-within (start .pre .1 .0) (start .pre .1 .1 .0) (at-automaton-for2 .automaton-for2 .ensures) (at-loop .loop .inv) (at-loop-test .loop-test .taken) (c .first-part .ensures), start .good)
+
+emit-repeat-sub-emit : (t : ℕ) → emit-repeat-lts.Need-sub-emit (emit-repeat-calls t) (emit-repeat-at t) emit-repeat.Post emit-repeat-Inv-loop emit-repeat-μ-loop
+emit-repeat-sub-emit t c = search needs
+
+emit-repeat-part-emit-start : (t : ℕ) → emit-repeat-lts.Need-part-emit-start (emit-repeat-calls t) (emit-repeat-at t) emit-repeat.Post emit-repeat-Inv-loop emit-repeat-μ-loop
+emit-repeat-part-emit-start t c = search needs
+
+emit-repeat-part-emit-end : (t : ℕ) → emit-repeat-lts.Need-part-emit-end (emit-repeat-calls t) (emit-repeat-at t) emit-repeat.Post emit-repeat-Inv-loop emit-repeat-μ-loop
+emit-repeat-part-emit-end t c = search needs
+
+emit-repeat-sub-emit-2 : (t : ℕ) → emit-repeat-lts.Need-sub-emit-2 (emit-repeat-calls t) (emit-repeat-at t) emit-repeat.Post emit-repeat-Inv-loop emit-repeat-μ-loop
+emit-repeat-sub-emit-2 t c = search needs
+
+emit-repeat-part-emit-start-2 : (t : ℕ) → emit-repeat-lts.Need-part-emit-start-2 (emit-repeat-calls t) (emit-repeat-at t) emit-repeat.Post emit-repeat-Inv-loop emit-repeat-μ-loop
+emit-repeat-part-emit-start-2 t c = search needs
+
+emit-repeat-part-emit-end-2 : (t : ℕ) → emit-repeat-lts.Need-part-emit-end-2 (emit-repeat-calls t) (emit-repeat-at t) emit-repeat.Post emit-repeat-Inv-loop emit-repeat-μ-loop
+emit-repeat-part-emit-end-2 t c =
+    let at-loop-test = c .before .before .before .before .before in
+    let at-loop = at-loop-test .before in
+    let at-automaton-for2 = at-loop .before in
+    let start = at-automaton-for2 .before .before .before .before .before .before .before .before .before .before .before in
+    omega (arith, part-within (start .pre .1 .0) (start .pre .1 .1 .0) (at-automaton-for2 .automaton-for2 .ensures) (at-loop .loop .inv) (at-loop-test .loop-test .taken) (c .before .first-part .ensures), at-loop .loop .inv .flags-more)
+
+emit-repeat-sub-emit-3 : (t : ℕ) → emit-repeat-lts.Need-sub-emit-3 (emit-repeat-calls t) (emit-repeat-at t) emit-repeat.Post emit-repeat-Inv-loop emit-repeat-μ-loop
+emit-repeat-sub-emit-3 t c = repeat-room (c .before .before .before .before .before .before .before .loop .inv)
+
+emit-repeat-part-emit-start-3 : (t : ℕ) → emit-repeat-lts.Need-part-emit-start-3 (emit-repeat-calls t) (emit-repeat-at t) emit-repeat.Post emit-repeat-Inv-loop emit-repeat-μ-loop
+emit-repeat-part-emit-start-3 t c = repeat-room (c .before .before .before .before .before .before .before .loop .inv)
+
+emit-repeat-part-emit-end-3 : (t : ℕ) → emit-repeat-lts.Need-part-emit-end-3 (emit-repeat-calls t) (emit-repeat-at t) emit-repeat.Post emit-repeat-Inv-loop emit-repeat-μ-loop
+emit-repeat-part-emit-end-3 t c = search needs
+
+emit-repeat-emit-requires : (t : ℕ) → emit-repeat-lts.Need-emit-requires (emit-repeat-calls t) (emit-repeat-at t) emit-repeat.Post emit-repeat-Inv-loop emit-repeat-μ-loop
+emit-repeat-emit-requires t c κs =
+    let at-first-part = c .before .before .before in
+    let at-loop-test = at-first-part .before .before .before .before in
+    let at-loop = at-loop-test .before in
+    let at-automaton-for2 = at-loop .before in
+    let start = at-automaton-for2 .before .before .before .before .before .before .before .before .before .before .before in
+    (omega (arith, (start .pre .1 .1 .0) .lower, start .pre .0), (child-below (start .pre .1 .0) (start .pre .1 .1 .0), part-flagged (start .pre .1 .0) (start .pre .1 .1 .0) (at-automaton-for2 .automaton-for2 .ensures) (at-loop .loop .inv) (at-loop-test .loop-test .taken) (at-first-part .first-part .ensures)))
+
+emit-repeat-enum-known-m : (t : ℕ) → emit-repeat-lts.Need-enum-known-m (emit-repeat-calls t) (emit-repeat-at t) emit-repeat.Post emit-repeat-Inv-loop emit-repeat-μ-loop
+emit-repeat-enum-known-m t c = search needs
+
+emit-repeat-enum-told : (t : ℕ) → emit-repeat-lts.Need-enum-told (emit-repeat-calls t) (emit-repeat-at t) emit-repeat.Post emit-repeat-Inv-loop emit-repeat-μ-loop
+emit-repeat-enum-told t c = search needs
+
+emit-repeat-same-length : (t : ℕ) → emit-repeat-lts.Need-same-length (emit-repeat-calls t) (emit-repeat-at t) emit-repeat.Post emit-repeat-Inv-loop emit-repeat-μ-loop
+emit-repeat-same-length t c = search needs
+
+emit-repeat-same-length-2 : (t : ℕ) → emit-repeat-lts.Need-same-length-2 (emit-repeat-calls t) (emit-repeat-at t) emit-repeat.Post emit-repeat-Inv-loop emit-repeat-μ-loop
+emit-repeat-same-length-2 t c =
+    let at-emit = c .before .before .before .before .before .before in
+    let at-first-part = at-emit .before .before .before .before in
+    let at-loop-test = at-first-part .before .before .before .before in
+    let at-loop = at-loop-test .before in
+    let at-automaton-for2 = at-loop .before in
+    let start = at-automaton-for2 .before .before .before .before .before .before .before .before .before .before .before in
+    emitted-length (start .pre .1 .0) (repeat-full (start .pre .1 .0) (start .pre .1 .1 .0) (at-automaton-for2 .automaton-for2 .ensures) (at-loop .loop .inv) (at-loop-test .loop-test .taken) (at-first-part .first-part .ensures) (at-emit .emit .ensures) (c .enum-told .given .1))
+
+emit-repeat-returns : (t : ℕ) → emit-repeat-lts.Need-returns (emit-repeat-calls t) (emit-repeat-at t) emit-repeat.Post emit-repeat-Inv-loop emit-repeat-μ-loop
+emit-repeat-returns t c =
+    let at-emit = c .before .before .before .before .before .before in
+    let at-first-part = at-emit .before .before .before .before in
+    let at-loop-test = at-first-part .before .before .before .before in
+    let at-loop = at-loop-test .before in
+    let at-automaton-for2 = at-loop .before in
+    let start = at-automaton-for2 .before .before .before .before .before .before .before .before .before .before .before in
+    repeat-full (start .pre .1 .0) (start .pre .1 .1 .0) (at-automaton-for2 .automaton-for2 .ensures) (at-loop .loop .inv) (at-loop-test .loop-test .taken) (at-first-part .first-part .ensures) (at-emit .emit .ensures) (c .enum-told .given .1)
+
+emit-repeat-add-n : (t : ℕ) → emit-repeat-lts.Need-add-n (emit-repeat-calls t) (emit-repeat-at t) emit-repeat.Post emit-repeat-Inv-loop emit-repeat-μ-loop
+emit-repeat-add-n t c =
+    let at-emit = c .before .before .before .before .before .before .before in
+    let at-loop = at-emit .before .before .before .before .before .before .before .before .before in
+    let start = at-loop .before .before .before .before .before .before .before .before .before .before .before .before in
+    omega (arith, sum-within (at-loop .loop .out) (at-emit .emit .last .1 .1 .1 .1 .1 .1 .0) (repeat-room (at-loop .loop .inv)) (emitted-within (child-below (start .pre .1 .0) (start .pre .1 .1 .0)) (at-emit .emit .ensures) (c .before .m .given .1)) (at-emit .emit .kept .1 .1 .1 .1 .1 .1 .0), repeat-length (at-loop .loop .inv), start .good)
+
+emit-repeat-loop-less : (t : ℕ) → emit-repeat-lts.Need-loop-less (emit-repeat-calls t) (emit-repeat-at t) emit-repeat.Post emit-repeat-Inv-loop emit-repeat-μ-loop
+emit-repeat-loop-less t c = search needs
+
+emit-repeat-loop-again : (t : ℕ) → emit-repeat-lts.Need-loop-again (emit-repeat-calls t) (emit-repeat-at t) emit-repeat.Post emit-repeat-Inv-loop emit-repeat-μ-loop
+emit-repeat-loop-again t c =
+    let at-emit = c .before .before .before .before .before .before .before in
+    let at-first-part = at-emit .before .before .before .before in
+    let at-loop-test = at-first-part .before .before .before .before in
+    let at-loop = at-loop-test .before in
+    let at-automaton-for2 = at-loop .before in
+    let start = at-automaton-for2 .before .before .before .before .before .before .before .before .before .before .before in
+    repeat-next (start .pre .1 .0) (start .pre .1 .1 .0) (at-automaton-for2 .automaton-for2 .ensures) (at-loop .loop .inv) (at-loop-test .loop-test .taken) (at-first-part .first-part .ensures) (at-emit .emit .ensures) (at-emit .emit .last .1 .1 .1 .1 .1 .0) (at-emit .emit .kept .1 .1 .1 .1 .1 .0) (c .before .m .given .1)
+
+emit-repeat-same-length-3 : (t : ℕ) → emit-repeat-lts.Need-same-length-3 (emit-repeat-calls t) (emit-repeat-at t) emit-repeat.Post emit-repeat-Inv-loop emit-repeat-μ-loop
+emit-repeat-same-length-3 t c = search needs
+
+emit-repeat-same-length-4 : (t : ℕ) → emit-repeat-lts.Need-same-length-4 (emit-repeat-calls t) (emit-repeat-at t) emit-repeat.Post emit-repeat-Inv-loop emit-repeat-μ-loop
+emit-repeat-same-length-4 t c = repeat-length (c .before .loop .inv)
+
+emit-repeat-returns-2 : (t : ℕ) → emit-repeat-lts.Need-returns-2 (emit-repeat-calls t) (emit-repeat-at t) emit-repeat.Post emit-repeat-Inv-loop emit-repeat-μ-loop
+emit-repeat-returns-2 t c =
+    let start = c .before .before .before .before .before .before .before .before .before .before .before .before .before in
+    repeat-ends (start .pre .1 .1 .0) (c .before .loop .inv) (c .loop-test .left)
+
+pub +emit+emit-join+emit-repeat-spec : {M : Type 1} → statement M
++emit+emit-join+emit-repeat-spec = close μ-emit μ-emit-join μ-emit-repeat (λ t. emit-lts.spec (emit-calls t)
+    (emit-at t)
+    emit.Post
+    (emit-node-requires t)
+    (emit-enum-told t)
+    (emit-enum-told-2 t)
+    (emit-enum-told-3 t)
+    (emit-enum-told-4 t)
+    (emit-enum-told-5 t)
+    (emit-enum-told-6 t)
+    (emit-emit-copy-requires t)
+    (emit-enum-known-kind t)
+    (emit-word-of-requires t)
+    (emit-emit-copy-requires-2 t)
+    (emit-enum-told-7 t)
+    (emit-write-text-requires t)
+    (emit-enum-known-kind-2 t)
+    (emit-emit-join-requires t)
+    (emit-enum-known-kind-3 t)
+    (emit-side-of-requires t)
+    (emit-arm-of-requires t)
+    (emit-emit-requires t)
+    (emit-enum-known-kind-4 t)
+    (emit-emit-repeat-requires t)
+    (emit-enum-known-kind-5 t)
+    (emit-emit-requires-2 t)
+    (emit-returns t)
+    (emit-returns-2 t)
+    (emit-returns-3 t)
+    (emit-returns-4 t)
+    (emit-returns-5 t)
+    (emit-same-length t)
+    (emit-returns-6 t)
+    (emit-same-length-2 t)
+    (emit-returns-7 t)
+    (emit-same-length-3 t)
+    (emit-returns-8 t)
+    (emit-same-length-4 t)
+    (emit-same-length-5 t)
+    (emit-returns-9 t)
+    (emit-same-length-6 t)
+    (emit-same-length-7 t)
+    (emit-returns-10 t)
+    (emit-same-length-8 t)
+    (emit-same-length-9 t)
+    (emit-returns-11 t)
+    (emit-same-length-10 t)
+    (emit-same-length-11 t)
+    (emit-returns-12 t))
+    (λ t. emit-join-lts.spec (emit-join-calls t)
+    (emit-join-at t)
+    emit-join.Post
+    (emit-join-automaton-for-requires t)
+    (emit-join-automaton-for-requires-2 t)
+    (emit-join-cut-at-requires t)
+    (emit-join-sub-emit t)
+    (emit-join-part-emit-start t)
+    (emit-join-part-emit-end t)
+    (emit-join-emit-requires t)
+    (emit-join-enum-known-n t)
+    (emit-join-enum-told t)
+    (emit-join-same-length t)
+    (emit-join-same-length-2 t)
+    (emit-join-returns t)
+    (emit-join-sub-emit-2 t)
+    (emit-join-part-emit-start-2 t)
+    (emit-join-part-emit-end-2 t)
+    (emit-join-sub-emit-3 t)
+    (emit-join-part-emit-start-3 t)
+    (emit-join-part-emit-end-3 t)
+    (emit-join-emit-requires-2 t)
+    (emit-join-enum-known-m t)
+    (emit-join-enum-told-2 t)
+    (emit-join-same-length-3 t)
+    (emit-join-same-length-4 t)
+    (emit-join-returns-2 t)
+    (emit-join-add-t18 t)
+    (emit-join-same-length-5 t)
+    (emit-join-same-length-6 t)
+    (emit-join-returns-3 t))
+    λ t. emit-repeat-lts.spec (emit-repeat-calls t)
+    (emit-repeat-at t)
+    emit-repeat.Post
+    emit-repeat-Inv-loop
+    emit-repeat-μ-loop
+    (emit-repeat-automaton-for-requires t)
+    (emit-repeat-suffixes-requires t)
+    (emit-repeat-automaton-for-requires-2 t)
+    (emit-repeat-loop-holds t)
+    (emit-repeat-sub-first-part t)
+    (emit-repeat-part-first-part-start t)
+    (emit-repeat-part-first-part-end t)
+    (emit-repeat-sub-first-part-2 t)
+    (emit-repeat-part-first-part-start-2 t)
+    (emit-repeat-part-first-part-end-2 t)
+    (emit-repeat-first-part-requires t)
+    (emit-repeat-add-end t)
+    (emit-repeat-add-past t)
+    (emit-repeat-sub-emit t)
+    (emit-repeat-part-emit-start t)
+    (emit-repeat-part-emit-end t)
+    (emit-repeat-sub-emit-2 t)
+    (emit-repeat-part-emit-start-2 t)
+    (emit-repeat-part-emit-end-2 t)
+    (emit-repeat-sub-emit-3 t)
+    (emit-repeat-part-emit-start-3 t)
+    (emit-repeat-part-emit-end-3 t)
+    (emit-repeat-emit-requires t)
+    (emit-repeat-enum-known-m t)
+    (emit-repeat-enum-told t)
+    (emit-repeat-same-length t)
+    (emit-repeat-same-length-2 t)
+    (emit-repeat-returns t)
+    (emit-repeat-add-n t)
+    (emit-repeat-loop-less t)
+    (emit-repeat-loop-again t)
+    (emit-repeat-same-length-3 t)
+    (emit-repeat-same-length-4 t)
+    (emit-repeat-returns-2 t)

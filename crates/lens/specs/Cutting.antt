@@ -1,0 +1,105 @@
+-- Where a text is cut in two, and where the first of its parts ends. The flags that tell it are lent on, part by part.
+use mathlib.Core.Path.{_≡_, ap, _∙_}
+use mathlib.Core.Bool.{Bool, true, false}
+use mathlib.Core.List.{List, _++_}
+use Prim.Native.Nat.{ℕ, _+_, _-_, _≤_, _<_}
+use native.Mathlib.Omega.{arith}
+use lib.ListN.{length, take, drop, getD, length-drop}
+use lib.Seq.{take-all, length-take-le, getD-append-add, getD-drop, drop-drop}
+use borrow.Author.Tests.{eq-eqb}
+use Rattle.semantics.specs.Text.{Text}
+use Rattle.semantics.specs.Pattern.{Pattern, star, matches}
+use Rattle.semantics.specs.Lens.{cutAt}
+use Rattle.automaton.specs.declared.Automaton.{Automaton}
+use Rattle.automaton.specs.Rows.{Describes}
+use Rattle.language.specs.Flags.{flagOf, flagged, Flags}
+use Rattle.lens.specs.Reading.{firstPart}
+
+-- The place is that of the cut. The flags are as many as before.
+pub record CutAt (prepared : List ℕ) (left right : Automaton) (text : Text) (before after : List ℕ) (place : ℕ) : Type 0 where
+  pub within : place ≤ length text
+  pub same-length : length after ≡ length before
+  pub place-is : (a b : Pattern) → Describes a left prepared → Describes b right prepared → place ≡ cutAt a b text
+
+-- Beyond o, the flags tell which ends of the text have parts.
+pub record SuffixFlags (a : Pattern) (text : Text) (flags : List ℕ) (o : ℕ) : Type 0 where
+  pub flag-is : (i : ℕ) → o < i → i ≤ length text → flagged flags i ≡ matches (star a) (drop i text)
+
+-- The place is the end of the first part, which is not empty.
+pub record FirstPart (prepared : List ℕ) (child : Automaton) (text : Text) (flags : List ℕ) (place : ℕ) : Type 0 where
+  pub some-text : 0 < place
+  pub within : place ≤ length text
+  pub place-is : (a : Pattern) → Describes a child prepared → SuffixFlags a text flags 0 → place ≡ firstPart a text
+
+-- a flag that stands for a test tells its answer
+pub flag-tells : (flags : List ℕ) (i : ℕ) (b : Bool) → getD flags i 0 ≡ flagOf b → flagged flags i ≡ b
+unfolding flagged flagOf
+flag-tells flags i true e = eq-eqb (getD flags i 0) 1 e
+flag-tells flags i false e = rw e
+
+-- flags that are the same tell the same
+flagged-same : (flags flags′ : List ℕ) (i j : ℕ) → getD flags i 0 ≡ getD flags′ j 0 → flagged flags i ≡ flagged flags′ j
+unfolding flagged
+flagged-same flags flags′ i j e = rw e
+
+-- a slice from a place on, as it is lent, is what is behind that place
+pub rest-lent : {A : Type 0} (s : List A) (o : ℕ) → take (length s - o) (drop o s) ≡ drop o s
+rest-lent s o = take-all (length s - o) (drop o s) (rw length-drop (omega arith))
+
+-- what is behind a part that was lent, from o to e, is as it was
+pub lent-beyond :
+    (s part : List ℕ) (o e i : ℕ)
+    → o ≤ e
+    → e ≤ length s
+    → length part ≡ length (take (e - o) (drop o s))
+    → e ≤ i
+    → getD (take o s ++ (part ++ drop (e - o) (drop o s))) i 0 ≡ getD s i 0
+lent-beyond s part o e i h k kept l =
+    let front : length (take o s) ≡ o = length-take-le o s (omega arith) in
+    let middle : length part ≡ e - o = kept ∙ length-take-le (e - o) (drop o s) (rw length-drop (omega arith)) in
+    let place : i ≡ length (take o s) + (length part + (i - e)) = omega arith in
+    ap (λ (j : ℕ). getD (take o s ++ (part ++ drop (e - o) (drop o s))) j 0) place
+    ∙ getD-append-add (take o s) (part ++ drop (e - o) (drop o s)) (length part + (i - e)) 0
+    ∙ getD-append-add part (drop (e - o) (drop o s)) (i - e) 0
+    ∙ getD-drop (e - o) (drop o s) (i - e) 0
+    ∙ getD-drop o s ((e - o) + (i - e)) 0
+    ∙ ap (λ (j : ℕ). getD s j 0) (omega arith)
+
+-- ---- The flags of a text, as its parts are read one by one
+
+-- they begin as the flags of all its ends
+pub suffix-flags-begin :
+    {a : Pattern} {text : Text} {before after : List ℕ}
+    → Flags (λ i. matches (star a) (drop i text)) (length text) before after
+    → SuffixFlags a text after 0
+suffix-flags-begin {a} {text} {after} flags =
+    record { flag-is = λ i h l. flag-tells after i (matches (star a) (drop i text)) (flags .flag-is i l) }
+
+module _ {a : Pattern} {text : Text} {flags : List ℕ} {o : ℕ} (known : SuffixFlags a text flags o) where
+  -- lent from o on, they are those of the text from o on
+  pub suffix-flags-lent : SuffixFlags a (take (length text - o) (drop o text)) (take (length flags - o) (drop o flags)) 0
+  suffix-flags-lent =
+      rw
+      (rest-lent text o, rest-lent flags o)
+      (record {
+        flag-is = λ i h l.
+            let within : o + i ≤ length text = omega (arith, length-drop o text) in
+            rw (flagged-same (drop o flags) flags i (o + i) (getD-drop o flags i 0), drop-drop i o text) (known .flag-is (o + i) (omega arith) within);
+      })
+
+  -- where the flags up to p are overwritten, those behind p stay: the flags from o to e were lent, and `part` came back
+  pub suffix-flags-next :
+      (p e : ℕ) (part : List ℕ)
+      → o ≤ p
+      → o ≤ e
+      → e ≤ p + 1
+      → e ≤ length flags
+      → length part ≡ length (take (e - o) (drop o flags))
+      → SuffixFlags a text (take o flags ++ (part ++ drop (e - o) (drop o flags))) p
+  suffix-flags-next p e part h k l m kept =
+      record {
+        flag-is = λ i b w.
+            rw
+            (flagged-same (take o flags ++ (part ++ drop (e - o) (drop o flags))) flags i i (lent-beyond flags part o e i k m kept (omega arith)))
+            (known .flag-is i (omega arith) w);
+      }

@@ -1,0 +1,64 @@
+-- What is read off a text at a node: the sheet of a source, or the key of a sheet.
+use mathlib.Core.Path.{_≡_}
+use mathlib.Core.List.{List}
+use mathlib.Core.Bool.{cond}
+use Prim.Native.Nat.{ℕ, _+_, _*_, _≤_, _<_}
+use lib.ListN.{length}
+use Rattle.semantics.specs.Text.{Text}
+use Rattle.semantics.specs.Pattern.{Pattern, word, matches}
+use Rattle.semantics.specs.Lens.{Lens, join}
+use Rattle.semantics.specs.Table.{nodeCount, pattern, lens, treeAt, trees}
+use Rattle.table.specs.Rules.{AllSized}
+use Rattle.automaton.specs.declared.Side.{Side}
+use Rattle.automaton.specs.declared.Side.the-variants.{Source, Sheet}
+use Rattle.automaton.specs.Rows.{automatonAt, Room, Describes}
+use Rattle.automaton.specs.Built.{Built}
+use Rattle.lens.specs.declared.Mode.{Mode}
+use Rattle.lens.specs.declared.Mode.the-variants.{Get, Key}
+use Rattle.lens.specs.declared.Wrote.{Wrote}
+use Rattle.lens.specs.Overlay.{Writes}
+use Rattle.lens.specs.Reading.{reading}
+
+-- the side of the text that is read, as the automata have it
+unfoldable pub sideFor : Mode → Side
+sideFor Get = Source
+sideFor Key = Sheet
+
+-- A node's words are in the prepared program, and the rows of its automaton.
+pub record Prepared (prepared : List ℕ) (node : ℕ) (side : Side) : Type 0 where
+  pub words : 16 * node + 16 ≤ length prepared
+  pub room : Room (automatonAt prepared node side) prepared
+
+-- The arm is the left one if the text belongs to it, otherwise the right.
+pub record ArmIs (prepared : List ℕ) (left right : ℕ) (side : Side) (text : Text) (arm : ℕ) : Type 0 where
+  pub arm-is : (r : Pattern) → Describes r (automatonAt prepared left side) prepared → arm ≡ cond (matches r text) left right
+
+-- The node is one of a prepared program's, and a lens.
+pub record LensNode (bytes : Text) (prepared : List ℕ) (node : ℕ) : Type 0 where
+  pub built : Built bytes prepared
+  pub inside : node < nodeCount bytes
+  pub tree : Lens
+  pub tree-is : treeAt (trees bytes) node ≡ lens tree
+
+-- The node is one of a table's that was read, and a word.
+pub record WordNode (bytes : Text) (prepared : List ℕ) (node : ℕ) : Type 0 where
+  pub sized : AllSized bytes prepared
+  pub inside : node < nodeCount bytes
+  pub letters : Text
+  pub tree-is : treeAt (trees bytes) node ≡ pattern (word letters)
+
+-- They are the bytes of the word.
+pub record WordIs (bytes : Text) (node : ℕ) (letters : Text) : Type 0 where
+  pub letters-are : (w : Text) → treeAt (trees bytes) node ≡ pattern (word w) → letters ≡ w
+
+-- What is read is written: at a node,
+pub record Emits (bytes : Text) (node : ℕ) (mode : Mode) (text before after : Text) (answer : Wrote) : Type 0 where
+  pub writes : (l : Lens) → treeAt (trees bytes) node ≡ lens l → Writes (reading mode l text) before after answer
+
+-- and at the join of two.
+pub record EmitsJoin (bytes : Text) (left right : ℕ) (mode : Mode) (text before after : Text) (answer : Wrote) : Type 0 where
+  pub writes :
+      (l m : Lens)
+      → treeAt (trees bytes) left ≡ lens l
+      → treeAt (trees bytes) right ≡ lens m
+      → Writes (reading mode (join l m) text) before after answer
