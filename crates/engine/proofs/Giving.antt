@@ -5,13 +5,12 @@ use mathlib.Core.List.{List, _++_}
 use Prim.Native.Nat.{ℕ, _+_, _*_, _-_, _≤_, _<_, min}
 use native.Mathlib.Nat.{min-le-left, sub-zero}
 use native.Mathlib.Omega.{arith}
-use lib.Dec.{ltb}
 use lib.ListN.{length, take, drop}
 use lib.Seq.{take-append-seam}
 use borrow.Author.Tests.{lt-ltb, le-ltb}
 use Rattle.semantics.specs.Text.{Text}
 use Rattle.semantics.specs.Pattern.{Pattern, matches}
-use Rattle.semantics.specs.Lens.{Lens, Side, language, get}
+use Rattle.semantics.specs.Lens.{Lens, language}
 use Rattle.semantics.specs.Table.{nodeCount, lens, treeAt, trees}
 use Rattle.semantics.specs.Calls.{gives, refuses, refuseIf, program, withProgram, maxText, tooLong, notOf, output, bufferAfter}
 use Rattle.semantics.specs.Calls.{Answer as Outcome}
@@ -36,6 +35,7 @@ module _ {bytes : Text} {prepared : List ℕ} (ready : Ready bytes prepared) {ro
   pub root-at : (l : Lens) → program bytes ≡ gives l → treeAt (trees bytes) root ≡ lens l
   root-at l e = rw root-is (root-tree bytes (record { root = l; gives-root = e }))
 
+  -- it is a node of the program, with its words and the rows of its automata
   root-inside : root < nodeCount bytes
   root-inside = let right = accepted-sizes (ready .accepted) in omega arith
 
@@ -95,6 +95,7 @@ pub passed :
 unfolding refuseIf
 passed number e g = rw e g
 
+-- 12: the length of an input
 pub too-long : (t : Text) → maxText < length t → tooLong t ≡ true
 unfolding tooLong
 too-long t h = lt-ltb maxText (length t) h
@@ -103,7 +104,7 @@ pub not-too-long : (t : Text) → length t ≤ maxText → tooLong t ≡ false
 unfolding tooLong
 not-too-long t h = le-ltb maxText (length t) h
 
--- what the test of the root's language says
+-- 13 and 14: the test of the root's language
 pub not-of :
     {bytes text : Text} {side : SideOf} {in-it : Bool} (a : IsAccepted bytes)
     → Decides bytes side text in-it
@@ -113,6 +114,7 @@ not-of {side} a d = ap not (sym (d .decides (a .root) (a .gives-root)))
 
 -- ---- The result
 
+-- what a writer counts lies within its buffer
 pub counted : {text before after : Text} {wrote : Wrote} → Writes text before after wrote → Counted wrote after
 counted {text} {before} {after} w =
     record { within = λ n e. writes-within text before after n (subst (λ x. Writes text before after x) e w) }
@@ -120,7 +122,7 @@ counted {text} {before} {after} w =
 -- a text that had no room is refused
 pub finish-full : {result before : Text} {wrote : Wrote} → wrote ≡ Full → Finishes wrote result before before (Refusal 16 0)
 unfolding output
-finish-full {result} {before} {wrote} e = record { finishes = λ text start room w. go text start room w }
+finish-full {result} {before} {wrote} e = record { finishes = go }
   where
     go :
         (text start : Text)
@@ -139,14 +141,14 @@ given :
 unfolding answerFor bufferAfter
 given n-is after-is = record { answer-is = ap Result n-is; buffer-is = after-is }
 
--- one that had room is given: what was written stands at the start of the slice, and is copied
+-- one that had room is given: the bytes that were counted, lent as the prover says it, are the text
 pub finish-count :
     {result before after : Text} {wrote copied : Wrote} {n : ℕ}
     → wrote ≡ Count n
     → Writes (take (n - 0) result) before after copied
     → Finishes wrote result before after (Result n)
 unfolding output
-finish-count {result} {before} {after} {wrote} {copied} {n} e copy = record { finishes = λ text start room w. go text start room w }
+finish-count {result} {before} {after} {wrote} {copied} {n} e copy = record { finishes = go }
   where
     go :
         (text start : Text)

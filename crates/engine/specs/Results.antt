@@ -1,5 +1,6 @@
 -- What the calls that give a text have in common: the text is made in a slice of the call's own, and then copied out.
 use mathlib.Core.Path.{_≡_}
+use mathlib.Core.Bool.{Bool}
 use Prim.Native.Nat.{ℕ, _≤_, min}
 use lib.ListN.{length}
 use Rattle.semantics.specs.Text.{Text}
@@ -14,7 +15,6 @@ use Rattle.lens.specs.declared.Wrote.the-variants.{Count}
 use Rattle.lens.specs.Overlay.{Writes}
 use Rattle.engine.specs.declared.Answer.{Answer}
 use Rattle.engine.specs.Answers.{answerFor}
-use mathlib.Core.Bool.{Bool}
 
 -- The answer and the buffer afterwards are those of the outcome.
 pub record GivesText (outcome : Outcome Text) (before after : Text) (answer : Answer) : Type 0 where

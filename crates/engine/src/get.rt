@@ -52,10 +52,16 @@ fn get_with(bytes: &[u8], prepared: &[u64], source: &[u8], out: &mut [u8]) -> An
     ensures { λ r. ⌜ GivesText (getCall (now (bytes .entry)) (now (source .entry)) (length (now (out .entry)))) (now (out .entry)) (now (out .exit)) r ⌝ }
 {
     if 4096 < source.len() {
-        return Answer::Refusal { number: 12, node: 0 };
+        return Answer::Refusal {
+            number: 12,
+            node: 0,
+        };
     }
     if !belongs_to_root(bytes, prepared, Side::Source, source) {
-        return Answer::Refusal { number: 13, node: 0 };
+        return Answer::Refusal {
+            number: 13,
+            node: 0,
+        };
     }
     let mut result = no_text();
     let room = room_in(out.len());
@@ -77,8 +83,6 @@ fn get_into(
 {
     let mut flags = no_flags();
     let root = root_of(bytes);
-    let wrote = emit(
-        bytes, prepared, root, Mode::Get, source, &mut flags, result,
-    );
+    let wrote = emit(bytes, prepared, root, Mode::Get, source, &mut flags, result);
     finish(wrote, result, out)
 }

@@ -21,7 +21,7 @@ ghost use Rattle.engine.specs.Line.{Puts};
 
 pub mod get;
 mod line;
-pub mod results;
+mod results;
 
 // A result with its length, or a refusal with its number and node.
 pub enum Answer {

@@ -58,7 +58,10 @@ pub fn finish(wrote: Wrote, result: &[u8], out: &mut [u8]) -> Answer
     ensures { λ r. ⌜ Finishes wrote (now (result .entry)) (now (out .entry)) (now (out .exit)) r ⌝ }
 {
     match wrote {
-        Wrote::Full => Answer::Refusal { number: 16, node: 0 },
+        Wrote::Full => Answer::Refusal {
+            number: 16,
+            node: 0,
+        },
         Wrote::Count(length) => {
             write_text(&result[0..length], out);
             Answer::Result { length }

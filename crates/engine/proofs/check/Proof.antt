@@ -1,6 +1,5 @@
 -- `engine::check` meets its contract, from what the check in a lent slice says. Assumes nothing.
 use borrow.Author.Needs.{needs}
-use native.Mathlib.Omega.{arith}
 use denote.Ref.{now}
 use Rattle.engine.specs.Answers.{CheckedIs}
 use Rattle.engine.proofs.Verdicts.{told, check-refuses}

@@ -1,5 +1,5 @@
+-- `engine::get::get` meets its contract, from what the check in a lent slice says. Assumes nothing.
 use borrow.Author.Needs.{needs}
-use native.Mathlib.Omega.{arith}
 use denote.Ref.{now}
 use Rattle.semantics.specs.Calls.{getCall}
 use Rattle.engine.specs.Answers.{CheckedIs}
@@ -7,68 +7,48 @@ use Rattle.engine.proofs.Verdicts.{told}
 use Rattle.engine.proofs.Giving.{program-refuses}
 use Rattle.engine.proofs.get.get.Statement.{statement}
 use Rattle.engine.proofs.get.get.Tie as tie
-use Rattle.engine.proofs.get.get.Reads as reads
-use Rattle.engine.proofs.get.get.Lts as lts
-use Rattle.engine.proofs.check_in.Reads as check-in-reads
-use Rattle.engine.proofs.get.get_large.Reads as get-large-reads
-use Rattle.engine.proofs.get.get_with.Reads as get-with-reads
-use Rattle.engine.proofs.some_room.Reads as some-room-reads
 
--- src/get.rt:27:24
 some-room-requires : tie.Need-some-room-requires
 some-room-requires c κs = search needs
 
--- src/get.rt:28:35
 slice-aggregate-check-in : tie.Need-slice-aggregate-check-in
 slice-aggregate-check-in c = search needs
 
--- src/get.rt:28:9
 check-in-requires : tie.Need-check-in-requires
 check-in-requires c κs = search needs
 
--- src/get.rt:30:46
 enum-told : tie.Need-enum-told
 enum-told c = search needs
 
--- src/get.rt:30:46
 slice-aggregate-get-with : tie.Need-slice-aggregate-get-with
 slice-aggregate-get-with c = search needs
 
--- src/get.rt:30:30
 get-with-requires : tie.Need-get-with-requires
 unfolding CheckedIs
 get-with-requires c κs = told _ _ (c .before .before .before .before .before .check-in .ensures) (c .before .before .enum-told .given .1)
 
--- src/get.rt:31:28
 enum-known-checked : tie.Need-enum-known-checked
 enum-known-checked c = search needs
 
--- src/get.rt:32:52
 enum-told-2 : tie.Need-enum-told-2
 enum-told-2 c = search needs
 
--- src/get.rt:32:27
 get-large-requires : tie.Need-get-large-requires
 get-large-requires c κs = search needs
 
--- src/get.rt:24:1
 same-length : tie.Need-same-length
 same-length c = search needs
 
--- src/get.rt:24:1
 returns : tie.Need-returns
 returns c = search needs
 
--- src/get.rt:24:1
 returns-2 : tie.Need-returns-2
 unfolding CheckedIs getCall
 returns-2 c = program-refuses (now (c .before .before .before .before .before .before .before .before .before .before .args .bytes)) _ (told _ _ (c .before .before .before .before .check-in .ensures) (c .before .checked .given .1))
 
--- src/get.rt:24:1
 same-length-2 : tie.Need-same-length-2
 same-length-2 c = search needs
 
--- src/get.rt:24:1
 returns-3 : tie.Need-returns-3
 returns-3 c = search needs
 

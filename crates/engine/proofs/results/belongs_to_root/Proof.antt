@@ -1,26 +1,18 @@
+-- `engine::results::belongs_to_root` meets its contract: the root's automaton decides its language. Assumes nothing.
 use borrow.Author.Needs.{needs}
 use Rattle.engine.proofs.Giving.{root-words, root-room, root-decides}
 use Rattle.engine.proofs.results.belongs_to_root.Statement.{statement}
 use Rattle.engine.proofs.results.belongs_to_root.Tie as tie
-use Rattle.engine.proofs.results.belongs_to_root.Reads as reads
-use Rattle.engine.proofs.results.belongs_to_root.Lts as lts
-use Rattle.automaton.proofs.automaton_of.Reads as automaton-of-reads
-use Rattle.engine.proofs.results.root_of.Reads as root-of-reads
-use Rattle.language.proofs.belongs.Reads as belongs-reads
 
--- src/results.rt:29:9
 root-of-requires : tie.Need-root-of-requires
 root-of-requires c κs = search needs
 
--- src/results.rt:30:9
 automaton-of-requires : tie.Need-automaton-of-requires
 automaton-of-requires c κs = root-words (c .before .before .before .before .pre) (c .root-of .ensures)
 
--- src/results.rt:31:5
 belongs-requires : tie.Need-belongs-requires
 belongs-requires c κs = root-room (c .before .before .before .before .before .pre) (c .before .root-of .ensures) (c .before .before .before .before .before .args .side) (c .automaton-of .ensures)
 
--- src/results.rt:25:1
 returns : tie.Need-returns
 returns c = root-decides (c .before .before .before .before .before .before .pre) (c .before .before .root-of .ensures) (c .before .automaton-of .ensures) (c .belongs .ensures)
 

@@ -1,45 +1,34 @@
+-- `engine::results::finish` meets its contract: the bytes that were counted are the text. Assumes nothing.
 use borrow.Author.Needs.{needs}
 use native.Mathlib.Omega.{arith}
 use Rattle.engine.proofs.Giving.{finish-full, finish-count}
 use Rattle.engine.proofs.results.finish.Statement.{statement}
 use Rattle.engine.proofs.results.finish.Tie as tie
-use Rattle.engine.proofs.results.finish.Reads as reads
-use Rattle.engine.proofs.results.finish.Lts as lts
-use Rattle.lens.proofs.texts.write_text.Reads as write-text-reads
 
--- src/results.rt:61:24
 enum-told : tie.Need-enum-told
 enum-told c = search needs
 
--- src/results.rt:62:22
 enum-known-wrote : tie.Need-enum-known-wrote
 enum-known-wrote c = search needs
 
--- src/results.rt:63:24
 sub-write-text : tie.Need-sub-write-text
 sub-write-text c = search needs
 
--- src/results.rt:63:24
 part-write-text-start : tie.Need-part-write-text-start
 part-write-text-start c = search needs
 
--- src/results.rt:63:24
 part-write-text-end : tie.Need-part-write-text-end
 part-write-text-end c = omega (arith, c .before .before .before .before .before .pre .within _ (c .before .wrote .given .1))
 
--- src/results.rt:63:13
 write-text-requires : tie.Need-write-text-requires
 write-text-requires c κs = search needs
 
--- src/results.rt:56:1
 returns : tie.Need-returns
 returns c = finish-full (c .enum-told .given .1)
 
--- src/results.rt:56:1
 same-length : tie.Need-same-length
 same-length c = search needs
 
--- src/results.rt:56:1
 returns-2 : tie.Need-returns-2
 returns-2 c = finish-count (c .before .before .before .before .before .before .wrote .given .1) (c .before .before .write-text .ensures)
 
