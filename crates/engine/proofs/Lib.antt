@@ -2,3 +2,4 @@
 pub mod Verdicts
 pub mod Texts
 pub mod Giving
+pub mod Sourcing

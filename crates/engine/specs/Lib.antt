@@ -2,3 +2,5 @@
 pub mod Answers
 pub mod Line
 pub mod Results
+pub mod Sources
+pub mod Demand3

@@ -19,9 +19,12 @@ ghost use Rattle.table.specs.Rules.{AllSized};
 ghost use Rattle.engine.specs.Answers.{answerFor, IsAccepted, Ready, CheckedIs};
 ghost use Rattle.engine.specs.Line.{Puts};
 
+pub mod create;
 pub mod get;
 mod line;
+pub mod put;
 mod results;
+mod sources;
 
 // A result with its length, or a refusal with its number and node.
 pub enum Answer {

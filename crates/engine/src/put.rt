@@ -1,0 +1,111 @@
+// The call Put: a source from a sheet and an old source.
+use crate::Answer;
+use crate::Checked;
+use crate::check_in;
+use crate::full_room;
+use crate::results::belongs_to_root;
+use crate::results::no_flags;
+use crate::results::no_text;
+use crate::results::room_in;
+use crate::results::root_of;
+use crate::some_room;
+use crate::sources::source_into;
+use automaton::Side;
+use lens::Book;
+use lens::list::Listing;
+use lens::list::list;
+ghost use Prim.Native.Nat.{_≤_};
+ghost use lib.ListN.{length};
+ghost use Rattle.semantics.specs.Calls.{putCall};
+ghost use Rattle.engine.specs.Answers.{Ready};
+ghost use Rattle.engine.specs.Results.{GivesText};
+ghost use Rattle.engine.specs.Sources.{ListsSource};
+
+// The call, with room first for most programs and then for every program.
+pub fn put(bytes: &[u8], sheet: &[u8], source: &[u8], out: &mut [u8]) -> Answer
+    ensures { λ r. ⌜ GivesText (putCall (now (bytes .entry)) (now (sheet .entry)) (now (source .entry)) (length (now (out .entry)))) (now (out .entry)) (now (out .exit)) r ⌝ }
+{
+    let mut prepared = some_room();
+    let checked = check_in(bytes, &mut prepared);
+    match checked {
+        Checked::Accepted => put_with(bytes, &prepared, sheet, source, out),
+        Checked::Refused { number, node } => Answer::Refusal { number, node },
+        Checked::Small => put_large(bytes, sheet, source, out),
+    }
+}
+
+// The same with room for every program.
+fn put_large(bytes: &[u8], sheet: &[u8], source: &[u8], out: &mut [u8]) -> Answer
+    ensures { λ r. ⌜ GivesText (putCall (now (bytes .entry)) (now (sheet .entry)) (now (source .entry)) (length (now (out .entry)))) (now (out .entry)) (now (out .exit)) r ⌝ }
+{
+    let mut prepared = full_room();
+    let checked = check_in(bytes, &mut prepared);
+    match checked {
+        Checked::Accepted => put_with(bytes, &prepared, sheet, source, out),
+        Checked::Refused { number, node } => Answer::Refusal { number, node },
+        Checked::Small => Answer::Refusal { number: 0, node: 0 },
+    }
+}
+
+// The entries of an old source, in a book of their own.
+fn entries_of(bytes: &[u8], prepared: &[u64], source: &[u8]) -> Listing
+    requires { ⌜ Ready (now bytes) (now prepared) ⌝ }
+    requires { ⌜ length (now source) ≤ 4096 ⌝ }
+    ensures { λ r. ⌜ ListsSource (now (bytes .entry)) (now (source .entry)) r ⌝ }
+{
+    let root = root_of(bytes);
+    let mut flags = no_flags();
+    let book = Book::empty();
+    list(bytes, prepared, root, source, 0, &mut flags, book)
+}
+
+// The source of a sheet and an old source, of a program that is accepted and prepared.
+fn put_with(bytes: &[u8], prepared: &[u64], sheet: &[u8], source: &[u8], out: &mut [u8]) -> Answer
+    requires { ⌜ Ready (now bytes) (now prepared) ⌝ }
+    ensures { λ r. ⌜ GivesText (putCall (now (bytes .entry)) (now (sheet .entry)) (now (source .entry)) (length (now (out .entry)))) (now (out .entry)) (now (out .exit)) r ⌝ }
+{
+    if 4096 < sheet.len() {
+        return Answer::Refusal {
+            number: 12,
+            node: 0,
+        };
+    }
+    if 4096 < source.len() {
+        return Answer::Refusal {
+            number: 12,
+            node: 0,
+        };
+    }
+    if !belongs_to_root(bytes, prepared, Side::Source, source) {
+        return Answer::Refusal {
+            number: 13,
+            node: 0,
+        };
+    }
+    if !belongs_to_root(bytes, prepared, Side::Sheet, sheet) {
+        return Answer::Refusal {
+            number: 14,
+            node: 0,
+        };
+    }
+    let listing = entries_of(bytes, prepared, source);
+    if listing.over {
+        return Answer::Refusal {
+            number: 15,
+            node: 0,
+        };
+    }
+    let book = listing.book;
+    let mut result = no_text();
+    let room = room_in(out.len());
+    source_into(
+        bytes,
+        prepared,
+        sheet,
+        true,
+        source,
+        book,
+        &mut result[0..room],
+        out,
+    )
+}
