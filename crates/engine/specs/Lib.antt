@@ -4,3 +4,4 @@ pub mod Line
 pub mod Results
 pub mod Sources
 pub mod Demand3
+pub mod Exports

@@ -20,6 +20,7 @@ ghost use Rattle.engine.specs.Answers.{answerFor, IsAccepted, Ready, Che
 ghost use Rattle.engine.specs.Line.{Puts};
 
 pub mod create;
+pub mod exports;
 pub mod get;
 mod line;
 pub mod put;
