@@ -1,0 +1,89 @@
+// A case's line: its name, then the text in quotes, `result` and the length of a longer text, or `refused`, number and node.
+use engine::Answer;
+use libc::STDOUT_FILENO;
+
+// Above this, a text's length stands for it.
+const LONGEST_SHOWN: usize = 200;
+
+// A name and what goes between it and the answer.
+fn begin(name: &[u8]) {
+    io::write_all(STDOUT_FILENO, name);
+    io::write_all(STDOUT_FILENO, b": ");
+}
+
+// A text in quotes, and the end of its line.
+fn quoted(text: &[u8]) {
+    io::write_all(STDOUT_FILENO, b"\"");
+    io::write_all(STDOUT_FILENO, text);
+    io::write_all(STDOUT_FILENO, b"\"\n");
+}
+
+// A result that is not shown, by its length.
+fn result(length: usize) {
+    io::write_all(STDOUT_FILENO, b"result ");
+    io::print_decimal(STDOUT_FILENO, length as u64);
+    io::write_all(STDOUT_FILENO, b"\n");
+}
+
+fn refused(number: usize, node: usize) {
+    io::write_all(STDOUT_FILENO, b"refused ");
+    io::print_decimal(STDOUT_FILENO, number as u64);
+    io::write_all(STDOUT_FILENO, b" ");
+    io::print_decimal(STDOUT_FILENO, node as u64);
+    io::write_all(STDOUT_FILENO, b"\n");
+}
+
+// What a call answered, whose result is at the start of its buffer.
+fn answer(answer: Answer, out: &[u8]) {
+    match answer {
+        Answer::Result { length } => {
+            if length <= LONGEST_SHOWN && length <= out.len() {
+                quoted(&out[0..length]);
+            } else {
+                result(length);
+            }
+        }
+        Answer::Refusal { number, node } => refused(number, node),
+    }
+}
+
+// A text that is no answer.
+pub fn text(name: &[u8], text: &[u8]) {
+    begin(name);
+    quoted(text);
+}
+
+pub fn check(name: &[u8], table: &[u8]) {
+    begin(name);
+    let checked = engine::check(table);
+    match checked {
+        Answer::Result { length } => result(length),
+        Answer::Refusal { number, node } => refused(number, node),
+    }
+}
+
+pub fn get(name: &[u8], table: &[u8], source: &[u8]) {
+    begin(name);
+    let mut out = io::buffer();
+    let got = engine::get::get(table, source, &mut out);
+    answer(got, &out);
+}
+
+pub fn put(name: &[u8], table: &[u8], sheet: &[u8], source: &[u8]) {
+    let mut out = io::buffer();
+    put_into(name, table, sheet, source, &mut out);
+}
+
+// Put with a buffer of the caller's.
+pub fn put_into(name: &[u8], table: &[u8], sheet: &[u8], source: &[u8], out: &mut [u8]) {
+    begin(name);
+    let made = engine::put::put(table, sheet, source, out);
+    answer(made, out);
+}
+
+pub fn create(name: &[u8], table: &[u8], sheet: &[u8]) {
+    begin(name);
+    let mut out = io::buffer();
+    let made = engine::create::create(table, sheet, &mut out);
+    answer(made, &out);
+}
