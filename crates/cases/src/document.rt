@@ -20,9 +20,19 @@ pub fn calls_of_k() {
     check(b"empty input, check", b"");
     get(b"K, get AB1;C22;", &PROGRAM_K, b"AB1;C22;");
     get(b"K, get of nothing", &PROGRAM_K, b"");
-    put(b"K, put C;AB; on AB1;C22;", &PROGRAM_K, b"C;AB;", b"AB1;C22;");
+    put(
+        b"K, put C;AB; on AB1;C22;",
+        &PROGRAM_K,
+        b"C;AB;",
+        b"AB1;C22;",
+    );
     put(b"K, put C;D; on AB1;C22;", &PROGRAM_K, b"C;D;", b"AB1;C22;");
-    put(b"K, put AB;AB; on AB1;C22;", &PROGRAM_K, b"AB;AB;", b"AB1;C22;");
+    put(
+        b"K, put AB;AB; on AB1;C22;",
+        &PROGRAM_K,
+        b"AB;AB;",
+        b"AB1;C22;",
+    );
     put(b"K, put A;A; on A1;A2;", &PROGRAM_K, b"A;A;", b"A1;A2;");
     create(b"K, create AB;", &PROGRAM_K, b"AB;");
     get(b"K, get Z;", &PROGRAM_K, b"Z;");
@@ -32,18 +42,41 @@ pub fn calls_of_k() {
     create(b"K, create AB1;", &PROGRAM_K, b"AB1;");
     let mut no_key = PROGRAM_K;
     no_key[11] = 16;
-    put(b"copy instead of key, put C;AB; on AB1;C22;", &no_key, b"C;AB;", b"AB1;C22;");
+    put(
+        b"copy instead of key, put C;AB; on AB1;C22;",
+        &no_key,
+        b"C;AB;",
+        b"AB1;C22;",
+    );
 }
 
 // Buffers with room for the result, with one byte less, and with more.
 pub fn buffers() {
     let mut exact = [b'-'; 8];
-    put_into(b"K, put C;AB; on AB1;C22; in 8 bytes", &PROGRAM_K, b"C;AB;", b"AB1;C22;", &mut exact);
+    put_into(
+        b"K, put C;AB; on AB1;C22; in 8 bytes",
+        &PROGRAM_K,
+        b"C;AB;",
+        b"AB1;C22;",
+        &mut exact,
+    );
     let mut short = [b'-'; 7];
-    put_into(b"K, put C;AB; on AB1;C22; in 7 bytes", &PROGRAM_K, b"C;AB;", b"AB1;C22;", &mut short);
+    put_into(
+        b"K, put C;AB; on AB1;C22; in 7 bytes",
+        &PROGRAM_K,
+        b"C;AB;",
+        b"AB1;C22;",
+        &mut short,
+    );
     text(b"the 7 bytes afterwards", &short);
     let mut ample = [b'-'; 12];
-    put_into(b"K, put C;AB; on AB1;C22; in 12 bytes", &PROGRAM_K, b"C;AB;", b"AB1;C22;", &mut ample);
+    put_into(
+        b"K, put C;AB; on AB1;C22; in 12 bytes",
+        &PROGRAM_K,
+        b"C;AB;",
+        b"AB1;C22;",
+        &mut ample,
+    );
     text(b"the 12 bytes afterwards", &ample);
 }
 
@@ -52,7 +85,10 @@ pub fn typing() {
     check(b"join of copy a* and copy a*, check", &TWO_STARS);
     check(b"union of copy A-M and copy M-Z, check", &ARMS_SHARE_M);
     check(b"union of copy A-M and copy N-Z, check", &ARMS_SHARE_NONE);
-    check(b"repeat of const a to the empty word, check", &REPEAT_OF_NOTHING);
+    check(
+        b"repeat of const a to the empty word, check",
+        &REPEAT_OF_NOTHING,
+    );
     check(b"repeat of copy a*, check", &REPEAT_OF_STAR);
     check(b"copy of (a or a), check", &SAME_TWICE);
     get(b"copy of (a or a), get a", &SAME_TWICE, b"a");
@@ -62,12 +98,33 @@ pub fn typing() {
 pub fn many_entries() {
     let more = ENTRIES_257;
     get(b"K, get 257 times A;", &PROGRAM_K, &more);
-    put(b"K, put 257 times A; on 257 times A;", &PROGRAM_K, &more, &more);
+    put(
+        b"K, put 257 times A; on 257 times A;",
+        &PROGRAM_K,
+        &more,
+        &more,
+    );
     let mut none = [0u8; 0];
-    put_into(b"K, put 257 times A; on 257 times A; in 0 bytes", &PROGRAM_K, &more, &more, &mut none);
+    put_into(
+        b"K, put 257 times A; on 257 times A; in 0 bytes",
+        &PROGRAM_K,
+        &more,
+        &more,
+        &mut none,
+    );
     let most = &more[0..512];
-    put(b"K, put 256 times A; on 256 times A;", &PROGRAM_K, most, most);
-    put(b"K, put 257 times A; on 256 times A;", &PROGRAM_K, &ENTRIES_257, most);
+    put(
+        b"K, put 256 times A; on 256 times A;",
+        &PROGRAM_K,
+        most,
+        most,
+    );
+    put(
+        b"K, put 257 times A; on 256 times A;",
+        &PROGRAM_K,
+        &ENTRIES_257,
+        most,
+    );
     put(b"K, put of nothing on 256 times A;", &PROGRAM_K, b"", most);
 }
 

@@ -18,39 +18,93 @@ pub fn cut_by_the_end() {
     get(b"repeat of a, ab, bb, get abbbb", &PARITY, b"abbbb");
     let mut odd = [b'b'; 4096];
     odd[0] = b'a';
-    get(b"repeat of a, ab, bb, get a and 4,095 times b", &PARITY, &odd);
+    get(
+        b"repeat of a, ab, bb, get a and 4,095 times b",
+        &PARITY,
+        &odd,
+    );
     let mut even = [b'b'; 4095];
     even[0] = b'a';
-    get(b"repeat of a, ab, bb, get a and 4,094 times b", &PARITY, &even);
-    put(b"repeat of a, ab, bb, put 13 on a and 4,095 times b", &PARITY, b"13", &odd);
+    get(
+        b"repeat of a, ab, bb, get a and 4,094 times b",
+        &PARITY,
+        &even,
+    );
+    put(
+        b"repeat of a, ab, bb, put 13 on a and 4,095 times b",
+        &PARITY,
+        b"13",
+        &odd,
+    );
 }
 
 // Determined states would be some 2^60.
 pub fn many_states() {
     let mut text = [b'a'; 4096];
-    get(b"copy of (a or b)* a and 60 more, get 4,096 times a", &SIXTY_BEFORE_THE_END, &text);
+    get(
+        b"copy of (a or b)* a and 60 more, get 4,096 times a",
+        &SIXTY_BEFORE_THE_END,
+        &text,
+    );
     text[4035] = b'b';
-    get(b"copy of (a or b)* a and 60 more, get with b 61st from the end", &SIXTY_BEFORE_THE_END, &text);
-    create(b"copy of (a or b)* a and 60 more, create 4,096 bytes", &SIXTY_BEFORE_THE_END, &[b'a'; 4096]);
+    get(
+        b"copy of (a or b)* a and 60 more, get with b 61st from the end",
+        &SIXTY_BEFORE_THE_END,
+        &text,
+    );
+    create(
+        b"copy of (a or b)* a and 60 more, create 4,096 bytes",
+        &SIXTY_BEFORE_THE_END,
+        &[b'a'; 4096],
+    );
 }
 
 // The sheet of one old entry has 524,288 bytes, or its key 520,065.
 pub fn wide_sheets() {
     let old = [b'a'; 4096];
-    get(b"an entry with a sheet of 524,288 bytes, get", &WIDE_SHEET, &old);
-    put(b"an entry with a sheet of 524,288 bytes, put 4,096 times b", &WIDE_SHEET, &[b'b'; 4096], &old);
+    get(
+        b"an entry with a sheet of 524,288 bytes, get",
+        &WIDE_SHEET,
+        &old,
+    );
+    put(
+        b"an entry with a sheet of 524,288 bytes, put 4,096 times b",
+        &WIDE_SHEET,
+        &[b'b'; 4096],
+        &old,
+    );
     let mut marked = [b'a'; 4096];
     marked[4095] = b'c';
-    put(b"an entry with a key of 520,065 bytes, put bb", &WIDE_KEY, b"bb", &marked);
+    put(
+        b"an entry with a key of 520,065 bytes, put bb",
+        &WIDE_KEY,
+        b"bb",
+        &marked,
+    );
 }
 
 // 127 empty entries in front of each byte: 520,192 in all.
 pub fn empty_entries() {
     let text = [b'a'; 4096];
     get(b"520,192 empty entries, get", &EMPTY_ENTRIES, &text);
-    put(b"520,192 empty entries, put on them", &EMPTY_ENTRIES, &text, &text);
-    put(b"520,192 empty entries, put on 254", &EMPTY_ENTRIES, &text, b"aa");
-    put(b"254 empty entries, put on 381", &EMPTY_ENTRIES, b"aa", b"aaa");
+    put(
+        b"520,192 empty entries, put on them",
+        &EMPTY_ENTRIES,
+        &text,
+        &text,
+    );
+    put(
+        b"520,192 empty entries, put on 254",
+        &EMPTY_ENTRIES,
+        &text,
+        b"aa",
+    );
+    put(
+        b"254 empty entries, put on 381",
+        &EMPTY_ENTRIES,
+        b"aa",
+        b"aaa",
+    );
     create(b"520,192 empty entries, create", &EMPTY_ENTRIES, &text);
 }
 
@@ -58,7 +112,11 @@ pub fn empty_entries() {
 pub fn long_defaults() {
     create(b"defaults of 3,968 bytes, create a", &LONG_DEFAULTS, b"a");
     create(b"defaults of 3,968 bytes, create aa", &LONG_DEFAULTS, b"aa");
-    create(b"defaults of 3,968 bytes, create 4,096 times a", &LONG_DEFAULTS, &[b'a'; 4096]);
+    create(
+        b"defaults of 3,968 bytes, create 4,096 times a",
+        &LONG_DEFAULTS,
+        &[b'a'; 4096],
+    );
 }
 
 // A search through short texts would miss the text with two cuts.

@@ -37,36 +37,106 @@ const REMOVED: [u8; 75] = *b"Benjamin Britten, British\n\
 // l$ alone and repeated, by key and by place.
 pub fn entries() {
     get(b"l$, get xxyzz$", &ONE_ENTRY, b"xxyzz$");
-    get(b"matches of l$ repeated, get xyz$xxyyzz$", &ENTRIES_BY_KEY, b"xyz$xxyyzz$");
-    put(b"matches of l$ repeated, put xxzzz$x$ on xyz$xxyyzz$", &ENTRIES_BY_KEY, b"xxzzz$x$", b"xyz$xxyyzz$");
-    get(b"l$ repeated, get xyz$xxyyzz$", &ENTRIES_BY_PLACE, b"xyz$xxyyzz$");
-    put(b"l$ repeated, put xxzzz$x$ on xyz$xxyyzz$", &ENTRIES_BY_PLACE, b"xxzzz$x$", b"xyz$xxyyzz$");
+    get(
+        b"matches of l$ repeated, get xyz$xxyyzz$",
+        &ENTRIES_BY_KEY,
+        b"xyz$xxyyzz$",
+    );
+    put(
+        b"matches of l$ repeated, put xxzzz$x$ on xyz$xxyyzz$",
+        &ENTRIES_BY_KEY,
+        b"xxzzz$x$",
+        b"xyz$xxyyzz$",
+    );
+    get(
+        b"l$ repeated, get xyz$xxyyzz$",
+        &ENTRIES_BY_PLACE,
+        b"xyz$xxyyzz$",
+    );
+    put(
+        b"l$ repeated, put xxzzz$x$ on xyz$xxyyzz$",
+        &ENTRIES_BY_PLACE,
+        b"xxzzz$x$",
+        b"xyz$xxyyzz$",
+    );
 }
 
 // l$$ and its basic version.
 pub fn one_or_two() {
     get(b"l$$, get xyz$xxyyzz$", &ONE_OR_TWO_BY_KEY, b"xyz$xxyyzz$");
-    put(b"l$$, put xxzz$ on xyz$xxyyzz$", &ONE_OR_TWO_BY_KEY, b"xxzz$", b"xyz$xxyyzz$");
-    get(b"one or two l$, get xyz$xxyyzz$", &ONE_OR_TWO_BY_PLACE, b"xyz$xxyyzz$");
-    put(b"one or two l$, put xxzz$ on xyz$xxyyzz$", &ONE_OR_TWO_BY_PLACE, b"xxzz$", b"xyz$xxyyzz$");
+    put(
+        b"l$$, put xxzz$ on xyz$xxyyzz$",
+        &ONE_OR_TWO_BY_KEY,
+        b"xxzz$",
+        b"xyz$xxyyzz$",
+    );
+    get(
+        b"one or two l$, get xyz$xxyyzz$",
+        &ONE_OR_TWO_BY_PLACE,
+        b"xyz$xxyyzz$",
+    );
+    put(
+        b"one or two l$, put xxzz$ on xyz$xxyyzz$",
+        &ONE_OR_TWO_BY_PLACE,
+        b"xxzz$",
+        b"xyz$xxyyzz$",
+    );
 }
 
 pub fn composers_by_place() {
     get(b"composers by place, get", &COMPOSERS_BY_PLACE, &COMPOSERS);
-    get(b"composers by place, get of nothing", &COMPOSERS_BY_PLACE, b"");
-    put(b"composers by place, put edited and added", &COMPOSERS_BY_PLACE, &ADDED, &COMPOSERS);
-    put(b"composers by place, put reordered", &COMPOSERS_BY_PLACE, &REORDERED, &COMPOSERS);
+    get(
+        b"composers by place, get of nothing",
+        &COMPOSERS_BY_PLACE,
+        b"",
+    );
+    put(
+        b"composers by place, put edited and added",
+        &COMPOSERS_BY_PLACE,
+        &ADDED,
+        &COMPOSERS,
+    );
+    put(
+        b"composers by place, put reordered",
+        &COMPOSERS_BY_PLACE,
+        &REORDERED,
+        &COMPOSERS,
+    );
 }
 
 pub fn composers_by_key() {
     get(b"composers by key, get", &COMPOSERS_BY_KEY, &COMPOSERS);
     get(b"composers by key, get of nothing", &COMPOSERS_BY_KEY, b"");
-    put(b"composers by key, put unedited", &COMPOSERS_BY_KEY, &NATIONALITIES, &COMPOSERS);
-    put(b"composers by key, put edited and added", &COMPOSERS_BY_KEY, &ADDED, &COMPOSERS);
-    put(b"composers by key, put reordered", &COMPOSERS_BY_KEY, &REORDERED, &COMPOSERS);
-    put(b"composers by key, put with one removed", &COMPOSERS_BY_KEY, &REMOVED, &COMPOSERS);
+    put(
+        b"composers by key, put unedited",
+        &COMPOSERS_BY_KEY,
+        &NATIONALITIES,
+        &COMPOSERS,
+    );
+    put(
+        b"composers by key, put edited and added",
+        &COMPOSERS_BY_KEY,
+        &ADDED,
+        &COMPOSERS,
+    );
+    put(
+        b"composers by key, put reordered",
+        &COMPOSERS_BY_KEY,
+        &REORDERED,
+        &COMPOSERS,
+    );
+    put(
+        b"composers by key, put with one removed",
+        &COMPOSERS_BY_KEY,
+        &REMOVED,
+        &COMPOSERS,
+    );
     create(b"composers by key, create", &COMPOSERS_BY_KEY, &REMOVED);
-    get(b"composers by key, a newline in a name", &COMPOSERS_BY_KEY, b"Jean\nSibelius, 1865-1957, Finnish");
+    get(
+        b"composers by key, a newline in a name",
+        &COMPOSERS_BY_KEY,
+        b"Jean\nSibelius, 1865-1957, Finnish",
+    );
 }
 
 // What 003's typing turns down.
