@@ -4,6 +4,7 @@ mod document;
 mod document_tables;
 mod extreme;
 mod extreme_tables;
+mod nodes;
 mod report;
 mod report_tables;
 mod show;
@@ -25,4 +26,6 @@ fn main() {
     extreme::empty_entries();
     extreme::long_defaults();
     extreme::long_texts_with_two_cuts();
+    nodes::nodes_of_k();
+    nodes::positions_across_numbers();
 }
