@@ -1,0 +1,139 @@
+//! From the table's bytes to text.
+//!
+//! Node 5 is called `n5`. The pool and the places of words are printed only if
+//! assembling would not find them by itself. A node that is not of its kind's
+//! form (an unknown kind, a child that is not lower, a word outside the pool, an
+//! unused operand that is not 0) is printed as `raw` with its four bytes, so
+//! that every table whose sizes are right comes back byte for byte.
+
+use std::fmt;
+
+use crate::assembly::{MAX_NODES, MAX_POOL};
+use crate::kinds::{by_byte, Shape};
+use crate::line::{quote_byte, quote_text};
+
+const POOL_BYTES_A_LINE: usize = 48;
+
+/// The sizes of the bytes are not those of a table.
+#[derive(Clone, Debug, PartialEq, Eq)]
+pub struct WrongSizes(pub String);
+
+impl fmt::Display for WrongSizes {
+    fn fmt(&self, f: &mut fmt::Formatter<'_>) -> fmt::Result {
+        write!(f, "these bytes are no table: {} (the engine refuses them with 1)", self.0)
+    }
+}
+
+/// The text of a table.
+pub fn show(table: &[u8]) -> Result<String, WrongSizes> {
+    let parts = Parts::of(table).map_err(WrongSizes)?;
+    let nodes: Vec<Shown> = (0..parts.kinds.len()).map(|number| parts.node(number)).collect();
+    let words_suffice = parts.pool_of_words(&nodes).is_some_and(|pool| pool == parts.pool);
+
+    let mut text = format!("# nodes: {}, pool bytes: {}\n", parts.kinds.len(), parts.pool.len());
+    if !words_suffice {
+        for part in parts.pool.chunks(POOL_BYTES_A_LINE) {
+            text += &format!("pool {}\n", quote_text(part));
+        }
+    }
+    let width = format!("n{}", nodes.len() - 1).len();
+    for (number, node) in nodes.iter().enumerate() {
+        let name = format!("n{number}");
+        let definition = match node {
+            Shown::Word { start, text } if words_suffice || first_place(parts.pool, text) == Some(*start) => {
+                format!("word {}", quote_text(text))
+            }
+            Shown::Word { start, text } => format!("word {} at {start}", quote_text(text)),
+            Shown::Other(definition) => definition.clone(),
+        };
+        text += &format!("{name:width$} = {definition}\n");
+    }
+    Ok(text)
+}
+
+enum Shown<'a> {
+    Word { start: usize, text: &'a [u8] },
+    Other(String),
+}
+
+/// The arrays of a table whose sizes are right.
+struct Parts<'a> {
+    kinds: &'a [u8],
+    operands: &'a [u8],
+    pool: &'a [u8],
+}
+
+impl<'a> Parts<'a> {
+    fn of(table: &'a [u8]) -> Result<Parts<'a>, String> {
+        let (sizes, rest) = match table {
+            [count, high, low, rest @ ..] => {
+                ([usize::from(*count), usize::from(*high) * 256 + usize::from(*low)], rest)
+            }
+            _ => return Err("a table has at least three bytes".to_string()),
+        };
+        let [count, pool_length] = sizes;
+        if !(1..=MAX_NODES).contains(&count) {
+            return Err(format!("the first byte says {count} nodes, and 1 to {MAX_NODES} are possible"));
+        }
+        if pool_length > MAX_POOL {
+            return Err(format!("the second and third byte say a pool of {pool_length}, and {MAX_POOL} is the most"));
+        }
+        let expected = 3 + 4 * count + pool_length;
+        if table.len() != expected {
+            return Err(format!("the first three bytes ask for {expected} bytes, and there are {}", table.len()));
+        }
+        let (kinds, rest) = rest.split_at(count);
+        let (operands, pool) = rest.split_at(3 * count);
+        Ok(Parts { kinds, operands, pool })
+    }
+
+    fn node(&self, number: usize) -> Shown<'a> {
+        let kind = self.kinds[number];
+        let record = &self.operands[3 * number..3 * number + 3];
+        let (a, b, c) = (record[0], record[1], record[2]);
+        let raw = |why: &str| Shown::Other(format!("raw {kind} {a} {b} {c}  # {why}"));
+        let Some(form) = by_byte(kind) else {
+            return raw("an unknown kind");
+        };
+        if form.shape == Shape::Word {
+            let start = usize::from(a) * 256 + usize::from(b);
+            let part = self.pool.get(start..start + usize::from(c));
+            return part.map_or_else(|| raw("a word outside the pool"), |text| Shown::Word { start, text });
+        }
+        if form.shape == Shape::Range {
+            let range = format!("range {} {}", quote_byte(a), quote_byte(b));
+            return if c == 0 { Shown::Other(range) } else { raw("an unused operand of a range is not 0") };
+        }
+        let (children, unused) = record.split_at(form.shape.children());
+        if children.iter().any(|&child| usize::from(child) >= number) {
+            return raw("a child that is not lower");
+        }
+        if unused.iter().any(|&byte| byte != 0) {
+            return raw("an unused operand is not 0");
+        }
+        let names: String = children.iter().map(|child| format!(" n{child}")).collect();
+        Shown::Other(format!("{}{names}", form.words))
+    }
+
+    /// The pool that the words alone would make, if each came to its own place.
+    fn pool_of_words(&self, nodes: &[Shown]) -> Option<Vec<u8>> {
+        let mut pool = Vec::new();
+        for node in nodes {
+            if let Shown::Word { start, text } = node {
+                let place = first_place(&pool, text).unwrap_or_else(|| {
+                    pool.extend(*text);
+                    pool.len() - text.len()
+                });
+                if place != *start {
+                    return None;
+                }
+            }
+        }
+        Some(pool)
+    }
+}
+
+/// Where a pool first holds a text.
+fn first_place(pool: &[u8], text: &[u8]) -> Option<usize> {
+    (0..=pool.len()).find(|&start| pool[start..].starts_with(text))
+}

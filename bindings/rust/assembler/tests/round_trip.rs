@@ -1,0 +1,135 @@
+//! Assembling what was shown gives the same bytes, for every table whose sizes
+//! are right, whether the engine takes it or not.
+
+use noontrough_assembler::{assemble, show};
+use noontrough_reference::generator::faults::{mutated, refused, PROGRAM_REFUSALS};
+use noontrough_reference::generator::programs::accepted;
+use noontrough_reference::generator::random::Random;
+use noontrough_reference::Program;
+
+fn comes_back(table: &[u8]) {
+    let text = show(table).unwrap_or_else(|wrong| panic!("{table:?}: {wrong}"));
+    match assemble(text.as_bytes()) {
+        Ok(assembled) => assert_eq!(assembled.table, table, "shown as\n{text}"),
+        Err(mistake) => panic!("{table:?} shown as\n{text}{mistake}"),
+    }
+}
+
+fn sizes_are_right(table: &[u8]) -> bool {
+    !matches!(Program::read(table), Err(refusal) if refusal.number == 1)
+}
+
+/// A table of right sizes with any bytes; small operands look more like nodes.
+fn any_table(random: &mut Random) -> Vec<u8> {
+    let count = if random.once_in(4) { *random.pick(&[1, 2, 95, 96]) } else { random.between(1, 20) };
+    let pool = match random.below(4) {
+        0 => 0,
+        1 => *random.pick(&[1, 255, 256, 257, 511, 512]),
+        _ => random.between(0, 40),
+    };
+    let mut table = vec![count as u8, (pool / 256) as u8, (pool % 256) as u8];
+    let kinds = [0, 0, 1, 2, 3, 4, 5, 16, 17, 18, 19, 20, 21, 22, 23, 255];
+    table.extend((0..count).map(|_| *random.pick(&kinds)));
+    let largest = *random.pick(&[1, 3, 24, 256]);
+    table.extend((0..3 * count).map(|_| random.below(largest) as u8));
+    let (first, last) = *random.pick(&[(0, 255), (b'a', b'b'), (b' ', b'~'), (b'"', b'\\')]);
+    table.extend((0..pool).map(|_| random.between(first.into(), last.into()) as u8));
+    table
+}
+
+#[test]
+fn tables_of_any_bytes() {
+    let mut random = Random::new(1);
+    for _ in 0..20_000 {
+        comes_back(&any_table(&mut random));
+    }
+}
+
+#[test]
+fn accepted_programs_and_changed_ones() {
+    let mut random = Random::new(2);
+    for _ in 0..300 {
+        let table = accepted(&mut random).table();
+        comes_back(&table);
+        for _ in 0..10 {
+            let changed = mutated(&mut random, &table);
+            if sizes_are_right(&changed) {
+                comes_back(&changed);
+            } else {
+                assert!(show(&changed).is_err(), "{changed:?}");
+            }
+        }
+    }
+}
+
+#[test]
+fn programs_refused_with_each_number() {
+    let mut random = Random::new(3);
+    for number in PROGRAM_REFUSALS {
+        for _ in 0..20 {
+            let table = refused(&mut random, number, &mut accepted);
+            if number == 1 {
+                assert!(show(&table).is_err(), "{table:?}");
+            } else {
+                comes_back(&table);
+            }
+        }
+    }
+}
+
+#[test]
+fn every_byte_in_quotes() {
+    let pool: Vec<u8> = (0..=255).chain(0..=255).collect();
+    let mut table = vec![5, 2, 0, 0, 0, 0, 0, 0];
+    for start in [0u8, 60, 120, 180, 200] {
+        table.extend([1, start, 55]);
+    }
+    table.extend(pool);
+    comes_back(&table);
+}
+
+/// Whatever the text is, it is told what is wrong, or it makes a table whose
+/// sizes are right.
+#[test]
+fn garbled_texts() {
+    let mut random = Random::new(5);
+    let (mut made, mut turned_down) = (0, 0);
+    for _ in 0..3000 {
+        let mut text = show(&any_table(&mut random)).expect("the sizes are right").into_bytes();
+        for _ in 0..random.between(1, 4) {
+            let place = random.below(text.len());
+            match random.below(4) {
+                0 => text[place] = random.byte(),
+                1 => text[place] = *random.pick(b"\"'\\#= \n0n"),
+                2 => text.truncate(place + 1),
+                _ => {
+                    let end = random.between(place, text.len());
+                    text.drain(place..end.min(text.len() - 1));
+                }
+            }
+        }
+        match assemble(&text) {
+            Ok(assembled) => {
+                comes_back(&assembled.table);
+                made += 1;
+            }
+            Err(mistake) => {
+                let lines = text.split(|&byte| byte == b'\n').count();
+                assert!((1..=lines).contains(&mistake.line) && !mistake.message.is_empty(), "{mistake}");
+                turned_down += 1;
+            }
+        }
+    }
+    assert!(made > 100 && turned_down > 100, "{made} made, {turned_down} turned down");
+}
+
+/// A text is not changed by a second turn.
+#[test]
+fn shown_text_stays() {
+    let mut random = Random::new(4);
+    for _ in 0..1000 {
+        let text = show(&any_table(&mut random)).expect("the sizes are right");
+        let again = assemble(text.as_bytes()).expect("it comes back").table;
+        assert_eq!(show(&again).expect("the sizes are right"), text);
+    }
+}

@@ -1,0 +1,56 @@
+//! What a call answers: the length of its result, or a refusal with its node.
+
+/// The length of the result (for check: the number of nodes), or a refusal.
+pub type Answer = Result<usize, Refusal>;
+
+/// A numbered refusal and the node it concerns.
+#[derive(Clone, Copy, Debug, PartialEq, Eq, Hash, PartialOrd, Ord)]
+pub struct Refusal {
+    pub number: u8,
+    pub node: u8,
+}
+
+impl Refusal {
+    /// A refusal at a node. Nodes are numbered below 96, so a byte holds them.
+    pub fn at(number: u8, node: usize) -> Refusal {
+        Refusal { number, node: node as u8 }
+    }
+
+    /// A refusal that concerns no node of its own; such ones say node 0.
+    pub fn of_call(number: u8) -> Refusal {
+        Refusal { number, node: 0 }
+    }
+}
+
+/// Node count, pool length or total length wrong.
+pub const SIZES_WRONG: u8 = 1;
+/// Unknown kind.
+pub const UNKNOWN_KIND: u8 = 2;
+/// An operand breaks a rule, a child is of the wrong sort, or the root is no lens.
+pub const BAD_OPERAND: u8 = 3;
+/// A match whose child holds a match.
+pub const MATCH_IN_MATCH: u8 = 4;
+/// A size or position limit passed.
+pub const LIMIT_PASSED: u8 = 5;
+/// A const's default is not in its pattern.
+pub const BAD_DEFAULT: u8 = 6;
+/// A join cut two ways in the source.
+pub const SOURCE_JOIN_AMBIGUOUS: u8 = 7;
+/// A join cut two ways in the sheet.
+pub const SHEET_JOIN_AMBIGUOUS: u8 = 8;
+/// The sources of a union's arms overlap.
+pub const UNION_OVERLAPS: u8 = 9;
+/// A repeat fails in the source: empty part, or two cuts.
+pub const SOURCE_REPEAT_AMBIGUOUS: u8 = 10;
+/// A repeat fails in the sheet: empty part, or two cuts.
+pub const SHEET_REPEAT_AMBIGUOUS: u8 = 11;
+/// Source or sheet over 4,096 bytes.
+pub const TEXT_TOO_LONG: u8 = 12;
+/// Not a source of the program.
+pub const NOT_A_SOURCE: u8 = 13;
+/// Not a sheet of the program.
+pub const NOT_A_SHEET: u8 = 14;
+/// The old source has over 256 entries.
+pub const TOO_MANY_ENTRIES: u8 = 15;
+/// The result is longer than the buffer or than 4,096 bytes.
+pub const RESULT_TOO_LONG: u8 = 16;

@@ -1,0 +1,173 @@
+//! Random calls: a program, its texts, and the length of the lent buffer.
+
+use super::draft::Draft;
+use super::faults::{mutated, refused, PROGRAM_REFUSALS};
+use super::programs::accepted;
+use super::random::Random;
+use super::texts::{draw, draw_of_length, edit, garbage};
+use crate::calls::{MAX_ENTRIES, MAX_TEXT};
+use crate::program::Program;
+use crate::table::{Node, Side};
+
+#[derive(Clone, Copy, Debug, PartialEq, Eq, Hash, PartialOrd, Ord)]
+pub enum Call {
+    Check,
+    Get,
+    Put,
+    Create,
+}
+
+/// One call. Texts that a call does not take are empty.
+#[derive(Clone, Debug)]
+pub struct Case {
+    pub call: Call,
+    pub table: Vec<u8>,
+    pub sheet: Vec<u8>,
+    pub source: Vec<u8>,
+    /// The length of the lent output buffer.
+    pub lent: usize,
+}
+
+/// Calls about one program: refused ones are checked and called with texts that
+/// would fit other programs, accepted ones get texts of all sorts.
+pub fn program_cases(random: &mut Random) -> Vec<Case> {
+    let table = match random.below(8) {
+        0 => {
+            let number = random.between(usize::from(*PROGRAM_REFUSALS.start()), usize::from(*PROGRAM_REFUSALS.end()));
+            refused(random, number as u8, &mut accepted)
+        }
+        1 => {
+            let table = accepted(random).table();
+            mutated(random, &table)
+        }
+        _ => accepted(random).table(),
+    };
+    cases_of(random, table)
+}
+
+/// A check of a table, and gets, puts and creates with it.
+pub fn cases_of(random: &mut Random, table: Vec<u8>) -> Vec<Case> {
+    let mut cases =
+        vec![Case { call: Call::Check, table: table.clone(), sheet: Vec::new(), source: Vec::new(), lent: 0 }];
+    match Program::read(&table) {
+        Ok(program) => {
+            for _ in 0..8 {
+                cases.push(text_case(random, &table, &program));
+            }
+        }
+        Err(_) => {
+            for call in [Call::Get, Call::Put, Call::Create] {
+                let text = garbage(random, b"AB1;");
+                cases.push(case(call, &table, text.clone(), text, random.below(20)));
+            }
+        }
+    }
+    cases
+}
+
+fn case(call: Call, table: &[u8], sheet: Vec<u8>, source: Vec<u8>, lent: usize) -> Case {
+    let (sheet, source) = match call {
+        Call::Check => (Vec::new(), Vec::new()),
+        Call::Get => (Vec::new(), source),
+        Call::Put => (sheet, source),
+        Call::Create => (sheet, Vec::new()),
+    };
+    Case { call, table: table.to_vec(), sheet, source, lent }
+}
+
+fn text_case(random: &mut Random, table: &[u8], program: &Program) -> Case {
+    let call = *random.pick(&[Call::Get, Call::Put, Call::Put, Call::Put, Call::Create]);
+    let source = any_text(random, program, Side::Source);
+    let sheet = if call == Call::Put && !random.once_in(4) && is_source(program, &source) {
+        let sheet = program.get(&source);
+        if random.once_in(4) {
+            sheet
+        } else {
+            edit(random, program, &sheet)
+        }
+    } else {
+        any_text(random, program, Side::Sheet)
+    };
+    let lent = lent_length(random, program, call, &sheet, &source);
+    case(call, table, sheet, source, lent)
+}
+
+fn is_source(program: &Program, text: &[u8]) -> bool {
+    text.len() <= MAX_TEXT && program.fits(program.root(), Side::Source, text)
+}
+
+fn is_sheet(program: &Program, text: &[u8]) -> bool {
+    text.len() <= MAX_TEXT && program.fits(program.root(), Side::Sheet, text)
+}
+
+/// Mostly a short legal text; sometimes garbage, a text with a length at a
+/// limit, or one with a number of entries at the limit.
+fn any_text(random: &mut Random, program: &Program, side: Side) -> Vec<u8> {
+    match random.below(24) {
+        0..=1 => {
+            let legal = legal_text(random, program, side);
+            garbage(random, &legal)
+        }
+        2 => text_at_length_limit(random, program, side),
+        3 => text_at_entry_limit(random, program, side),
+        _ => legal_text(random, program, side),
+    }
+}
+
+pub fn legal_text(random: &mut Random, program: &Program, side: Side) -> Vec<u8> {
+    let more = *random.pick(&[1, 3, 3, 8]);
+    draw(random, program.table(), program.root(), side, more, 120)
+}
+
+/// A legal text of a length at or beside a limit if there is one; otherwise
+/// garbage of that length.
+pub fn text_at_length_limit(random: &mut Random, program: &Program, side: Side) -> Vec<u8> {
+    let length = *random.pick(&[0, 1, MAX_TEXT - 1, MAX_TEXT, MAX_TEXT + 1]);
+    draw_of_length(random, program.automaton(program.root(), side), length).unwrap_or_else(|| vec![b'A'; length])
+}
+
+/// A text of 256 or 257 parts at the root, if the root is a repeat.
+pub fn text_at_entry_limit(random: &mut Random, program: &Program, side: Side) -> Vec<u8> {
+    let Node::LensRepeat(part) = *program.node(program.root()) else {
+        return legal_text(random, program, side);
+    };
+    let count = MAX_ENTRIES + random.below(2);
+    (0..count).flat_map(|_| draw(random, program.table(), part, side, 1, 2)).collect()
+}
+
+/// A length around that of the result, or around the longest result.
+fn lent_length(random: &mut Random, program: &Program, call: Call, sheet: &[u8], source: &[u8]) -> usize {
+    let legal = (call == Call::Create || is_source(program, source)) && (call == Call::Get || is_sheet(program, sheet));
+    let exact = match call {
+        Call::Get if legal => program.get(source).len(),
+        Call::Create if legal => program.create(sheet).len(),
+        // Over the limit put is refused before a result is measured.
+        Call::Put if legal && program.count_entries(source) <= MAX_ENTRIES => {
+            program.put(sheet, source, program.book(source)).len()
+        }
+        _ => random.below(16),
+    };
+    // Results far over the limit need no buffer of their size.
+    let exact = exact.min(2 * MAX_TEXT);
+    match random.below(8) {
+        0 => 0,
+        1 | 2 => exact,
+        3 => exact.saturating_sub(1),
+        4 => exact + 1,
+        5 => MAX_TEXT + random.below(1000),
+        _ => MAX_TEXT,
+    }
+}
+
+/// An accepted program of the shape that the last clause of demand 3 speaks of.
+pub fn one_repeated_entry(random: &mut Random) -> (Draft, Program) {
+    loop {
+        let draft = accepted(random);
+        let Ok(program) = Program::read(&draft.table()) else { continue };
+        if let Node::LensRepeat(part) = *program.node(program.root()) {
+            if matches!(program.node(part), Node::Match(_)) {
+                return (draft, program);
+            }
+        }
+    }
+}

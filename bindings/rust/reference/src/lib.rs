@@ -1,0 +1,36 @@
+//! An independent implementation of lens programs over sheets and sources.
+//!
+//! It exists to be compared with the sheet engine. Both follow the same paper
+//! ("document 01") and share no code and, where there is a choice, no method:
+//! this one uses Thompson automata with free moves, plain vectors and whole
+//! results in memory, and prefers the obvious way to the fast one. It is still
+//! exact for texts of any length: whether a text has two cuts is decided on
+//! pairs of automaton states, never by trying texts.
+//!
+//! Reading order:
+//!
+//! | Module | Holds |
+//! |---|---|
+//! | [`answer`] | what a call answers, and the numbers of the refusals |
+//! | [`table`] | bytes to nodes, the limits, the first round (1 to 5) |
+//! | [`automaton`] | one automaton for each node and side; belonging to a language |
+//! | [`ambiguity`] | two cuts of one text, and texts of two languages |
+//! | [`program`] | the second round (6 to 11); the only cut of a text |
+//! | [`lens`] | get, key, book, put and create |
+//! | [`calls`] | the four calls and their order of refusals (12 to 16) |
+//! | [`generator`] | seeded random programs, texts and calls |
+//! | [`trial`] | any implementation compared with this one, call by call |
+
+pub mod ambiguity;
+pub mod answer;
+pub mod automaton;
+pub mod calls;
+pub mod generator;
+pub mod lens;
+pub mod program;
+pub mod table;
+pub mod trial;
+
+pub use answer::{Answer, Refusal};
+pub use calls::{Calls, Reference};
+pub use program::Program;

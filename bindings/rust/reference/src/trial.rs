@@ -1,0 +1,97 @@
+//! Any implementation of the calls compared with the reference, call by call:
+//! the answer and every byte of the buffer.
+
+use std::collections::BTreeMap;
+use std::fmt;
+
+use crate::answer::Answer;
+use crate::calls::{Calls, Reference};
+use crate::generator::cases::{program_cases, Call, Case};
+use crate::generator::random::Random;
+
+/// What can be seen of a call afterwards.
+#[derive(Clone, Debug, PartialEq, Eq)]
+pub struct Outcome {
+    pub answer: Answer,
+    pub buffer: Vec<u8>,
+}
+
+/// What a lent buffer holds before the call: no two neighbours alike, so that a
+/// byte moved or written out of place shows.
+pub fn lent_buffer(length: usize) -> Vec<u8> {
+    (0..length).map(|index| (index * 151 + 89) as u8).collect()
+}
+
+pub fn run(calls: &dyn Calls, case: &Case) -> Outcome {
+    let mut buffer = lent_buffer(case.lent);
+    let answer = match case.call {
+        Call::Check => calls.check(&case.table),
+        Call::Get => calls.get(&case.table, &case.source, &mut buffer),
+        Call::Put => calls.put(&case.table, &case.sheet, &case.source, &mut buffer),
+        Call::Create => calls.create(&case.table, &case.sheet, &mut buffer),
+    };
+    Outcome { answer, buffer }
+}
+
+/// How often each call gave a result (0) or each refusal (its number).
+#[derive(Clone, Debug, Default)]
+pub struct Tally {
+    counts: BTreeMap<(Call, u8), usize>,
+}
+
+impl Tally {
+    pub fn note(&mut self, call: Call, answer: Answer) {
+        let number = answer.map_or_else(|refusal| refusal.number, |_| 0);
+        *self.counts.entry((call, number)).or_default() += 1;
+    }
+
+    pub fn total(&self) -> usize {
+        self.counts.values().sum()
+    }
+
+    /// How often a number came up in all calls together.
+    pub fn of_number(&self, number: u8) -> usize {
+        self.counts.iter().filter(|((_, n), _)| *n == number).map(|(_, count)| count).sum()
+    }
+}
+
+impl fmt::Display for Tally {
+    fn fmt(&self, f: &mut fmt::Formatter<'_>) -> fmt::Result {
+        for number in 0..=16 {
+            let name = if number == 0 { "result".to_string() } else { format!("refusal {number}") };
+            write!(f, "{name:>10}")?;
+            for call in [Call::Check, Call::Get, Call::Put, Call::Create] {
+                let count = self.counts.get(&(call, number)).copied().unwrap_or(0);
+                write!(f, "  {call:?} {count:>7}")?;
+            }
+            writeln!(f)?;
+        }
+        Ok(())
+    }
+}
+
+/// A call on which two implementations differ.
+#[derive(Debug)]
+pub struct Difference {
+    pub case: Case,
+    pub expected: Outcome,
+    pub found: Outcome,
+}
+
+/// Compares an implementation with the reference on the calls of `programs`
+/// random programs, and stops at the first difference.
+pub fn compare(calls: &dyn Calls, seed: u64, programs: usize) -> Result<Tally, Box<Difference>> {
+    let mut random = Random::new(seed);
+    let mut tally = Tally::default();
+    for _ in 0..programs {
+        for case in program_cases(&mut random) {
+            let expected = run(&Reference, &case);
+            let found = run(calls, &case);
+            if found != expected {
+                return Err(Box::new(Difference { case, expected, found }));
+            }
+            tally.note(case.call, expected.answer);
+        }
+    }
+    Ok(tally)
+}

@@ -1,0 +1,141 @@
+/*
+ * noontrough.h: the sheet engine's four calls.
+ *
+ * A lens program turns a source into a sheet (get), and an edited sheet back
+ * into a source (put, create). A program is a table of bytes, made for instance
+ * by sheet-assemble; docs/GUIDE.md says how to write one. Texts are bytes, with
+ * no terminating zero: a zero byte is a byte like any other.
+ *
+ * What holds for every call:
+ *
+ * Slices   A slice is a pointer to its first byte and a length in bytes. The
+ *          pointer must not be NULL, not even with length 0; an empty slice may
+ *          have any other pointer, and nothing is read or written through it.
+ *          All bytes of the length must be readable, and those of `out`
+ *          writable. Any contents are allowed, of any length: they give a
+ *          result or a numbered refusal, and the call ends.
+ * Overlap  `out` must not overlap any other slice of the call. The other slices
+ *          are only read.
+ * Output   A result stands at the start of `out`, from its first byte on; the
+ *          bytes of `out` behind it are not changed. A refusal changes no byte
+ *          of `out`.
+ * Memory   Nothing is kept: when a call returns, the caller may reuse or free
+ *          every slice. The program is checked anew on each call.
+ * Stack    At most NOONTROUGH_STACK_BYTES bytes. This is more than the threads of
+ *          some systems and languages are given; a call that finds less may end
+ *          the process.
+ * Threads  The engine has no state of its own. Calls may run at the same time,
+ *          also on the same table and texts, as long as no other thread writes
+ *          to a slice that a call was given.
+ */
+#ifndef NOONTROUGH_H
+#define NOONTROUGH_H
+
+#include <stddef.h>
+#include <stdint.h>
+
+#ifdef __cplusplus
+extern "C" {
+#endif
+
+/* The longest source, sheet and result, in bytes. An output buffer of this
+ * length is always long enough for a result that the engine can give. */
+#define NOONTROUGH_MAX_TEXT 4096
+
+/* The most entries that the old source of a put may have. */
+#define NOONTROUGH_MAX_ENTRIES 256
+
+/* The stack that a call needs: at most 3 MiB. On x86-64, 2.0 MB were measured
+ * for a put of 256 entries with a flat program, and 2.8 MB with joins nested as
+ * deep as 96 nodes allow, the most of all programs tried; get and check took at
+ * most 0.9 MB. The bound is measured, not proved (docs/PERFORMANCE.md). */
+#define NOONTROUGH_STACK_BYTES (3 * 1024 * 1024)
+
+/*
+ * The refusals. They are tried in this order: the program (1 to 11), the texts
+ * (12 to 14), the number of old entries (15), the room for the result (16).
+ * docs/GUIDE.md explains each by an example.
+ */
+enum noontrough_refusal {
+    NOONTROUGH_SIZES_WRONG = 1,           /* node count, pool length or table length wrong */
+    NOONTROUGH_UNKNOWN_KIND = 2,          /* a node of unknown kind */
+    NOONTROUGH_BAD_OPERAND = 3,           /* an operand breaks a rule, or the root is no lens */
+    NOONTROUGH_MATCH_IN_MATCH = 4,        /* a match inside a match */
+    NOONTROUGH_LIMIT_PASSED = 5,          /* a node too large: size 512, 128 positions a side */
+    NOONTROUGH_BAD_DEFAULT = 6,           /* a const's default is not in its pattern */
+    NOONTROUGH_SOURCE_JOIN_TWO_CUTS = 7,  /* a source of a join can be cut two ways */
+    NOONTROUGH_SHEET_JOIN_TWO_CUTS = 8,   /* a sheet of a join can be cut two ways */
+    NOONTROUGH_UNION_OVERLAP = 9,         /* a text is a source of both arms of a union */
+    NOONTROUGH_SOURCE_REPEAT_CUTS = 10,   /* a repeat: empty part or two cuts, in the source */
+    NOONTROUGH_SHEET_REPEAT_CUTS = 11,    /* a repeat: empty part or two cuts, in the sheet */
+    NOONTROUGH_TEXT_TOO_LONG = 12,        /* source or sheet over 4,096 bytes */
+    NOONTROUGH_NOT_A_SOURCE = 13,         /* the source is none of this program */
+    NOONTROUGH_NOT_A_SHEET = 14,          /* the sheet is none of this program */
+    NOONTROUGH_TOO_MANY_ENTRIES = 15,     /* the old source of a put has over 256 entries */
+    NOONTROUGH_RESULT_TOO_LONG = 16       /* the result is longer than `out`, or than 4,096 bytes */
+};
+
+/* What a call answers. What does not apply is 0. */
+struct noontrough_answer {
+    uint64_t number; /* 0 for a result, else the refusal, 1 to 16 */
+    uint64_t node;   /* for a refusal from 2 to 11, the node concerned, counted from 0; else 0 */
+    uint64_t length; /* for a result, its length in bytes (check: the number of nodes); else 0 */
+};
+
+/*
+ * Tests a program.
+ *
+ * table, table_len   the program's table
+ *
+ * Result: the length is the program's number of nodes. Refusals: 1 to 11.
+ */
+struct noontrough_answer noontrough_check(uint8_t const *table, size_t table_len);
+
+/*
+ * Gives the sheet of a source.
+ *
+ * table, table_len     the program's table
+ * source, source_len   the source, at most 4,096 bytes
+ * out, out_len         where the sheet goes; the result must fit out_len
+ *
+ * Result: the length is the sheet's. Refusals: 1 to 13 and 16.
+ */
+struct noontrough_answer noontrough_get(uint8_t const *table, size_t table_len,
+                                        uint8_t const *source, size_t source_len,
+                                        uint8_t *out, size_t out_len);
+
+/*
+ * Gives a new source from an edited sheet and the old source. Entries are found
+ * by their keys; what the sheet does not show comes from the old source.
+ *
+ * table, table_len     the program's table
+ * sheet, sheet_len     the edited sheet, at most 4,096 bytes
+ * source, source_len   the old source, at most 4,096 bytes and 256 entries
+ * out, out_len         where the new source goes; the result must fit out_len
+ *
+ * Result: the length is the new source's. Refusals: 1 to 16.
+ */
+struct noontrough_answer noontrough_put(uint8_t const *table, size_t table_len,
+                                        uint8_t const *sheet, size_t sheet_len,
+                                        uint8_t const *source, size_t source_len,
+                                        uint8_t *out, size_t out_len);
+
+/*
+ * Gives a source from a sheet alone, with the program's defaults for what the
+ * sheet does not show.
+ *
+ * table, table_len   the program's table
+ * sheet, sheet_len   the sheet, at most 4,096 bytes
+ * out, out_len       where the source goes; the result must fit out_len
+ *
+ * Result: the length is the source's. Refusals: 1 to 12, 14 and 16.
+ */
+struct noontrough_answer noontrough_create(uint8_t const *table, size_t table_len,
+                                           uint8_t const *sheet, size_t sheet_len,
+                                           uint8_t *out, size_t out_len);
+
+#ifdef __cplusplus
+}
+#endif
+
+#endif
