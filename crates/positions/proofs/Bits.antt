@@ -8,7 +8,7 @@ use native.Mathlib.Numerals.{one-add, add-one}
 use native.Mathlib.Omega.{arith}
 use borrow.Author.Tests.{ltb-true, ltb-false, lt-ltb, le-ltb, leb-true, leb-false, le-leb, lt-leb, eqb-true, eqb-false, eq-eqb, ne-eqb, not-true}
 use lib.Arith.{lt-one}
-use lib.Bits.{bitAnd, bitOr, and-shr, and-mod, or-shr, or-mod, or-lt, and-le-l, shifted-even}
+use lib.Bits.{bitAnd, bitOr, bitXor, and-shr, and-mod, or-shr, or-mod, xor-shr, xor-mod, or-lt, and-le-l, shifted-even}
 use lib.Dec.{ltb, leb, eqb, eqb·zero-suc, eqb·suc-zero, eqb·suc-suc}
 use lib.Pow.{shl-exact, shl-shr, shr-lt, shr-shr, field, mod-mod-pow, pow-add, pow-mono}
 use Rattle.positions.specs.declared.Set.{Set}
@@ -188,16 +188,36 @@ and-digits true false = refl
 and-digits false true = refl
 and-digits false false = refl
 
+-- The bits of the second number, added and then flipped away.
+abbrev pub cleared : ℕ → ℕ → ℕ
+cleared a b = bitXor (bitOr a b) b
+
+cleared-digits : (x y : Bool) → eqb (cleared (cond x 1 0) (cond y 1 0)) 1 ≡ (not y && x)
+cleared-digits true true = refl
+cleared-digits true false = refl
+cleared-digits false true = refl
+cleared-digits false false = refl
+
 -- The bits of an `or`.
 bit-or : (a b j : ℕ) → bit j (bitOr a b) ≡ (bit j a || bit j b)
 bit-or = bit-op bitOr _||_ or-shr or-mod or-digits
 
--- What the two numbers' `or` and `and` hold.
+-- What the two numbers' `or` and `and` hold, and what is left of one without the other.
 pub holds-or : (s t : Set) (q : ℕ) → holds (each bitOr s t) q ≡ (holds s q || holds t q)
 holds-or = holds-op bitOr _||_ or-shr or-mod or-digits refl
 
-holds-and : (s t : Set) (q : ℕ) → holds (each bitAnd s t) q ≡ (holds s q && holds t q)
+pub holds-and : (s t : Set) (q : ℕ) → holds (each bitAnd s t) q ≡ (holds s q && holds t q)
 holds-and = holds-op bitAnd _&&_ and-shr and-mod and-digits refl
+
+pub holds-cleared : (s t : Set) (q : ℕ) → holds (each cleared s t) q ≡ (not (holds t q) && holds s q)
+holds-cleared =
+    holds-op
+    cleared
+    (λ x y. not y && x)
+    (λ a b k. xor-shr (bitOr a b) b k ∙ ap (λ n. bitXor n (b / 2 ^ k)) (or-shr a b k))
+    (λ a b k. xor-mod (bitOr a b) b k ∙ ap (λ n. bitXor n (b % 2 ^ k)) (or-mod a b k))
+    cleared-digits
+    refl
 
 -- ---- A set moved up by n
 

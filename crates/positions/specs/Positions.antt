@@ -1,6 +1,6 @@
 -- Which positions a set holds: those below 64 are the bits of `low`, those from 64 to 127 the bits of `high`.
 use mathlib.Core.Path.{_≡_}
-use mathlib.Core.Bool.{Bool, true, false, _&&_, _||_, cond}
+use mathlib.Core.Bool.{Bool, true, false, not, _&&_, _||_, cond}
 use Prim.Native.Nat.{ℕ, _-_, _/_, _%_, _^_, _<_}
 use lib.Dec.{ltb, leb, eqb}
 use Rattle.positions.specs.declared.Set.{Set}
@@ -25,9 +25,17 @@ Only p r = (q : ℕ) → holds r q ≡ eqb q p
 abbrev pub Added : Set → ℕ → Set → Type 0
 Added s p r = (q : ℕ) → holds r q ≡ (eqb q p || holds s q)
 
+-- r holds what s holds, but not p.
+abbrev pub Removed : Set → ℕ → Set → Type 0
+Removed s p r = (q : ℕ) → holds r q ≡ (not (eqb q p) && holds s q)
+
 -- r holds what s or t holds.
 abbrev pub Joined : Set → Set → Set → Type 0
 Joined s t r = (q : ℕ) → holds r q ≡ (holds s q || holds t q)
+
+-- r holds what s and t both hold.
+abbrev pub Met : Set → Set → Set → Type 0
+Met s t r = (q : ℕ) → holds r q ≡ (holds s q && holds t q)
 
 -- Some position is held by both.
 abbrev pub Shared : Set → Set → Type 0

@@ -3,7 +3,7 @@ ghost use mathlib.Core.Path.{_≡_};
 ghost use mathlib.Core.Bool.{true};
 ghost use mathlib.Core.Logic.{_↔_};
 ghost use Prim.Native.Nat.{_<_};
-ghost use Rattle.positions.specs.Positions.{holds, Empty, Only, Added, Joined, Shared, Moved};
+ghost use Rattle.positions.specs.Positions.{holds, Empty, Only, Added, Removed, Joined, Met, Shared, Moved};
 
 // Positions 0 to 63 are the bits of low, 64 to 127 those of high.
 pub struct Set {
@@ -58,6 +58,18 @@ impl Set {
         Set::only(p).union(self)
     }
 
+    // The set without p: it is added, so that flipping it takes it away.
+    pub fn without(self, p: usize) -> Set
+        requires { ⌜ p < 128 ⌝ }
+        ensures { λ r. ⌜ Removed self p r ⌝ }
+    {
+        let one = Set::only(p);
+        Set {
+            low: (self.low | one.low) ^ one.low,
+            high: (self.high | one.high) ^ one.high,
+        }
+    }
+
     // What one of the two holds.
     pub fn union(self, other: Set) -> Set
         ensures { λ r. ⌜ Joined self other r ⌝ }
@@ -65,6 +77,16 @@ impl Set {
         Set {
             low: self.low | other.low,
             high: self.high | other.high,
+        }
+    }
+
+    // What both hold.
+    pub fn intersect(self, other: Set) -> Set
+        ensures { λ r. ⌜ Met self other r ⌝ }
+    {
+        Set {
+            low: self.low & other.low,
+            high: self.high & other.high,
         }
     }
 

@@ -39,7 +39,8 @@ use Rattle.typing.specs.Stages.{
   SomeFinal,
   StagedBy,
 }
-use Rattle.typing.proofs.Cells.{any-iff, gathered-iff, reached-within}
+use Rattle.typing.proofs.Cells.{any-iff, gathered-iff}
+use Rattle.typing.proofs.Sweeps.{reached-within}
 
 -- ---- A common byte
 

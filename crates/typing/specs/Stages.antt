@@ -31,13 +31,9 @@ pub record Gathered (n : ℕ) (gives : ℕ → ℕ → Bool) (r : Set) : Type 0 
 abbrev pub byFollow : List ℕ → ℕ → Set → ℕ → ℕ → Bool
 byFollow prepared start set p q = holds set p && holds (followOf prepared (start + p)) q
 
--- whether a position is in the set and shares a byte with that of a row
-abbrev pub chosenBy : List ℕ → ℕ → ℕ → Set → ℕ → Bool
-chosenBy prepared row start set p = holds set p && shareIn prepared row (start + p)
-
--- it gives itself, if it is chosen
-abbrev pub byChoice : List ℕ → ℕ → ℕ → Set → ℕ → ℕ → Bool
-byChoice prepared row start set p q = chosenBy prepared row start set p && eqb q p
+-- a position gives itself, if it shares a byte with that of a row
+abbrev pub bySharing : List ℕ → ℕ → ℕ → ℕ → ℕ → Bool
+bySharing prepared row start p q = shareIn prepared row (start + p) && eqb q p
 
 -- ---- Cells
 
@@ -76,12 +72,32 @@ pub record Meets (prepared : List ℕ) (a b : Automaton) (xs ys : Set) (x y : �
   pub in-right : holds ys y ≡ true
   pub share : shareIn prepared (a .start + x) (b .start + y) ≡ true
 
--- The rows from `from` to before `to` have gained the pairs that meet.
-pub record Poured (prepared : List ℕ) (a b : Automaton) (xs ys : Set) (from to : ℕ) (before after : List ℕ) (changed : Bool) : Type 0 where
-  pub change : Change before after changed
+-- The shares of an automaton whose rows start at `start`: before row `to`, row x holds the positions of b that share a byte with position x. The
+-- others hold nothing yet.
+pub record Shares (prepared : List ℕ) (start : ℕ) (b : Automaton) (to : ℕ) (shares : List ℕ) : Type 0 where
+  pub size : length shares ≡ 256
+  pub row-is : (x : ℕ) → x < to → Gathered (b .count) (bySharing prepared (start + x) (b .start)) (rowOf shares x)
+  pub rest : (x y : ℕ) → to ≤ x → held shares x y ≡ false
+
+-- Positions x of the first set and y of the second that are a pair of the shares.
+pub record Joins (shares : List ℕ) (xs ys : Set) (x y : ℕ) : Type 0 where
+  pub in-left : holds xs x ≡ true
+  pub in-right : holds ys y ≡ true
+  pub share : held shares x y ≡ true
+
+-- Rows have gained pairs. Those that did are due, beside those that were; where one has become due, the sum of the cells has grown.
+pub record Noted (to : ℕ) (before after : List ℕ) (due due′ : Set) : Type 0 where
+  pub still : (x : ℕ) → holds due x ≡ true → holds due′ x ≡ true
+  pub same : (x y : ℕ) → holds due′ x ≡ false → held after x y ≡ held before x y
+  pub rises : total before ≤ total after
+  pub grows : (x : ℕ) → holds due′ x ≡ true → (holds due x ≡ true) ⊎ ((x < to) × (total before < total after))
+
+-- The rows from `from` to before `to` have gained the pairs that the shares join.
+pub record Poured (shares : List ℕ) (xs ys : Set) (from to : ℕ) (before after : List ℕ) (due due′ : Set) : Type 0 where
+  pub noted : Noted to before after due due′
   pub keeps : (x y : ℕ) → held before x y ≡ true → held after x y ≡ true
-  pub only : (x y : ℕ) → held after x y ≡ true → (held before x y ≡ true) ⊎ Meets prepared a b xs ys x y
-  pub all : (x y : ℕ) → from ≤ x → x < to → Meets prepared a b xs ys x y → held after x y ≡ true
+  pub only : (x y : ℕ) → held after x y ≡ true → (held before x y ≡ true) ⊎ ((x < to) × Joins shares xs ys x y)
+  pub all : (x y : ℕ) → from ≤ x → x < to → Joins shares xs ys x y → held after x y ≡ true
 
 -- one common byte leads from the pair (x, y) to the pair (i, j)
 abbrev pub Onward : List ℕ → Automaton → Automaton → ℕ → ℕ → ℕ → ℕ → Type 0
@@ -101,19 +117,21 @@ pub record Led (prepared : List ℕ) (a b : Automaton) (before after : List ℕ)
   pub keeps : (x y : ℕ) → held before x y ≡ true → held after x y ≡ true
   pub sound : (begun : Set) → Sound prepared a b begun before → Sound prepared a b begun after
 
--- The pairs of the rows from `from` to before `to` have been led on by one byte.
-pub record Swept (prepared : List ℕ) (a b : Automaton) (from to : ℕ) (before after : List ℕ) (changed : Bool) : Type 0 where
-  pub change : Change before after changed
+-- The rows that are not due are settled: one common byte leads from their pairs to pairs that are set.
+pub record Settled (prepared : List ℕ) (a b : Automaton) (due : Set) (cells : List ℕ) : Type 0 where
+  pub onward :
+      (x y i j : ℕ) → holds due x ≡ false → y < b .count → held cells x y ≡ true → Onward prepared a b x y i j
+      → held cells i j ≡ true
+
+-- The pairs of the due rows from `from` to before `to` have been led on by one byte. A row that is due now was so and is none of those, or the
+-- sum of the cells has grown.
+pub record Swept (prepared : List ℕ) (a b : Automaton) (from to : ℕ) (before after : List ℕ) (due due′ : Set) : Type 0 where
   pub led : Led prepared a b before after
-  pub closed :
-      changed ≡ false
-      → (x y i j : ℕ)
-      → from ≤ x
-      → x < to
-      → y < b .count
-      → held after x y ≡ true
-      → Onward prepared a b x y i j
-      → held after i j ≡ true
+  pub settles : Settled prepared a b due before → Settled prepared a b due′ after
+  pub rises : total before ≤ total after
+  pub grows :
+      (x : ℕ) → holds due′ x ≡ true
+      → ((holds due x ≡ true) × (from ≤ x → to ≤ x)) ⊎ ((x < a .count) × (total before < total after))
 
 -- No pair is set.
 pub record Blank (cells : List ℕ) : Type 0 where
