@@ -45,11 +45,11 @@ extern "C" {
 /* The most entries that the old source of a put may have. */
 #define NOONTROUGH_MAX_ENTRIES 256
 
-/* The stack that a call needs: at most 3 MiB. On x86-64, 2.0 MB were measured
- * for a put of 256 entries with a flat program, and 2.8 MB with joins nested as
+/* The stack that a call needs: at most 6 MiB. On x86-64, 3.3 MB were measured
+ * for a put of 256 entries with a flat program, and 4.4 MB with joins nested as
  * deep as 96 nodes allow, the most of all programs tried; get and check took at
  * most 0.9 MB. The bound is measured, not proved (docs/PERFORMANCE.md). */
-#define NOONTROUGH_STACK_BYTES (3 * 1024 * 1024)
+#define NOONTROUGH_STACK_BYTES (6 * 1024 * 1024)
 
 /*
  * The refusals. They are tried in this order: the program (1 to 11), the texts

@@ -23,7 +23,7 @@
 /// The most stack that a call uses, with room to spare. The main thread usually
 /// has 8 MiB. A thread of `std::thread` has 2 MiB unless it is started with
 /// `std::thread::Builder::stack_size`, or `RUST_MIN_STACK` is set.
-pub const STACK_BYTES: usize = 3 * 1024 * 1024;
+pub const STACK_BYTES: usize = 6 * 1024 * 1024;
 
 /// The longest source, sheet and result. A buffer of this length is long enough
 /// for every result.

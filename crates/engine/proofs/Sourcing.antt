@@ -1,32 +1,33 @@
 -- The book that a call begins with, and the source that is written with it.
-use mathlib.Core.Path.{_≡_, refl, sym, _∙_}
+use mathlib.Core.Path.{_≡_, refl, sym, ap, _∙_}
 use mathlib.Core.Bool.{Bool, true, false, _||_}
 use mathlib.Core.List.{List}
-use Prim.Native.Nat.{ℕ, _-_, _≤_, _<_, min}
+use mathlib.Core.Option.{none, some}
+use Prim.Native.Nat.{ℕ, _+_, _-_, _*_, _≤_, _<_, min}
 use native.Mathlib.Omega.{arith}
 use lib.Dec.{ltb}
-use lib.ListN.{length}
+use lib.ListN.{length, take, drop}
 use lib.Seq.{take-length}
 use borrow.Author.Tests.{lt-ltb, le-ltb, not-false}
 use Rattle.semantics.specs.Text.{Text}
 use Rattle.semantics.specs.Pattern.{In, matches}
-use Rattle.semantics.specs.Lens.{Lens, source, language, entries, put, create}
-use Rattle.semantics.specs.Table.{nodeCount, lens, treeAt, trees}
-use Rattle.semantics.specs.Calls.{gives, program, maxText, maxEntries, tooLong, notOf, output}
+use Rattle.semantics.specs.Lens.{Lens, source, language, entries, put, create, write}
+use Rattle.semantics.specs.Table.{nodeCount, treeAt, trees}
+use Rattle.semantics.specs.Calls.{gives, program, maxText, maxEntries, tooLong, notOf}
 use Rattle.laws.specs.Membership.{matches-in}
-use Rattle.lens.specs.declared.Book.{Book}
-use Rattle.lens.specs.declared.Done.{Done}
-use Rattle.lens.specs.declared.list.Listing.{Listing}
-use Rattle.lens.specs.Prints.{printOf}
-use Rattle.lens.specs.Listed.{Sized, unused, unused-none, fits-none}
-use Rattle.lens.specs.Listing.{treeEntries, entries-of, ToList, StandsIn, Untaken, Lists, PutBehind}
-use Rattle.lens.specs.Looking.{entries-fit-listed, entries-fit-none}
-use Rattle.lens.specs.Writing.{PrintsFit, WritesLens, oldText}
-use Rattle.lens.specs.Writing.{Ready as ToWrite}
+use Rattle.lens.specs.Nodes.{sizes-are}
+use Rattle.books.specs.declared.Book.{Book}
+use Rattle.books.specs.declared.list.Listing.{Listing}
+use Rattle.books.specs.Listed.{Sized, unused, unused-none, fits-none}
+use Rattle.books.specs.Listing.{treeEntries, entries-of, ToList, StandsIn, Untaken, Lists, PutBehind}
+use Rattle.books.specs.Looking.{Dealt, over-more, unused-dealt, entries-fit-listed}
+use Rattle.writer.specs.declared.Done.{Done}
+use Rattle.writer.specs.Writing.{Lent, WritesNode}
+use Rattle.writer.specs.Writing.{Ready as ToWrite}
 use Rattle.engine.specs.declared.Answer.{Answer}
-use Rattle.engine.specs.Answers.{IsAccepted, Ready}
-use Rattle.engine.specs.Results.{GivesText, Finishes}
-use Rattle.engine.specs.Sources.{BookReady, ListsOld, ListsSource, GivesSource}
+use Rattle.engine.specs.Answers.{Ready}
+use Rattle.engine.specs.Results.{Finishes, GivesMade}
+use Rattle.engine.specs.Sources.{BookReady, ListsSource}
 use Rattle.engine.proofs.Giving.{root-at, root-node, too-long, not-too-long}
 
 -- ---- The empty book
@@ -35,16 +36,7 @@ module _ {b : Book} (empty : (b .count ≡ 0) × Sized b) where
   -- none of its entries is taken
   untaken-none : (bytes old : Text) → Untaken (trees bytes) old b
   untaken-none bytes old =
-      record { fits = fits-none old b (empty .0); counted = rw (unused-none (trees bytes) old b (empty .0), empty .0) refl }
-
-  -- Create begins with it
-  pub none-ready : {bytes old : Text} → IsAccepted bytes → length old ≤ maxText → BookReady bytes old b
-  none-ready {bytes} {old} a short =
-      record {
-        over = record { sized = empty .1; fits = fits-none old b (empty .0) };
-        entries-fit = entries-fit-none bytes (a .root) (a .gives-root) (empty .0);
-        old-short = short;
-      }
+      record { fits = fits-none (length old) b (empty .0); counted = rw (unused-none (trees bytes) old b (empty .0), empty .0) refl }
 
   -- a source is listed into it
   pub to-list : {bytes old : Text} {prepared flags : List ℕ} → Ready bytes prepared → length old ≤ maxText → 4097 ≡ length flags → ToList bytes prepared old 0 flags b
@@ -70,64 +62,89 @@ module _ {bytes : Text} {prepared : List ℕ} (ready : Ready bytes prepared) {ro
       → (b .count ≡ 0) × Sized b
       → Lists (trees bytes) (treeEntries (treeAt (trees bytes) root) old) old 0 b r
       → ListsSource bytes old r
-  lists-root {old} {b} {r} short empty lists = record { lists-source = λ l e. go l e }
+  lists-root {old} {b} {r} short empty lists =
+      record { over-is = λ l e. over-is l e (r .over) refl; book-ready = λ l e within inside. ready-book l e within inside }
     where
       all : PutBehind (trees bytes) old (treeEntries (treeAt (trees bytes) root) old) b r
       all = lists .lists old (stands-whole old) (untaken-none empty bytes old)
 
-      go : (l : Lens) → program bytes ≡ gives l → ListsOld bytes old l r
-      go l e =
+      these : (l : Lens) → program bytes ≡ gives l → treeEntries (treeAt (trees bytes) root) old ≡ entries l old
+      these l e = entries-of (trees bytes) root old (root-at ready root-is l e)
+
+      listed : r .over ≡ false → (l : Lens) → program bytes ≡ gives l → unused (trees bytes) old (r .book) ≡ entries l old
+      listed within l e = rw (unused-none (trees bytes) old b (empty .0)) at (all .listed within) ∙ these l e
+
+      over-is : (l : Lens) → program bytes ≡ gives l → (over : Bool) → r .over ≡ over → over ≡ ltb maxEntries (length (entries l old))
+      over-is l e true o =
+          let many = all .too-many o in
+          sym (lt-ltb maxEntries (length (entries l old)) (rw (← these l e) (omega (arith, many, empty .0))))
+      over-is l e false o =
+          let count = all .untaken o .counted in
+          sym (le-ltb maxEntries (length (entries l old)) (rw (← listed o l e) (omega (arith, count, lists .few))))
+
+      ready-book : (l : Lens) → program bytes ≡ gives l → r .over ≡ false → notOf source l old ≡ false → BookReady bytes old (r .book)
+      ready-book l e within inside =
           record {
-            over-is = over-is (r .over) refl;
-            listed = listed;
-            book-ready = λ within inside.
-                record {
-                  over = record { sized = lists .sized; fits = all .untaken within .fits };
-                  entries-fit = entries-fit-listed bytes l e (in-source old l inside) (listed within) (all .untaken within .counted);
-                  old-short = short;
-                };
+            over = record { sized = lists .sized; fits = all .untaken within .fits };
+            entries-fit = entries-fit-listed bytes l e (in-source old l inside) (listed within l e) (all .untaken within .counted);
+            old-short = short;
+            listed = listed within;
           }
-        where
-          these : treeEntries (treeAt (trees bytes) root) old ≡ entries l old
-          these = entries-of (trees bytes) root old (root-at ready root-is l e)
 
-          listed : r .over ≡ false → unused (trees bytes) old (r .book) ≡ entries l old
-          listed within = rw (unused-none (trees bytes) old b (empty .0)) at (all .listed within) ∙ these
+  -- the pad has room from the root down
+  pub root-lent : {new pad : List ℕ} → length new ≤ maxText → length pad ≡ 786624 → Lent root new pad
+  root-lent short room = record { new-short = short; pad-room = omega (arith, (sizes-are (ready .built .sized)) .few-nodes) }
 
-          over-is : (over : Bool) → r .over ≡ over → over ≡ ltb maxEntries (length (entries l old))
-          over-is true o =
-              let many = all .too-many o in
-              sym (lt-ltb maxEntries (length (entries l old)) (rw (← these) (omega (arith, many, empty .0))))
-          over-is false o =
-              let count = all .untaken o .counted in
-              sym (le-ltb maxEntries (length (entries l old)) (rw (← listed o) (omega (arith, count, lists .few))))
-
-  -- a book with its prints is what the root writes with
-  pub to-write :
-      {old : Text} {b : Book} {prints : List ℕ}
-      → BookReady bytes old b
-      → PrintsFit bytes old b prints printOf
-      → length prints ≡ 256
-      → ToWrite bytes prepared root old prints b
-  to-write book fit size =
+  -- the book of the old source and a deck with its cards are what the root puts with
+  pub to-put : {old deck : Text} {b : Book} → BookReady bytes old b → Dealt bytes old b deck → length deck ≡ 1053696 → ToWrite bytes prepared root deck b
+  to-put book dealt size =
       record {
         lens-node = root-node ready root-is;
-        over = book .over;
-        entries-fit = book .entries-fit;
-        prints-fit = fit;
-        prints-length = size;
-        source-short = book .old-short;
+        over = over-more (book .old-short) (book .over);
+        cards-fit = dealt .cards-fit;
+        deck-size = omega (arith, book .over .fits .few);
       }
 
-  -- the source that the root wrote is given
-  pub source-given :
-      {has-old : Bool} {old new : Text} {b : Book} {start result before after : Text} {done : Done} {answer : Answer}
-      → ((l : Lens) → treeAt (trees bytes) root ≡ lens l → WritesLens bytes old l (oldText has-old old) new b start result done)
-      → length result ≡ min (length before) maxText
-      → Finishes (done .wrote) result before after answer
-      → GivesSource bytes has-old old new b before after answer
-  source-given {start} wrote room finish =
-      record { gives-source = λ l e. finish .finishes _ start room (wrote l (root-at ready root-is l e) .bytes-are) }
+  -- an empty book needs no cards
+  pub to-create : {deck : Text} {b : Book} → (b .count ≡ 0) × Sized b → length deck ≡ 4096 → ToWrite bytes prepared root deck b
+  to-create {b} empty size =
+      record {
+        lens-node = root-node ready root-is;
+        over = record { sized = empty .1; fits = fits-none 4096 b (empty .0) };
+        cards-fit = record { each = λ i h. absurd (omega (arith, empty .0)) };
+        deck-size = omega (arith, empty .0);
+      }
+
+  -- ---- What the root wrote is given
+
+  module _
+      {new start result before after : Text} {b : Book} {deck : Text} {done : Done} {answer : Answer}
+      (room : length result ≡ min (length before) maxText)
+      (finish : Finishes (done .wrote) result before after answer)
+    where
+      -- with the old source's entries it is put
+      pub put-made :
+          {old : Text}
+          → BookReady bytes old b
+          → Dealt bytes old b deck
+          → WritesNode bytes root deck (some (take (length old) (drop 0 deck))) new b start result done
+          → GivesMade bytes (λ l. put l new old) before after answer
+      unfolding put
+      put-made {old} book dealt wrote =
+          record {
+            gives-made = λ l e.
+                let same = unused-dealt (trees bytes) old deck (book .over) (dealt .source-is) ∙ book .listed l e in
+                finish .finishes _ start room (rw (dealt .source-is, same) at (wrote .writes l (root-at ready root-is l e) .bytes-are));
+          }
+
+      -- with no entries and no old source it is create
+      pub create-made : b .count ≡ 0 → WritesNode bytes root deck none new b start result done → GivesMade bytes (λ l. create l new) before after answer
+      unfolding create
+      create-made none-in wrote =
+          record {
+            gives-made = λ l e.
+                finish .finishes _ start room (rw (unused-none (trees bytes) deck b none-in) at (wrote .writes l (root-at ready root-is l e) .bytes-are));
+          }
 
 -- ---- The lengths of both texts, of which either may be too long
 
@@ -139,23 +156,3 @@ second-long a old k h = rw (not-too-long a k, too-long old h) refl
 
 pub neither-long : (a old : Text) → length a ≤ maxText → length old ≤ maxText → (tooLong a || tooLong old) ≡ false
 neither-long a old k h = rw (not-too-long a k, not-too-long old h) refl
-
--- ---- What put and create write
-
--- with the old source's entries it is put
-pub put-given :
-    {bytes old new before after : Text} {b : Book} {answer : Answer} (a : IsAccepted bytes)
-    → unused (trees bytes) old b ≡ entries (a .root) old
-    → GivesSource bytes true old new b before after answer
-    → GivesText (output (length before) (put (a .root) new old)) before after answer
-unfolding put
-put-given a listed g = rw listed at (g .gives-source (a .root) (a .gives-root))
-
--- with no entries and no old source it is create
-pub create-given :
-    {bytes old new before after : Text} {b : Book} {answer : Answer} (a : IsAccepted bytes)
-    → b .count ≡ 0
-    → GivesSource bytes false old new b before after answer
-    → GivesText (output (length before) (create (a .root) new)) before after answer
-unfolding create
-create-given {bytes} {old} {b} a none-in g = rw (unused-none (trees bytes) old b none-in) at (g .gives-source (a .root) (a .gives-root))

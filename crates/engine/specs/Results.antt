@@ -5,7 +5,7 @@ use Prim.Native.Nat.{ℕ, _≤_, min}
 use lib.ListN.{length}
 use Rattle.semantics.specs.Text.{Text}
 use Rattle.semantics.specs.Pattern.{matches}
-use Rattle.semantics.specs.Lens.{Lens, language, get}
+use Rattle.semantics.specs.Lens.{Lens, language}
 use Rattle.semantics.specs.Calls.{gives, program, maxText, output, bufferAfter}
 use Rattle.semantics.specs.Calls.{Answer as Outcome}
 use Rattle.automaton.specs.declared.Side.{Side}
@@ -37,6 +37,6 @@ pub record Finishes (wrote : Wrote) (result before after : Text) (answer : Answe
 pub record Decides (bytes : Text) (side : Side) (text : Text) (answer : Bool) : Type 0 where
   pub decides : (l : Lens) → program bytes ≡ gives l → answer ≡ matches (language (sideOf side) l) text
 
--- The sheet of the source is given, or refused for its length.
-pub record GivesSheet (bytes source before after : Text) (answer : Answer) : Type 0 where
-  pub gives-sheet : (l : Lens) → program bytes ≡ gives l → GivesText (output (length before) (get l source)) before after answer
+-- What the root makes is given, or refused for its length.
+pub record GivesMade (bytes : Text) (make : Lens → Text) (before after : Text) (answer : Answer) : Type 0 where
+  pub gives-made : (l : Lens) → program bytes ≡ gives l → GivesText (output (length before) (make l)) before after answer

@@ -4,16 +4,22 @@ use crate::Checked;
 use crate::check_in;
 use crate::full_room;
 use crate::results::belongs_to_root;
+use crate::results::finish;
+use crate::results::no_pad;
 use crate::results::no_text;
 use crate::results::room_in;
+use crate::results::root_of;
 use crate::some_room;
-use crate::sources::source_into;
 use automaton::Side;
-use lens::Book;
+use books::Book;
+use writer::write;
+ghost use mathlib.Core.Path.{_≡_};
+ghost use Prim.Native.Nat.{_≤_, min};
 ghost use lib.ListN.{length};
+ghost use Rattle.semantics.specs.Lens.{create};
 ghost use Rattle.semantics.specs.Calls.{createCall};
 ghost use Rattle.engine.specs.Answers.{Ready};
-ghost use Rattle.engine.specs.Results.{GivesText};
+ghost use Rattle.engine.specs.Results.{GivesText, GivesMade};
 
 // The call, with room first for most programs and then for every program.
 pub fn create(bytes: &[u8], sheet: &[u8], out: &mut [u8]) -> Answer
@@ -41,7 +47,7 @@ fn create_large(bytes: &[u8], sheet: &[u8], out: &mut [u8]) -> Answer
     }
 }
 
-// The source of a sheet, of a program that is accepted and prepared. The book is empty, and so is the old source.
+// The source of a sheet, of a program that is accepted and prepared.
 fn create_with(bytes: &[u8], prepared: &[u64], sheet: &[u8], out: &mut [u8]) -> Answer
     requires { ⌜ Ready (now bytes) (now prepared) ⌝ }
     ensures { λ r. ⌜ GivesText (createCall (now (bytes .entry)) (now (sheet .entry)) (length (now (out .entry)))) (now (out .entry)) (now (out .exit)) r ⌝ }
@@ -58,17 +64,29 @@ fn create_with(bytes: &[u8], prepared: &[u64], sheet: &[u8], out: &mut [u8]) -> 
             node: 0,
         };
     }
-    let book = Book::empty();
     let mut result = no_text();
     let room = room_in(out.len());
-    source_into(
-        bytes,
-        prepared,
-        sheet,
-        false,
-        &sheet[0..0],
-        book,
-        &mut result[0..room],
-        out,
-    )
+    create_into(bytes, prepared, sheet, &mut result[0..room], out)
+}
+
+// The source, made in a slice as long as a result may be. The book is empty, and the deck has no card.
+fn create_into(
+    bytes: &[u8],
+    prepared: &[u64],
+    sheet: &[u8],
+    result: &mut [u8],
+    out: &mut [u8],
+) -> Answer
+    requires { ⌜ Ready (now bytes) (now prepared) ⌝ }
+    requires { ⌜ length (now sheet) ≤ 4096 ⌝ }
+    requires { ⌜ length (now result) ≡ min (length (now out)) 4096 ⌝ }
+    ensures { λ r. ⌜ GivesMade (now (bytes .entry)) (λ l. create l (now (sheet .entry))) (now (out .entry)) (now (out .exit)) r ⌝ }
+{
+    let root = root_of(bytes);
+    let deck = no_text();
+    let book = Book::empty();
+    let mut pad = no_pad();
+    let done = write::create(bytes, prepared, root, sheet, &deck, book, &mut pad, result);
+    let wrote = done.wrote;
+    finish(wrote, result, out)
 }

@@ -16,9 +16,10 @@ use lens::read::emit;
 ghost use mathlib.Core.Path.{_≡_};
 ghost use Prim.Native.Nat.{_≤_, min};
 ghost use lib.ListN.{length};
+ghost use Rattle.semantics.specs.Lens.{get};
 ghost use Rattle.semantics.specs.Calls.{getCall};
 ghost use Rattle.engine.specs.Answers.{Ready};
-ghost use Rattle.engine.specs.Results.{GivesText, GivesSheet};
+ghost use Rattle.engine.specs.Results.{GivesText, GivesMade};
 
 // The call, with room first for most programs and then for every program.
 pub fn get(bytes: &[u8], source: &[u8], out: &mut [u8]) -> Answer
@@ -79,7 +80,7 @@ fn get_into(
     requires { ⌜ Ready (now bytes) (now prepared) ⌝ }
     requires { ⌜ length (now source) ≤ 4096 ⌝ }
     requires { ⌜ length (now result) ≡ min (length (now out)) 4096 ⌝ }
-    ensures { λ r. ⌜ GivesSheet (now (bytes .entry)) (now (source .entry)) (now (out .entry)) (now (out .exit)) r ⌝ }
+    ensures { λ r. ⌜ GivesMade (now (bytes .entry)) (λ l. get l (now (source .entry))) (now (out .entry)) (now (out .exit)) r ⌝ }
 {
     let mut flags = no_flags();
     let root = root_of(bytes);

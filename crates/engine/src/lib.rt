@@ -25,7 +25,6 @@ pub mod get;
 mod line;
 pub mod put;
 mod results;
-mod sources;
 
 // A result with its length, or a refusal with its number and node.
 pub enum Answer {

@@ -4,22 +4,27 @@ use crate::Checked;
 use crate::check_in;
 use crate::full_room;
 use crate::results::belongs_to_root;
+use crate::results::finish;
 use crate::results::no_flags;
+use crate::results::no_pad;
 use crate::results::no_text;
 use crate::results::room_in;
 use crate::results::root_of;
 use crate::some_room;
-use crate::sources::source_into;
 use automaton::Side;
-use lens::Book;
-use lens::list::Listing;
-use lens::list::list;
-ghost use Prim.Native.Nat.{_≤_};
+use books::Book;
+use books::deck::fill_deck;
+use books::list::Listing;
+use books::list::list;
+use writer::write;
+ghost use mathlib.Core.Path.{_≡_};
+ghost use Prim.Native.Nat.{_≤_, min};
 ghost use lib.ListN.{length};
+ghost use Rattle.semantics.specs.Lens.{put};
 ghost use Rattle.semantics.specs.Calls.{putCall};
 ghost use Rattle.engine.specs.Answers.{Ready};
-ghost use Rattle.engine.specs.Results.{GivesText};
-ghost use Rattle.engine.specs.Sources.{ListsSource};
+ghost use Rattle.engine.specs.Results.{GivesText, GivesMade};
+ghost use Rattle.engine.specs.Sources.{BookReady, ListsSource};
 
 // The call, with room first for most programs and then for every program.
 pub fn put(bytes: &[u8], sheet: &[u8], source: &[u8], out: &mut [u8]) -> Answer
@@ -98,14 +103,57 @@ fn put_with(bytes: &[u8], prepared: &[u64], sheet: &[u8], source: &[u8], out: &m
     let book = listing.book;
     let mut result = no_text();
     let room = room_in(out.len());
-    source_into(
+    put_into(
         bytes,
         prepared,
         sheet,
-        true,
         source,
         book,
         &mut result[0..room],
         out,
     )
+}
+
+// Room for a deck of 256 entries.
+fn no_deck() -> [u8; 1053696]
+    ensures { λ r. ⌜ 1053696 ≡ length r ⌝ }
+{
+    [0u8; 1053696]
+}
+
+// The source, made in a slice as long as a result may be. The book holds the old source's entries.
+fn put_into(
+    bytes: &[u8],
+    prepared: &[u64],
+    sheet: &[u8],
+    source: &[u8],
+    book: Book,
+    result: &mut [u8],
+    out: &mut [u8],
+) -> Answer
+    requires { ⌜ Ready (now bytes) (now prepared) ⌝ }
+    requires { ⌜ BookReady (now bytes) (now source) book ⌝ }
+    requires { ⌜ length (now sheet) ≤ 4096 ⌝ }
+    requires { ⌜ length (now result) ≡ min (length (now out)) 4096 ⌝ }
+    ensures { λ r. ⌜ GivesMade (now (bytes .entry)) (λ l. put l (now (sheet .entry)) (now (source .entry))) (now (out .entry)) (now (out .exit)) r ⌝ }
+{
+    let root = root_of(bytes);
+    let mut deck = no_deck();
+    fill_deck(bytes, prepared, source, book, &mut deck);
+    let mut pad = no_pad();
+    let len = source.len();
+    let done = write::put(
+        bytes,
+        prepared,
+        root,
+        sheet,
+        0,
+        len,
+        &deck,
+        book,
+        &mut pad,
+        result,
+    );
+    let wrote = done.wrote;
+    finish(wrote, result, out)
 }

@@ -52,6 +52,13 @@ pub fn no_flags() -> [u8; 4097]
     [0u8; 4097]
 }
 
+// Room for the flags of a sheet and an old text at every node of a program of 96.
+pub fn no_pad() -> [u8; 786624]
+    ensures { λ r. ⌜ 786624 ≡ length r ⌝ }
+{
+    [0u8; 786624]
+}
+
 // A result that had room is copied to the start of the output buffer; one that had not leaves it as it is.
 pub fn finish(wrote: Wrote, result: &[u8], out: &mut [u8]) -> Answer
     requires { ⌜ Counted wrote (now result) ⌝ }

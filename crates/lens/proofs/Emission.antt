@@ -23,7 +23,7 @@ use Rattle.lens.specs.Overlay.{Writes, overlay-length, writes-full, writ
 use Rattle.lens.specs.Reading.{reading, modeSide, copied, reading-copy, reading-const, reading-key, reading-join, reading-left, reading-right, reading-match}
 use Rattle.lens.specs.Cutting.{CutAt, rest-lent}
 use Rattle.lens.specs.Emitting.{sideFor, ArmIs, WordIs, LensNode, Emits, EmitsJoin}
-use Rattle.lens.proofs.Nodes.{same-lens, shown-copy, shown-const, shown-key, shown-join, shown-union, shown-match, describes-lens, left-below}
+use Rattle.lens.specs.Nodes.{same-lens, shown-copy, shown-const, shown-key, shown-join, shown-union, shown-match, describes-lens, left-below}
 
 -- ---- By the kind of the node
 

@@ -2,10 +2,9 @@
 use mathlib.Core.Path.{_≡_, refl, sym, ap, subst, _∙_}
 use mathlib.Core.List.{List, [], _++_, append-assoc, append-nil}
 use Prim.Native.Nat.{ℕ, _+_, _-_, _≤_, _<_}
-use native.Mathlib.Nat.{le-trans}
 use native.Mathlib.Omega.{arith}
-use lib.ListN.{length, take, drop, length-take, length-drop, length-append, drop-of-length-le}
-use lib.Seq.{drop-drop, length-take-le}
+use lib.ListN.{length, take, drop, length-take, length-drop, drop-of-length-le}
+use lib.Seq.{drop-drop}
 use Rattle.semantics.specs.Text.{Text, joined}
 use Rattle.semantics.specs.Pattern.{Pattern, star, matches}
 use Rattle.semantics.specs.Lens.{Lens, repeat, language}
@@ -19,9 +18,9 @@ use Rattle.lens.specs.declared.Wrote.{Wrote}
 use Rattle.lens.specs.declared.Wrote.the-variants.{Count, Full}
 use Rattle.lens.specs.Overlay.{Writes, overlay-length, writes-full, writes-nothing, writes-within}
 use Rattle.lens.specs.Reading.{reading, modeSide, reading-repeat, firstPart, parts-none, parts-next}
-use Rattle.lens.specs.Cutting.{FirstPart, SuffixFlags, rest-lent, suffix-flags-begin, suffix-flags-lent, suffix-flags-next}
+use Rattle.lens.specs.Cutting.{FirstPart, SuffixFlags, rest-lent, part-length, suffix-flags-begin, suffix-flags-lent, suffix-flags-next}
 use Rattle.lens.specs.Emitting.{sideFor, LensNode, Emits}
-use Rattle.lens.proofs.Nodes.{same-lens, describes-lens, child-below}
+use Rattle.lens.specs.Nodes.{same-lens, describes-lens, child-below}
 use Rattle.lens.proofs.Emission.{its-lens, further, writes-further}
 
 -- What is known where the parts before o have been read: n bytes are written, and the flags tell the ends of parts beyond o.
@@ -115,15 +114,6 @@ pub repeat-lends :
     → o < length text
     → (0 < length (take (length text - o) (drop o text))) × (length (take (length text - o) (drop o text)) < length (take (length flags - o) (drop o flags)))
 repeat-lends {text} {flags} {o} inv more = rw (rest-lent text o, rest-lent flags o, length-drop o text, length-drop o flags) (omega arith, omega (arith, inv .flags-more))
-
--- a list is as long when a part of it, from o to e, was lent and came back
-part-length :
-    (s part : List ℕ) (o e : ℕ)
-    → o ≤ e
-    → e ≤ length s
-    → length part ≡ length (take (e - o) (drop o s))
-    → length (take o s ++ (part ++ drop (e - o) (drop o s))) ≡ length s
-part-length s part o e h k kept = simp (length-append, length-drop) (omega (arith, length-take-le o s (le-trans h k), length-take-le (e - o) (drop o s) (rw length-drop (omega arith)), kept))
 
 -- one part more: it is lent from o on, with the flags beside it and the buffer behind what is written
 module _

@@ -4,7 +4,7 @@ use mathlib.Core.Bool.{Bool, true, false}
 use mathlib.Core.List.{List, _++_}
 use Prim.Native.Nat.{ℕ, _+_, _-_, _≤_, _<_}
 use native.Mathlib.Omega.{arith}
-use lib.ListN.{length, take, drop, getD, length-drop}
+use lib.ListN.{length, take, drop, getD, length-append, length-take, length-drop}
 use lib.Seq.{take-all, length-take-le, getD-append-add, getD-drop, drop-drop}
 use borrow.Author.Tests.{eq-eqb}
 use Rattle.semantics.specs.Text.{Text}
@@ -45,6 +45,15 @@ flagged-same flags flags′ i j e = rw e
 -- a slice from a place on, as it is lent, is what is behind that place
 pub rest-lent : {A : Type 0} (s : List A) (o : ℕ) → take (length s - o) (drop o s) ≡ drop o s
 rest-lent s o = take-all (length s - o) (drop o s) (rw length-drop (omega arith))
+
+-- a list is as long when a part of it, from o to e, was lent and came back
+pub part-length :
+    (s part : List ℕ) (o e : ℕ)
+    → o ≤ e
+    → e ≤ length s
+    → length part ≡ length (take (e - o) (drop o s))
+    → length (take o s ++ (part ++ drop (e - o) (drop o s))) ≡ length s
+part-length s part o e h k kept = rw (length-append, length-append, kept) (simp (length-take, length-drop) (omega arith))
 
 -- what is behind a part that was lent, from o to e, is as it was
 pub lent-beyond :

@@ -1,9 +1,8 @@
-// Texts: written into a buffer, compared, and told apart by a fingerprint.
+// Texts: written into a buffer, and compared.
 use crate::Wrote;
 ghost use mathlib.Core.Path.{_≡_};
 ghost use Rattle.semantics.specs.Text.{sameText};
 ghost use Rattle.lens.specs.Overlay.{Writes};
-ghost use Rattle.lens.specs.Prints.{printOf};
 
 // The text is written from the buffer's first byte on, as much of it as fits.
 pub fn write_text(text: &[u8], out: &mut [u8]) -> Wrote
@@ -34,17 +33,4 @@ pub fn same_text(a: &[u8], b: &[u8]) -> bool
         i += 1;
     }
     true
-}
-
-// A number that is the same for equal texts, and seldom for others.
-pub fn fingerprint(text: &[u8]) -> u64
-    ensures { λ r. ⌜ r ≡ printOf (now (text .entry)) ⌝ }
-{
-    let mut print = 0;
-    let mut i = 0;
-    while i < text.len() {
-        print = (print * 2654435761 + text[i] as u64 + 1) % 4294967296;
-        i += 1;
-    }
-    print
 }

@@ -20,11 +20,13 @@
 //! | [`calls`] | the four calls and their order of refusals (12 to 16) |
 //! | [`generator`] | seeded random programs, texts and calls |
 //! | [`trial`] | any implementation compared with this one, call by call |
+//! | [`demand3`] | the clauses of demand 3, tried on any implementation |
 
 pub mod ambiguity;
 pub mod answer;
 pub mod automaton;
 pub mod calls;
+pub mod demand3;
 pub mod generator;
 pub mod lens;
 pub mod program;

@@ -6,128 +6,35 @@ mod common;
 use std::collections::HashSet;
 
 use common::*;
-use noontrough_reference::calls::MAX_ENTRIES;
-use noontrough_reference::generator::cases::{
-    legal_text, one_repeated_entry, program_cases, text_at_entry_limit, text_at_length_limit, Call,
-};
+use noontrough_reference::demand3;
+use noontrough_reference::generator::cases::{program_cases, Call};
 use noontrough_reference::generator::faults::{mutated, refused as draw_refused, PROGRAM_REFUSALS};
 use noontrough_reference::generator::programs::accepted;
 use noontrough_reference::generator::random::Random;
-use noontrough_reference::generator::texts::{draw, edit};
-use noontrough_reference::table::Side;
 use noontrough_reference::trial::{compare, lent_buffer, run, Tally};
-use noontrough_reference::{Program, Reference};
+use noontrough_reference::Reference;
 
 const PROGRAMS: usize = 3000;
 
-/// Mostly short texts, some at the limits of length and entries.
-fn some_text(random: &mut Random, program: &Program, side: Side) -> Vec<u8> {
-    match random.below(40) {
-        0 => text_at_length_limit(random, program, side),
-        1 => text_at_entry_limit(random, program, side),
-        _ => legal_text(random, program, side),
-    }
-}
-
 #[test]
 fn an_unedited_sheet_gives_the_old_source_back() {
-    let mut random = Random::new(1);
-    let mut tried = 0;
-    for _ in 0..PROGRAMS {
-        let table = accepted(&mut random).table();
-        let program = Program::read(&table).expect("accepted");
-        for _ in 0..5 {
-            let source = some_text(&mut random, &program, Side::Source);
-            let Ok(sheet) = get(&table, &source) else { continue };
-            if program.count_entries(&source) <= MAX_ENTRIES {
-                assert_eq!(put(&table, &sheet, &source), Ok(source), "table {table:?}");
-                tried += 1;
-            }
-        }
-    }
+    let tried = demand3::unedited(&Reference, 1, PROGRAMS);
     println!("clause 1: {tried} sheets put back");
     assert!(tried > 4 * PROGRAMS);
 }
 
 #[test]
 fn a_new_source_gives_its_sheet() {
-    let mut random = Random::new(2);
-    let (mut by_put, mut by_create) = (0, 0);
-    for _ in 0..PROGRAMS {
-        let table = accepted(&mut random).table();
-        let program = Program::read(&table).expect("accepted");
-        for _ in 0..5 {
-            let old = some_text(&mut random, &program, Side::Source);
-            let mut sheet = some_text(&mut random, &program, Side::Sheet);
-            if let (Ok(old_sheet), true) = (get(&table, &old), random.once_in(2)) {
-                sheet = edit(&mut random, &program, &old_sheet);
-            }
-            if let Ok(source) = put(&table, &sheet, &old) {
-                assert_eq!(get(&table, &source), Ok(sheet.clone()), "put, table {table:?}");
-                by_put += 1;
-            }
-            if let Ok(source) = create(&table, &sheet) {
-                assert_eq!(get(&table, &source), Ok(sheet), "create, table {table:?}");
-                by_create += 1;
-            }
-        }
-    }
+    let (by_put, by_create) = demand3::read_back(&Reference, 2, PROGRAMS);
     println!("clause 2: {by_put} sources by put, {by_create} by create");
     assert!(by_put > 4 * PROGRAMS && by_create > 4 * PROGRAMS);
 }
 
 #[test]
 fn entries_with_different_keys_are_put_in_any_order() {
-    let mut random = Random::new(3);
-    let (mut lists, mut moved) = (0, 0);
-    for _ in 0..PROGRAMS {
-        let (draft, program) = one_repeated_entry(&mut random);
-        for _ in 0..5 {
-            let entries = different_entries(&mut random, &program);
-            let source = entries.concat();
-            let Some((sheet, expected)) = any_order(&mut random, &program, entries) else { continue };
-            assert_eq!(put(&draft.table(), &sheet, &source), Ok(expected.clone()), "table {:?}", draft.table());
-            lists += 1;
-            moved += usize::from(!source.starts_with(&expected));
-        }
-    }
+    let (lists, moved) = demand3::reordered(&Reference, 3, PROGRAMS);
     println!("clause 3: {lists} lists of entries, {moved} out of the old order");
     assert!(lists > 4 * PROGRAMS && moved > PROGRAMS);
-}
-
-/// The sheet of one entry of a program that is one repeated entry.
-fn sheet_entry(program: &Program, source: &[u8]) -> Vec<u8> {
-    let entry = program.node(program.root()).children()[0];
-    let mut sheet = Vec::new();
-    program.get_at(entry, source, &mut sheet);
-    sheet
-}
-
-/// Source entries with keys that all differ, sometimes as many as are allowed.
-fn different_entries(random: &mut Random, program: &Program) -> Vec<Vec<u8>> {
-    let entry = program.node(program.root()).children()[0];
-    let wanted = if random.once_in(20) { MAX_ENTRIES } else { random.below(12) };
-    let (mut keys, mut entries, mut length) = (HashSet::new(), Vec::new(), 0);
-    for _ in 0..2 * wanted {
-        let part = draw(random, program.table(), entry, Side::Source, 2, 24);
-        let key = program.key(entry, &sheet_entry(program, &part));
-        let fits = entries.len() < wanted && length + part.len() <= BUFFER;
-        if fits && keys.insert(key) {
-            length += part.len();
-            entries.push(part);
-        }
-    }
-    entries
-}
-
-/// Some of the entries in some order, as sheet and as source; nothing if the
-/// sheet is too long.
-fn any_order(random: &mut Random, program: &Program, mut entries: Vec<Vec<u8>>) -> Option<(Vec<u8>, Vec<u8>)> {
-    random.shuffle(&mut entries);
-    let count = random.below(entries.len() + 1).max(random.below(entries.len() + 1));
-    entries.truncate(count);
-    let sheet: Vec<u8> = entries.iter().flat_map(|entry| sheet_entry(program, entry)).collect();
-    (sheet.len() <= BUFFER).then_some((sheet, entries.concat()))
 }
 
 #[test]

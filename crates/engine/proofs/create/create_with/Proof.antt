@@ -7,7 +7,6 @@ use lib.ListN.{length-take}
 use Rattle.semantics.specs.Calls.{createCall}
 use Rattle.automaton.specs.Rows.{sideOf}
 use Rattle.engine.proofs.Giving.{program-gives, refused, passed, too-long, not-too-long, not-of}
-use Rattle.engine.proofs.Sourcing.{none-ready, create-given}
 use Rattle.engine.proofs.create.create_with.Statement.{statement}
 use Rattle.engine.proofs.create.create_with.Tie as tie
 use Rattle.engine.proofs.create.create_with.Reads as reads
@@ -15,8 +14,7 @@ use Rattle.engine.proofs.create.create_with.Lts as lts
 use Rattle.engine.proofs.results.belongs_to_root.Reads as belongs-to-root-reads
 use Rattle.engine.proofs.results.no_text.Reads as no-text-reads
 use Rattle.engine.proofs.results.room_in.Reads as room-in-reads
-use Rattle.engine.proofs.sources.source_into.Reads as source-into-reads
-use Rattle.lens.proofs.Book.empty.Reads as empty-reads
+use Rattle.engine.proofs.create.create_into.Reads as create-into-reads
 
 returns : tie.Need-returns
 unfolding createCall
@@ -29,26 +27,14 @@ returns-2 : tie.Need-returns-2
 unfolding createCall sideOf
 returns-2 c = program-gives _ (c .before .before .before .before .before .before .before .pre .accepted) (passed 12 (not-too-long (now (c .before .before .before .before .before .before .before .args .sheet)) (c .before .before .if1 .left)) (refused 14 _ (not-of (c .before .before .before .before .before .before .before .pre .accepted) (c .before .belongs-to-root .ensures) ∙ c .if2 .taken)))
 
-empty-requires : tie.Need-empty-requires
-empty-requires c κs = search needs
-
 no-text-requires : tie.Need-no-text-requires
 no-text-requires c κs = search needs
 
 room-in-requires : tie.Need-room-in-requires
 room-in-requires c κs = search needs
 
-sub-source-into : tie.Need-sub-source-into
-sub-source-into c = search needs
-
-part-source-into-start : tie.Need-part-source-into-start
-part-source-into-start c = search needs
-
-part-source-into-end : tie.Need-part-source-into-end
-part-source-into-end c = search needs
-
-sub-source-into-2 : tie.Need-sub-source-into-2
-sub-source-into-2 c = search needs
+sub-create-into : tie.Need-sub-create-into
+sub-create-into c = search needs
 
 part-result-start : tie.Need-part-result-start
 part-result-start c = search needs
@@ -56,15 +42,15 @@ part-result-start c = search needs
 part-result-end : tie.Need-part-result-end
 part-result-end c = search needs
 
-source-into-requires : tie.Need-source-into-requires
-source-into-requires c κs = (c .before .before .before .before .before .before .before .before .before .before .before .before .before .pre, (none-ready (c .before .before .before .before .before .empty .ensures) (c .before .before .before .before .before .before .before .before .before .before .before .before .before .pre .accepted) (simp length-take (omega arith)), (c .before .before .before .before .before .before .before .before .if1 .left, simp length-take (omega (arith, c .before .before .before .before .no-text .ensures, c .before .before .before .room-in .ensures)))))
+create-into-requires : tie.Need-create-into-requires
+create-into-requires c κs = (c .before .before .before .before .before .before .before .before .before .before .before .pre, (c .before .before .before .before .before .before .if1 .left, simp length-take (omega (arith, c .before .before .before .no-text .ensures, c .before .before .room-in .ensures))))
 
 same-length : tie.Need-same-length
 same-length c = search needs
 
 returns-3 : tie.Need-returns-3
 unfolding createCall sideOf
-returns-3 c = program-gives _ (c .before .before .before .before .before .before .before .before .before .before .before .before .before .before .before .before .before .pre .accepted) (passed 12 (not-too-long (now (c .before .before .before .before .before .before .before .before .before .before .before .before .before .before .before .before .before .args .sheet)) (c .before .before .before .before .before .before .before .before .before .before .before .before .if1 .left)) (passed 14 (not-of (c .before .before .before .before .before .before .before .before .before .before .before .before .before .before .before .before .before .pre .accepted) (c .before .before .before .before .before .before .before .before .before .before .before .belongs-to-root .ensures) ∙ c .before .before .before .before .before .before .before .before .before .before .if2 .left) (create-given (c .before .before .before .before .before .before .before .before .before .before .before .before .before .before .before .before .before .pre .accepted) (c .before .before .before .before .before .before .before .before .before .empty .ensures .0) (c .before .before .before .source-into .ensures))))
+returns-3 c = program-gives _ (c .before .before .before .before .before .before .before .before .before .before .before .before .before .before .before .pre .accepted) (passed 12 (not-too-long (now (c .before .before .before .before .before .before .before .before .before .before .before .before .before .before .before .args .sheet)) (c .before .before .before .before .before .before .before .before .before .before .if1 .left)) (passed 14 (not-of (c .before .before .before .before .before .before .before .before .before .before .before .before .before .before .before .pre .accepted) (c .before .before .before .before .before .before .before .before .before .belongs-to-root .ensures) ∙ c .before .before .before .before .before .before .before .before .if2 .left) (c .before .before .before .create-into .ensures .gives-made (c .before .before .before .before .before .before .before .before .before .before .before .before .before .before .before .pre .accepted .root) (c .before .before .before .before .before .before .before .before .before .before .before .before .before .before .before .pre .accepted .gives-root))))
 
 pub create-with-spec : {M : Type 1} → statement M
 create-with-spec =
@@ -73,15 +59,11 @@ create-with-spec =
     returns
     belongs-to-root-requires
     returns-2
-    empty-requires
     no-text-requires
     room-in-requires
-    sub-source-into
-    part-source-into-start
-    part-source-into-end
-    sub-source-into-2
+    sub-create-into
     part-result-start
     part-result-end
-    source-into-requires
+    create-into-requires
     same-length
     returns-3)

@@ -31,7 +31,7 @@ same-length-2 c = search needs
 
 returns : tie.Need-returns
 unfolding reading
-returns c = record { gives-sheet = λ l e. c .before .before .finish .ensures .finishes (get l (now (c .before .before .before .before .before .before .before .before .before .before .before .before .before .before .before .before .before .before .args .source))) (now (c .before .before .before .before .before .before .before .before .before .before .before .before .before .before .before .before .before .before .args .result)) (omega (arith, c .before .before .before .before .before .before .before .before .emit .kept .1 .1 .1 .1 .1 .1 .0, c .before .before .before .before .before .before .before .before .before .before .before .before .before .before .before .before .before .before .pre .1 .1)) (c .before .before .before .before .before .before .before .before .emit .ensures .writes l (root-at (c .before .before .before .before .before .before .before .before .before .before .before .before .before .before .before .before .before .before .pre .0) (c .before .before .before .before .before .before .before .before .before .before .before .root-of .ensures) l e)) }
+returns c = record { gives-made = λ l e. c .before .before .finish .ensures .finishes (get l (now (c .before .before .before .before .before .before .before .before .before .before .before .before .before .before .before .before .before .before .args .source))) (now (c .before .before .before .before .before .before .before .before .before .before .before .before .before .before .before .before .before .before .args .result)) (omega (arith, c .before .before .before .before .before .before .before .before .emit .kept .1 .1 .1 .1 .1 .1 .0, c .before .before .before .before .before .before .before .before .before .before .before .before .before .before .before .before .before .before .pre .1 .1)) (c .before .before .before .before .before .before .before .before .emit .ensures .writes l (root-at (c .before .before .before .before .before .before .before .before .before .before .before .before .before .before .before .before .before .before .pre .0) (c .before .before .before .before .before .before .before .before .before .before .before .root-of .ensures) l e)) }
 
 pub get-into-spec : {M : Type 1} → statement M
 get-into-spec =

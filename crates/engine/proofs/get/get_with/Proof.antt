@@ -44,7 +44,7 @@ same-length c = search needs
 
 returns-3 : tie.Need-returns-3
 unfolding getCall sideOf
-returns-3 c = program-gives _ (c .before .before .before .before .before .before .before .before .before .before .before .before .before .before .before .pre .accepted) (passed 12 (not-too-long (now (c .before .before .before .before .before .before .before .before .before .before .before .before .before .before .before .args .source)) (c .before .before .before .before .before .before .before .before .before .before .if1 .left)) (passed 13 (not-of (c .before .before .before .before .before .before .before .before .before .before .before .before .before .before .before .pre .accepted) (c .before .before .before .before .before .before .before .before .before .belongs-to-root .ensures) ∙ c .before .before .before .before .before .before .before .before .if2 .left) (c .before .before .before .get-into .ensures .gives-sheet (c .before .before .before .before .before .before .before .before .before .before .before .before .before .before .before .pre .accepted .root) (c .before .before .before .before .before .before .before .before .before .before .before .before .before .before .before .pre .accepted .gives-root))))
+returns-3 c = program-gives _ (c .before .before .before .before .before .before .before .before .before .before .before .before .before .before .before .pre .accepted) (passed 12 (not-too-long (now (c .before .before .before .before .before .before .before .before .before .before .before .before .before .before .before .args .source)) (c .before .before .before .before .before .before .before .before .before .before .if1 .left)) (passed 13 (not-of (c .before .before .before .before .before .before .before .before .before .before .before .before .before .before .before .pre .accepted) (c .before .before .before .before .before .before .before .before .before .belongs-to-root .ensures) ∙ c .before .before .before .before .before .before .before .before .if2 .left) (c .before .before .before .get-into .ensures .gives-made (c .before .before .before .before .before .before .before .before .before .before .before .before .before .before .before .pre .accepted .root) (c .before .before .before .before .before .before .before .before .before .before .before .before .before .before .before .pre .accepted .gives-root))))
 
 pub get-with-spec : {M : Type 1} → statement M
 get-with-spec =

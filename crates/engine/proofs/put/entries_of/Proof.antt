@@ -8,8 +8,8 @@ use Rattle.engine.proofs.put.entries_of.Reads as reads
 use Rattle.engine.proofs.put.entries_of.Lts as lts
 use Rattle.engine.proofs.results.no_flags.Reads as no-flags-reads
 use Rattle.engine.proofs.results.root_of.Reads as root-of-reads
-use Rattle.lens.proofs.Book.empty.Reads as empty-reads
-use Rattle.lens.proofs.list.list.Reads as list-reads
+use Rattle.books.proofs.Book.empty.Reads as empty-reads
+use Rattle.books.proofs.list.list.Reads as list-reads
 
 root-of-requires : tie.Need-root-of-requires
 root-of-requires c κs = search needs

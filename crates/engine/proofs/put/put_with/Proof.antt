@@ -7,7 +7,7 @@ use lib.ListN.{length-take}
 use Rattle.semantics.specs.Calls.{putCall}
 use Rattle.automaton.specs.Rows.{sideOf}
 use Rattle.engine.proofs.Giving.{program-gives, refused, passed, not-of}
-use Rattle.engine.proofs.Sourcing.{first-long, second-long, neither-long, put-given}
+use Rattle.engine.proofs.Sourcing.{first-long, second-long, neither-long}
 use Rattle.engine.proofs.put.put_with.Statement.{statement}
 use Rattle.engine.proofs.put.put_with.Tie as tie
 use Rattle.engine.proofs.put.put_with.Reads as reads
@@ -16,7 +16,7 @@ use Rattle.engine.proofs.put.entries_of.Reads as entries-of-reads
 use Rattle.engine.proofs.results.belongs_to_root.Reads as belongs-to-root-reads
 use Rattle.engine.proofs.results.no_text.Reads as no-text-reads
 use Rattle.engine.proofs.results.room_in.Reads as room-in-reads
-use Rattle.engine.proofs.sources.source_into.Reads as source-into-reads
+use Rattle.engine.proofs.put.put_into.Reads as put-into-reads
 
 returns : tie.Need-returns
 unfolding putCall
@@ -45,7 +45,7 @@ entries-of-requires c κs = search needs
 
 returns-5 : tie.Need-returns-5
 unfolding putCall sideOf
-returns-5 c = program-gives _ (c .before .before .before .before .before .before .before .before .before .before .before .before .before .pre .accepted) (passed 12 (neither-long (now (c .before .before .before .before .before .before .before .before .before .before .before .before .before .args .sheet)) (now (c .before .before .before .before .before .before .before .before .before .before .before .before .before .args .source)) (c .before .before .before .before .before .before .before .if1 .left) (c .before .before .before .before .before .before .if2 .left)) (passed 13 (not-of (c .before .before .before .before .before .before .before .before .before .before .before .before .before .pre .accepted) (c .before .before .before .before .before .belongs-to-root .ensures) ∙ c .before .before .before .before .if3 .left) (passed 14 (not-of (c .before .before .before .before .before .before .before .before .before .before .before .before .before .pre .accepted) (c .before .before .before .belongs-to-root2 .ensures) ∙ c .before .before .if4 .left) (refused 15 _ (sym (c .before .entries-of .ensures .lists-source (c .before .before .before .before .before .before .before .before .before .before .before .before .before .pre .accepted .root) (c .before .before .before .before .before .before .before .before .before .before .before .before .before .pre .accepted .gives-root) .over-is) ∙ c .if5 .taken)))))
+returns-5 c = program-gives _ (c .before .before .before .before .before .before .before .before .before .before .before .before .before .pre .accepted) (passed 12 (neither-long (now (c .before .before .before .before .before .before .before .before .before .before .before .before .before .args .sheet)) (now (c .before .before .before .before .before .before .before .before .before .before .before .before .before .args .source)) (c .before .before .before .before .before .before .before .if1 .left) (c .before .before .before .before .before .before .if2 .left)) (passed 13 (not-of (c .before .before .before .before .before .before .before .before .before .before .before .before .before .pre .accepted) (c .before .before .before .before .before .belongs-to-root .ensures) ∙ c .before .before .before .before .if3 .left) (passed 14 (not-of (c .before .before .before .before .before .before .before .before .before .before .before .before .before .pre .accepted) (c .before .before .before .belongs-to-root2 .ensures) ∙ c .before .before .if4 .left) (refused 15 _ (sym (c .before .entries-of .ensures .over-is (c .before .before .before .before .before .before .before .before .before .before .before .before .before .pre .accepted .root) (c .before .before .before .before .before .before .before .before .before .before .before .before .before .pre .accepted .gives-root)) ∙ c .if5 .taken)))))
 
 no-text-requires : tie.Need-no-text-requires
 no-text-requires c κs = search needs
@@ -53,8 +53,8 @@ no-text-requires c κs = search needs
 room-in-requires : tie.Need-room-in-requires
 room-in-requires c κs = search needs
 
-sub-source-into : tie.Need-sub-source-into
-sub-source-into c = search needs
+sub-put-into : tie.Need-sub-put-into
+sub-put-into c = search needs
 
 part-result-start : tie.Need-part-result-start
 part-result-start c = search needs
@@ -62,16 +62,16 @@ part-result-start c = search needs
 part-result-end : tie.Need-part-result-end
 part-result-end c = search needs
 
-source-into-requires : tie.Need-source-into-requires
+put-into-requires : tie.Need-put-into-requires
 unfolding sideOf
-source-into-requires c κs = (c .before .before .before .before .before .before .before .before .before .before .before .before .before .before .before .before .before .before .pre, (c .before .before .before .before .before .before .entries-of .ensures .lists-source (c .before .before .before .before .before .before .before .before .before .before .before .before .before .before .before .before .before .before .pre .accepted .root) (c .before .before .before .before .before .before .before .before .before .before .before .before .before .before .before .before .before .before .pre .accepted .gives-root) .book-ready (c .before .before .before .before .before .if5 .left) (not-of (c .before .before .before .before .before .before .before .before .before .before .before .before .before .before .before .before .before .before .pre .accepted) (c .before .before .before .before .before .before .before .before .before .before .belongs-to-root .ensures) ∙ c .before .before .before .before .before .before .before .before .before .if3 .left), (c .before .before .before .before .before .before .before .before .before .before .before .before .if1 .left, simp length-take (omega (arith, c .before .before .before .no-text .ensures, c .before .before .room-in .ensures)))))
+put-into-requires c κs = (c .before .before .before .before .before .before .before .before .before .before .before .before .before .before .before .before .before .before .pre, (c .before .before .before .before .before .before .entries-of .ensures .book-ready (c .before .before .before .before .before .before .before .before .before .before .before .before .before .before .before .before .before .before .pre .accepted .root) (c .before .before .before .before .before .before .before .before .before .before .before .before .before .before .before .before .before .before .pre .accepted .gives-root) (c .before .before .before .before .before .if5 .left) (not-of (c .before .before .before .before .before .before .before .before .before .before .before .before .before .before .before .before .before .before .pre .accepted) (c .before .before .before .before .before .before .before .before .before .before .belongs-to-root .ensures) ∙ c .before .before .before .before .before .before .before .before .before .if3 .left), (c .before .before .before .before .before .before .before .before .before .before .before .before .if1 .left, simp length-take (omega (arith, c .before .before .before .no-text .ensures, c .before .before .room-in .ensures)))))
 
 same-length : tie.Need-same-length
 same-length c = search needs
 
 returns-6 : tie.Need-returns-6
 unfolding putCall sideOf
-returns-6 c = program-gives _ (c .before .before .before .before .before .before .before .before .before .before .before .before .before .before .before .before .before .before .before .before .before .before .pre .accepted) (passed 12 (neither-long (now (c .before .before .before .before .before .before .before .before .before .before .before .before .before .before .before .before .before .before .before .before .before .before .args .sheet)) (now (c .before .before .before .before .before .before .before .before .before .before .before .before .before .before .before .before .before .before .before .before .before .before .args .source)) (c .before .before .before .before .before .before .before .before .before .before .before .before .before .before .before .before .if1 .left) (c .before .before .before .before .before .before .before .before .before .before .before .before .before .before .before .if2 .left)) (passed 13 (not-of (c .before .before .before .before .before .before .before .before .before .before .before .before .before .before .before .before .before .before .before .before .before .before .pre .accepted) (c .before .before .before .before .before .before .before .before .before .before .before .before .before .before .belongs-to-root .ensures) ∙ c .before .before .before .before .before .before .before .before .before .before .before .before .before .if3 .left) (passed 14 (not-of (c .before .before .before .before .before .before .before .before .before .before .before .before .before .before .before .before .before .before .before .before .before .before .pre .accepted) (c .before .before .before .before .before .before .before .before .before .before .before .before .belongs-to-root2 .ensures) ∙ c .before .before .before .before .before .before .before .before .before .before .before .if4 .left) (passed 15 (sym (c .before .before .before .before .before .before .before .before .before .before .entries-of .ensures .lists-source (c .before .before .before .before .before .before .before .before .before .before .before .before .before .before .before .before .before .before .before .before .before .before .pre .accepted .root) (c .before .before .before .before .before .before .before .before .before .before .before .before .before .before .before .before .before .before .before .before .before .before .pre .accepted .gives-root) .over-is) ∙ c .before .before .before .before .before .before .before .before .before .if5 .left) (put-given (c .before .before .before .before .before .before .before .before .before .before .before .before .before .before .before .before .before .before .before .before .before .before .pre .accepted) (c .before .before .before .before .before .before .before .before .before .before .entries-of .ensures .lists-source (c .before .before .before .before .before .before .before .before .before .before .before .before .before .before .before .before .before .before .before .before .before .before .pre .accepted .root) (c .before .before .before .before .before .before .before .before .before .before .before .before .before .before .before .before .before .before .before .before .before .before .pre .accepted .gives-root) .listed (c .before .before .before .before .before .before .before .before .before .if5 .left)) (c .before .before .before .source-into .ensures))))))
+returns-6 c = program-gives _ (c .before .before .before .before .before .before .before .before .before .before .before .before .before .before .before .before .before .before .before .before .before .before .pre .accepted) (passed 12 (neither-long (now (c .before .before .before .before .before .before .before .before .before .before .before .before .before .before .before .before .before .before .before .before .before .before .args .sheet)) (now (c .before .before .before .before .before .before .before .before .before .before .before .before .before .before .before .before .before .before .before .before .before .before .args .source)) (c .before .before .before .before .before .before .before .before .before .before .before .before .before .before .before .before .if1 .left) (c .before .before .before .before .before .before .before .before .before .before .before .before .before .before .before .if2 .left)) (passed 13 (not-of (c .before .before .before .before .before .before .before .before .before .before .before .before .before .before .before .before .before .before .before .before .before .before .pre .accepted) (c .before .before .before .before .before .before .before .before .before .before .before .before .before .before .belongs-to-root .ensures) ∙ c .before .before .before .before .before .before .before .before .before .before .before .before .before .if3 .left) (passed 14 (not-of (c .before .before .before .before .before .before .before .before .before .before .before .before .before .before .before .before .before .before .before .before .before .before .pre .accepted) (c .before .before .before .before .before .before .before .before .before .before .before .before .belongs-to-root2 .ensures) ∙ c .before .before .before .before .before .before .before .before .before .before .before .if4 .left) (passed 15 (sym (c .before .before .before .before .before .before .before .before .before .before .entries-of .ensures .over-is (c .before .before .before .before .before .before .before .before .before .before .before .before .before .before .before .before .before .before .before .before .before .before .pre .accepted .root) (c .before .before .before .before .before .before .before .before .before .before .before .before .before .before .before .before .before .before .before .before .before .before .pre .accepted .gives-root)) ∙ c .before .before .before .before .before .before .before .before .before .if5 .left) (c .before .before .before .put-into .ensures .gives-made (c .before .before .before .before .before .before .before .before .before .before .before .before .before .before .before .before .before .before .before .before .before .before .pre .accepted .root) (c .before .before .before .before .before .before .before .before .before .before .before .before .before .before .before .before .before .before .before .before .before .before .pre .accepted .gives-root))))))
 
 pub put-with-spec : {M : Type 1} → statement M
 put-with-spec =
@@ -87,9 +87,9 @@ put-with-spec =
     returns-5
     no-text-requires
     room-in-requires
-    sub-source-into
+    sub-put-into
     part-result-start
     part-result-end
-    source-into-requires
+    put-into-requires
     same-length
     returns-6)

@@ -7,7 +7,7 @@ use borrow.Author.Needs.{needs}
 use lib.ListN.{length}
 use mathlib.Core.Path.{refl}
 use Rattle.lens.specs.declared.Wrote.the-variants.{Count, Full}
-use Rattle.lens.proofs.Nodes.{lens-read, shown-const, shown-join, shown-union, shown-repeat, shown-match, node-prepared, child-below, left-below, right-below, sheet-below, arm-below}
+use Rattle.lens.specs.Nodes.{lens-read, shown-const, shown-join, shown-union, shown-repeat, shown-match, node-prepared, child-below, left-below, right-below, sheet-below, arm-below}
 use Rattle.lens.proofs.Emission.{emits-copy, emits-const, emits-key, emits-join, emits-union, emits-match, emitted-within, emitted-length, sum-within, shorter, join-full, join-next}
 use Rattle.lens.proofs.Repeats.{Repeating, repeat-begins, repeat-ends, repeat-room, repeat-length, repeat-lends, part-within, part-flagged, repeat-full, repeat-next}
 use Rattle.lens.specs.Emitting.{sideFor}

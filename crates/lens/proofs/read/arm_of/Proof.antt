@@ -1,6 +1,6 @@
 -- `lens::read::arm_of` meets its contract. Assumes nothing.
 use mathlib.Core.Bool.{true, false}
-use Rattle.lens.proofs.Nodes.{arm-chosen}
+use Rattle.lens.specs.Nodes.{arm-chosen}
 use borrow.Author.Needs.{needs}
 use Rattle.lens.proofs.read.arm_of.Statement.{statement}
 use Rattle.lens.proofs.read.arm_of.Tie as tie

@@ -1,6 +1,6 @@
 -- `lens::read::word_of` meets its contract: the sizes of a table that was read are right, so a word of its pool lies within it. Assumes nothing.
 use native.Mathlib.Omega.{arith}
-use Rattle.lens.proofs.Nodes.{shown-word, word-read, word-inside, word-placed}
+use Rattle.lens.specs.Nodes.{shown-word, word-read, word-inside, word-placed}
 use borrow.Author.Needs.{needs}
 use Rattle.lens.proofs.read.word_of.Statement.{statement}
 use Rattle.lens.proofs.read.word_of.Tie as tie

@@ -1,0 +1,7 @@
+-- What the functions of this crate know at each turn.
+mod NodeEntries
+mod RepeatEntries
+mod Printing
+mod Sealing
+mod Dealing
+mod Finding

@@ -1,0 +1,40 @@
+// The line of a refusal, put into a buffer part by part. Each function answers the place behind what it put.
+use lens::texts::write_text;
+ghost use mathlib.Core.Path.{_≡_};
+ghost use mathlib.Core.List.{_++_};
+ghost use Prim.Native.Nat.{_+_, _≤_};
+ghost use lib.ListN.{length, drop};
+ghost use Rattle.semantics.specs.Calls.{field};
+ghost use Rattle.engine.specs.Line.{Puts, refusedLine};
+
+fn put_text(text: &[u8], at: usize, out: &mut [u8]) -> usize
+    requires { ⌜ at + length (now text) ≤ length (now out) ⌝ }
+    ensures { λ r. ⌜ Puts (now (text .entry)) at r (now (out .entry)) (now (out .exit)) ⌝ }
+{
+    write_text(text, &mut out[at..]);
+    at + text.len()
+}
+
+// A space and a number, which has at most 20 digits.
+fn put_field(number: usize, at: usize, out: &mut [u8]) -> usize
+    requires { ⌜ at + 21 ≤ length (now out) ⌝ }
+    ensures puts { λ r. ⌜ Puts (field number) at r (now (out .entry)) (now (out .exit)) ⌝ }
+    ensures short { λ r. ⌜ r ≤ at + 21 ⌝ }
+{
+    let next = put_text(b" ", at, out);
+    let mut digits = [0u8; 20];
+    let n = io::decimal(number as u64, &mut digits);
+    put_text(&digits[0..n], next, out)
+}
+
+// The whole line, at the start of the buffer.
+pub fn put_refused(number: usize, node: usize, out: &mut [u8]) -> usize
+    requires { ⌜ 64 ≤ length (now out) ⌝ }
+    ensures leaves { λ r. ⌜ now (out .exit) ≡ refusedLine number node ++ drop (length (refusedLine number node)) (now (out .entry)) ⌝ }
+    ensures answers { λ r. ⌜ r ≡ length (refusedLine number node) ⌝ }
+{
+    let first = put_text(b"refused", 0, out);
+    let second = put_field(number, first, out);
+    let end = put_field(node, second, out);
+    put_text(b"\n", end, out)
+}

@@ -1,0 +1,303 @@
+-- What a node writes, from what the nodes below it write: a law for each kind but the repeat.
+use mathlib.Core.Path.{_≡_, refl, sym, ap}
+use mathlib.Core.Bool.{true, cond}
+use mathlib.Core.Logic.{inl, inr}
+use mathlib.Core.List.{List, [], _∷_}
+use mathlib.Core.Option.{Option}
+use Prim.Native.Nat.{ℕ, _-_, _≤_, _<_}
+use native.Mathlib.Nat.{sub-zero}
+use native.Mathlib.Omega.{arith}
+use lib.Dec.{eqb, ltb}
+use lib.ListN.{length, take, drop}
+use types.Run.{OneOf, miss}
+use denote.Enum.Declared.{tagOf}
+use Rattle.semantics.specs.Text.{Text, orElse, apply}
+use Rattle.semantics.specs.Pattern.{matches}
+use Rattle.semantics.specs.Lens.{Lens, copy, const, key, join, union, match, source, sheet, language, cutAt, keyOf, Arm, putLeft, putRight, createLeft, createRight, armOf, andThen, writeArm, writeMatch, write}
+use Rattle.semantics.specs.Lens.{Book as Entries}
+use Rattle.semantics.specs.Table.{trees, treeAt, lens}
+use Rattle.table.specs.declared.Kind.{Kind}
+use Rattle.table.specs.declared.Kind.the-variants.{Word, Range, PatternJoin, PatternUnion, PatternRepeat, Copy, Const, Key, LensJoin, LensUnion, LensRepeat, Match}
+use Rattle.table.specs.declared.Node.{Node}
+use Rattle.table.specs.Prepared.{TwoLenses, Shows}
+use Rattle.table.specs.Rules.{NodeRead}
+use Rattle.table.proofs.Kind.{the-type}
+use Rattle.automaton.specs.declared.Side.the-variants.{Source, Sheet}
+use Rattle.automaton.specs.Rows.{automatonAt, Describes}
+use Rattle.lens.specs.declared.Mode.the-variants.{Get, Key as KeyMode}
+use Rattle.lens.specs.declared.Wrote.{Wrote}
+use Rattle.lens.specs.Overlay.{Writes}
+use Rattle.lens.specs.Reading.{modeSide}
+use Rattle.lens.specs.Cutting.{CutAt, rest-lent}
+use Rattle.lens.specs.Emitting.{sideFor, LensNode}
+use Rattle.lens.specs.Nodes.{lens-read, shown-const, shown-join, shown-match, describes-lens, lens-below, left-below, right-below}
+use Rattle.books.specs.declared.Book.{Book}
+use Rattle.books.specs.declared.Old.{Old}
+use Rattle.books.specs.declared.Lookup.{Lookup}
+use Rattle.books.specs.Cards.{cardOf, CardIs, key-short}
+use Rattle.books.specs.Listed.{unused}
+use Rattle.books.specs.Looking.{BookOver, CardsFit, LookedUp, oldText, same-all, same-then}
+use Rattle.writer.specs.declared.Done.{Done}
+use Rattle.writer.specs.declared.Choice.{Choice}
+use Rattle.writer.specs.declared.Halves.{Halves}
+use Rattle.writer.specs.Writing.{OldInside, Progress, WritesNode, WritesJoin, WritesMatch, WritesBehind, HalvesAre, choiceOf, Chosen, ConstIs, leaving}
+use Rattle.writer.proofs.Stepping.{inside-none}
+use Rattle.writer.proofs.Behind.{progress-is, node-writes}
+
+-- ---- The automata of a node's sources and sheets
+
+module _ {bytes prepared : List ℕ} {node : ℕ} (known : LensNode bytes prepared node) (l : Lens) (e : treeAt (trees bytes) node ≡ lens l) where
+  pub describes-source : Describes (language source l) (automatonAt prepared node Source) prepared
+  unfolding modeSide sideFor
+  describes-source = describes-lens known Get l e
+
+  pub describes-sheet : Describes (language sheet l) (automatonAt prepared node Sheet) prepared
+  unfolding modeSide sideFor
+  describes-sheet = describes-lens known KeyMode l e
+
+-- ---- Patterns, which are no lenses
+
+-- the tags of the patterns' kinds
+abbrev pub PatternTags : List ℕ
+PatternTags = 0 ∷ 1 ∷ 2 ∷ 3 ∷ 4 ∷ []
+
+pattern-tag : (tag : ℕ) → OneOf PatternTags tag → ltb (cond (eqb tag 0) 0 (cond (ltb tag 5) 1 2)) 2 ≡ true
+pattern-tag tag (inl e) = rw e
+pattern-tag tag (inr (inl e)) = rw e
+pattern-tag tag (inr (inr (inl e))) = rw e
+pattern-tag tag (inr (inr (inr (inl e)))) = rw e
+pattern-tag tag (inr (inr (inr (inr e)))) = rw e
+
+pub pattern-read :
+    {A : Type 0} {bytes prepared : List ℕ} {node : ℕ} {r : Node}
+    → LensNode bytes prepared node
+    → NodeRead bytes node r
+    → OneOf PatternTags (tagOf the-type (r .kind))
+    → A
+pattern-read {r} known read h = lens-read (r .kind) known read refl (pattern-tag (tagOf the-type (r .kind)) h)
+
+-- ---- Copies and keys, which write the sheet
+
+-- The node's lens writes the sheet, and leaves the book.
+record SheetNode (bytes : Text) (node : ℕ) : Type 0 where
+  tree : Lens
+  tree-is : treeAt (trees bytes) node ≡ lens tree
+  writes-sheet : (old : Option Text) (new : Text) (b : Entries) → record { text = new; book = b } ≡ write tree old new b
+
+-- the tags of the kinds
+abbrev pub SheetTags : List ℕ
+SheetTags = 5 ∷ 7 ∷ []
+
+sheet-node : (bytes : Text) (node : ℕ) (κ : Kind) → Shows bytes node κ → OneOf SheetTags (tagOf the-type κ) → SheetNode bytes node
+unfolding Shows write
+sheet-node bytes node (Copy a) s h = record { tree = copy (s .child); tree-is = s .tree-is; writes-sheet = λ old new b. refl }
+sheet-node bytes node (Key a) s h = record { tree = key (s .child); tree-is = s .tree-is; writes-sheet = λ old new b. refl }
+sheet-node bytes node (Word a b) s h = absurd (miss SheetTags 0 tt h)
+sheet-node bytes node (Range a b) s h = absurd (miss SheetTags 1 tt h)
+sheet-node bytes node (PatternJoin a b) s h = absurd (miss SheetTags 2 tt h)
+sheet-node bytes node (PatternUnion a b) s h = absurd (miss SheetTags 3 tt h)
+sheet-node bytes node (PatternRepeat a) s h = absurd (miss SheetTags 4 tt h)
+sheet-node bytes node (Const a b c) s h = absurd (miss SheetTags 6 tt h)
+sheet-node bytes node (LensJoin a b) s h = absurd (miss SheetTags 8 tt h)
+sheet-node bytes node (LensUnion a b) s h = absurd (miss SheetTags 9 tt h)
+sheet-node bytes node (LensRepeat a) s h = absurd (miss SheetTags 10 tt h)
+sheet-node bytes node (Match a) s h = absurd (miss SheetTags 11 tt h)
+
+-- ---- What is written at a node, by its kind
+
+-- one text, and the book as it was
+plain :
+    {bytes deck t before after : Text} {b : Book} {answer : Wrote}
+    → BookOver 4096 b
+    → Writes t before after answer
+    → Progress bytes deck (record { text = t; book = unused (trees bytes) deck b }) b before after (leaving answer b)
+plain {b} over w = record { bytes-are = w; book-is = λ h. refl; over = over; same-entries = same-all b }
+
+module _ {bytes : Text} {node : ℕ} {r : Node} (read : NodeRead bytes node r) {deck : Text} {old : Option Text} {new before after : Text} {b : Book} where
+  pub sheet-writes :
+      {answer : Wrote}
+      → OneOf SheetTags (tagOf the-type (r .kind))
+      → BookOver 4096 b
+      → Writes new before after answer
+      → WritesNode bytes node deck old new b before after (leaving answer b)
+  sheet-writes h over w =
+      let s = sheet-node bytes node (r .kind) (read .shows) h in
+      node-writes (s .tree) (s .tree-is) (progress-is (s .writes-sheet old new (unused (trees bytes) deck b)) (plain over w))
+
+  pub const-writes :
+      {c d e : ℕ} {answer : Wrote}
+      → r .kind ≡ Const c d e
+      → BookOver 4096 b
+      → ConstIs bytes e old before after answer
+      → WritesNode bytes node deck old new b before after (leaving answer b)
+  unfolding write
+  const-writes is over w =
+      let s = shown-const read is in
+      node-writes (const (s .child) (s .sheet-word) (s .default-word)) (s .tree-is) (plain over (w .writes (s .default-word) (s .at-default)))
+
+  pub join-writes :
+      {left right : ℕ} {done : Done}
+      → r .kind ≡ LensJoin left right
+      → WritesJoin bytes left right deck old new b before after done
+      → WritesNode bytes node deck old new b before after done
+  join-writes is w =
+      let s = shown-join read is in
+      node-writes (join (s .left) (s .right)) (s .tree-is) (w .writes (s .left) (s .right) (s .at-left) (s .at-right))
+
+  pub match-writes :
+      {child : ℕ} {done : Done}
+      → r .kind ≡ Match child
+      → WritesMatch bytes child deck new b before after done
+      → WritesNode bytes node deck old new b before after done
+  match-writes {child} is w =
+      let s = shown-match read is in
+      node-writes (match child (s .child)) (s .tree-is) (w .writes (s .child) (s .at-child) old)
+
+-- ---- A join
+
+-- what it writes, from where the sheet and the old text are cut
+write-join :
+    (l m : Lens) (old : Option Text) (new : Text) (i : ℕ) (first second : Option Text) (b : Entries)
+    → i ≡ cutAt (language sheet l) (language sheet m) new
+    → (let j = orElse 0 (apply (cutAt (language source l) (language source m)) old) in (first ≡ apply (take j) old) × (second ≡ apply (drop j) old))
+    → andThen (write l first (take i new) b) (write m second (drop i new)) ≡ write (join l m) old new b
+unfolding write
+write-join l m old new i first second b i-is (first-is, second-is) = rw (first-is, second-is, i-is)
+
+-- the left half, and directly behind it the right half
+pub halves-write :
+    {bytes prepared : List ℕ} {left right : ℕ} {deck new : Text} {old : Old} {pad pad′ : List ℕ} {i : ℕ} {halves : Halves}
+    {b : Book} {before mid after : Text} {done r : Done}
+    → LensNode bytes prepared left
+    → LensNode bytes prepared right
+    → CutAt prepared (automatonAt prepared left Sheet) (automatonAt prepared right Sheet) new pad pad′ i
+    → HalvesAre prepared left right deck old halves
+    → WritesNode bytes left deck (oldText deck (halves .first)) (take (i - 0) new) b before mid done
+    → WritesBehind bytes right deck (oldText deck (halves .second)) (take (length new - i) (drop i new)) done mid after r
+    → WritesJoin bytes left right deck (oldText deck old) new b before after r
+halves-write {bytes} {deck} {new} {old} {i} {halves} {b} {before} known-left known-right cut are first second =
+    record {
+      writes = λ l m e f.
+          let i-is = cut .place-is (language sheet l) (language sheet m) (describes-sheet known-left l e) (describes-sheet known-right m f) in
+          let are-halves =
+          are .halves-are (language source l) (language source m) (describes-source known-left l e) (describes-source known-right m f) in
+          progress-is
+          (write-join l m (oldText deck old) new i (oldText deck (halves .first)) (oldText deck (halves .second)) (unused (trees bytes) deck b) i-is are-halves)
+          (rw (rest-lent new i) at (second .writes m f _ b before (rw sub-zero at (first .writes l e))));
+    }
+
+-- ---- A union
+
+-- the lens that an arm stands for
+abbrev armLens : Arm → Lens → Lens → Lens
+armLens putLeft l m = l
+armLens putRight l m = m
+armLens createLeft l m = l
+armLens createRight l m = m
+
+-- it writes what the union writes
+write-arm :
+    (l m : Lens) (arm : Arm) (left right : ℕ) (deck : Text) (old : Old) (new : Text) (b : Entries)
+    → write (armLens arm l m) (oldText deck (choiceOf arm left right old .old)) new b ≡ writeArm (write l) (write m) arm (oldText deck old) new b
+unfolding writeArm oldText
+write-arm l m putLeft left right deck old new b = refl
+write-arm l m putRight left right deck old new b = refl
+write-arm l m createLeft left right deck old new b = refl
+write-arm l m createRight left right deck old new b = refl
+
+-- it stands at a lower node, and puts onto an old text that stands in the old source
+arm-at :
+    (bytes : Text) {node left right : ℕ} {old : Old} (s : TwoLenses (trees bytes) node left right (λ l m. lens (union l m)))
+    → OldInside old
+    → (arm : Arm)
+    → let c = choiceOf arm left right old in (treeAt (trees bytes) (c .arm) ≡ lens (armLens arm (s .left) (s .right))) × (c .arm < node) × OldInside (c .old)
+arm-at bytes s inside putLeft = (s .at-left, s .left-lower, inside)
+arm-at bytes s inside putRight = (s .at-right, s .right-lower, inside)
+arm-at bytes s inside createLeft = (s .at-left, s .left-lower, inside-none)
+arm-at bytes s inside createRight = (s .at-right, s .right-lower, inside-none)
+
+-- The arm that was chosen: a lower node, and what the union writes is what it writes.
+pub record ArmAt (bytes prepared : List ℕ) (node : ℕ) (deck new : Text) (old : Old) (choice : Choice) : Type 0 where
+  pub lower : choice .arm < node
+  pub lens-node : LensNode bytes prepared (choice .arm)
+  pub old-inside : OldInside (choice .old)
+  pub writes :
+      {b : Book} {before after : Text} {done : Done}
+      → WritesNode bytes (choice .arm) deck (oldText deck (choice .old)) new b before after done
+      → WritesNode bytes node deck (oldText deck old) new b before after done
+
+pub arm-chosen :
+    {bytes prepared : List ℕ} {node left right : ℕ} {deck new : Text} {old : Old} {choice : Choice}
+    → LensNode bytes prepared node
+    → TwoLenses (trees bytes) node left right (λ l m. lens (union l m))
+    → OldInside old
+    → Chosen prepared left right new deck old choice
+    → ArmAt bytes prepared node deck new old choice
+unfolding write
+arm-chosen {bytes} {prepared} {node} {left} {right} {deck} {new} {old} {choice} known s inside chosen = rw choice-is arm-is
+  where
+    arm : Arm
+    arm = armOf (apply (matches (language source (s .left))) (oldText deck old)) (matches (language sheet (s .left)) new) (matches (language sheet (s .right)) new)
+
+    choice-is : choice ≡ choiceOf arm left right old
+    choice-is =
+        chosen .choice-is
+        (language source (s .left))
+        (language sheet (s .left))
+        (language sheet (s .right))
+        (describes-source (left-below known s) (s .left) (s .at-left))
+        (describes-sheet (left-below known s) (s .left) (s .at-left))
+        (describes-sheet (right-below known s) (s .right) (s .at-right))
+
+    arm-is : ArmAt bytes prepared node deck new old (choiceOf arm left right old)
+    arm-is =
+        let (at-arm, lower, old-inside) = arm-at bytes s inside arm in
+        record {
+          lower = lower;
+          lens-node = lens-below known (armLens arm (s .left) (s .right)) lower at-arm;
+          old-inside = old-inside;
+          writes = λ {b} w.
+              node-writes
+              (union (s .left) (s .right))
+              (s .tree-is)
+              (progress-is
+              (write-arm (s .left) (s .right) arm left right deck old new (unused (trees bytes) deck b))
+              (w .writes (armLens arm (s .left) (s .right)) at-arm));
+        }
+
+-- ---- A match
+
+-- the lookup is that of the sheet's key
+pub looked-up-key :
+    {bytes deck : Text} {child : ℕ} {b : Book} {new slot : Text} {n : ℕ} {r : Lookup}
+    → CardIs bytes child new slot n
+    → length new ≤ 4096
+    → CardsFit bytes deck b
+    → ((bytes k : Text) → take (n - 0) slot ≡ cardOf k → length k ≤ 4096 → CardsFit bytes deck b → LookedUp bytes deck child k b r)
+    → (l : Lens) → treeAt (trees bytes) child ≡ lens l → LookedUp bytes deck child (keyOf l new) b r
+looked-up-key {bytes} {new} {slot} {n} card short fit looked l e =
+    looked bytes (keyOf l new) (rw sub-zero (card .card-is l e short)) (omega (arith, short, key-short l new)) fit
+
+-- what the child writes onto the entry that was found
+pub found-writes :
+    {bytes deck : Text} {child : ℕ} {b : Book} {new before after : Text} {r : Lookup} {done : Done}
+    → ((l : Lens) → treeAt (trees bytes) child ≡ lens l → LookedUp bytes deck child (keyOf l new) b r)
+    → WritesNode bytes child deck (oldText deck (r .old)) new (r .book) before after done
+    → WritesMatch bytes child deck new b before after done
+unfolding write writeMatch
+found-writes {bytes} {deck} {child} {b} {new} {r} looked w =
+    record {
+      writes = λ l e old.
+          let found = looked l e in
+          let written = w .writes l e in
+          let is : write l (oldText deck (r .old)) new (unused (trees bytes) deck (r .book)) ≡ write (match child l) old new (unused (trees bytes) deck b) =
+          sym (ap (λ t. write l (t .found) new (t .left)) (found .looked-up)) in
+          progress-is
+          is
+          (record {
+            bytes-are = written .bytes-are;
+            book-is = written .book-is;
+            over = written .over;
+            same-entries = same-then (found .same-entries) (written .same-entries);
+          });
+    }

@@ -1,0 +1,160 @@
+-- What put and create owe, in terms of the definitions' `write`, and what they are given.
+use mathlib.Core.Path.{_≡_}
+use mathlib.Core.Bool.{cond}
+use mathlib.Core.List.{List}
+use mathlib.Core.Option.{Option}
+use Prim.Native.Nat.{ℕ, _+_, _-_, _*_, _^_, _≤_, _<_}
+use lib.Dec.{ltb}
+use lib.ListN.{length, take, drop}
+use Rattle.semantics.specs.Text.{Text, orElse, apply}
+use Rattle.semantics.specs.Pattern.{Pattern, word, matches}
+use Rattle.semantics.specs.Lens.{Lens, join, match, cutAt, Arm, putLeft, putRight, createLeft, createRight, armOf, Written, andThen, write}
+use Rattle.semantics.specs.Table.{trees, treeAt, pattern, lens}
+use Rattle.automaton.specs.declared.Side.{Side}
+use Rattle.automaton.specs.declared.Side.the-variants.{Source, Sheet}
+use Rattle.automaton.specs.Rows.{automatonAt, Describes}
+use Rattle.lens.specs.declared.Wrote.{Wrote}
+use Rattle.lens.specs.declared.Wrote.the-variants.{Count, Full}
+use Rattle.lens.specs.Overlay.{Writes}
+use Rattle.lens.specs.Reading.{firstPart}
+use Rattle.lens.specs.Emitting.{LensNode}
+use Rattle.lens.specs.Cutting.{SuffixFlags}
+use Rattle.books.specs.declared.Book.{Book}
+use Rattle.books.specs.declared.Old.{Old}
+use Rattle.books.specs.declared.Old.the-variants.{At, Nothing}
+use Rattle.books.specs.Listed.{unused}
+use Rattle.books.specs.Looking.{BookOver, SameEntries, CardsFit, oldText}
+use Rattle.writer.specs.declared.Done.{Done}
+use Rattle.writer.specs.declared.Choice.{Choice}
+use Rattle.writer.specs.declared.Halves.{Halves}
+use Rattle.writer.specs.declared.Span.{Span}
+
+-- ---- What a writer is given
+
+-- A node that is a lens, a deck with an old source and its entries' cards, and a book over them.
+pub record Ready (bytes prepared : List ℕ) (node : ℕ) (deck : Text) (b : Book) : Type 0 where
+  pub lens-node : LensNode bytes prepared node
+  pub over : BookOver 4096 b
+  pub cards-fit : CardsFit bytes deck b
+  pub deck-size : 4096 + 4100 * b .count ≤ length deck
+
+-- The sheet is no longer than a text may be, and the pad has room for the flags of a sheet and an old text at every node from here down.
+pub record Lent (node : ℕ) (new pad : List ℕ) : Type 0 where
+  pub new-short : length new ≤ 4096
+  pub pad-room : 8194 * (node + 1) ≤ length pad
+
+-- The old text stands in the old source.
+pub record OldInside (old : Old) : Type 0 where
+  pub inside : (start len : ℕ) → old ≡ At start len → start + len ≤ 4096
+
+-- What was written lies within the buffer.
+pub record WithinBuffer (done : Done) (out : Text) : Type 0 where
+  pub within : (n : ℕ) → done .wrote ≡ Count n → n ≤ length out
+
+-- ---- What a writer owes
+
+-- What was written so far, from the book b on, is the text of the definitions, and, unless the buffer was too short, the book that is left is theirs.
+pub record Progress (bytes deck : Text) (w : Written) (b : Book) (before after : Text) (r : Done) : Type 0 where
+  pub bytes-are : Writes (w .text) before after (r .wrote)
+  pub book-is : ¬ (r .wrote ≡ Full) → unused (trees bytes) deck (r .book) ≡ w .book
+  pub over : BookOver 4096 (r .book)
+  pub same-entries : SameEntries b (r .book)
+
+-- What a lens writes,
+abbrev pub WritesLens : Text → Text → Lens → Option Text → Text → Book → Text → Text → Done → Type 0
+WritesLens bytes deck l old new b before after r = Progress bytes deck (write l old new (unused (trees bytes) deck b)) b before after r
+
+-- that of a node,
+pub record WritesNode (bytes : Text) (node : ℕ) (deck : Text) (old : Option Text) (new : Text) (b : Book) (before after : Text) (r : Done) : Type 0 where
+  pub writes : (l : Lens) → treeAt (trees bytes) node ≡ lens l → WritesLens bytes deck l old new b before after r
+
+-- the join of two,
+pub record WritesJoin (bytes : Text) (left right : ℕ) (deck : Text) (old : Option Text) (new : Text) (b : Book) (before after : Text) (r : Done) : Type 0 where
+  pub writes :
+      (l m : Lens)
+      → treeAt (trees bytes) left ≡ lens l
+      → treeAt (trees bytes) right ≡ lens m
+      → WritesLens bytes deck (join l m) old new b before after r
+
+-- and a match, which does not look at the old text at its own place.
+pub record WritesMatch (bytes : Text) (child : ℕ) (deck : Text) (new : Text) (b : Book) (before after : Text) (r : Done) : Type 0 where
+  pub writes :
+      (l : Lens) → treeAt (trees bytes) child ≡ lens l → (old : Option Text) → WritesLens bytes deck (match child l) old new b before after r
+
+-- What a node's lens writes behind whatever was written before.
+pub record WritesBehind (bytes : Text) (node : ℕ) (deck : Text) (old : Option Text) (new : Text) (done : Done) (mid after : Text) (r : Done) : Type 0 where
+  pub writes :
+      (l : Lens)
+      → treeAt (trees bytes) node ≡ lens l
+      → (w : Written) (b : Book) (before : Text)
+      → Progress bytes deck w b before mid done
+      → Progress bytes deck (andThen w (write l old new)) b before after r
+
+-- ---- What the steps of a writer answer
+
+-- where an old text stands; at no place, if there is none
+abbrev pub spanOf : Old → Span
+spanOf (At start len) = record { start = start; end = start + len }
+spanOf Nothing = record { start = 0; end = 0 }
+
+-- the old part between two places
+abbrev pub oldBetween : ℕ → ℕ → Old
+oldBetween start end = cond (ltb start end) (At start (end - start)) Nothing
+
+-- The place is the end of the part that begins at o.
+pub record PartEnd (prepared : List ℕ) (child : ℕ) (side : Side) (text : Text) (flags : List ℕ) (o place : ℕ) : Type 0 where
+  pub from : o ≤ place
+  pub within : place ≤ length text
+  pub some-text : o < length text → o < place
+  pub place-is :
+      (a : Pattern)
+      → Describes a (automatonAt prepared child side) prepared
+      → SuffixFlags a text flags o
+      → o < length text
+      → place ≡ o + firstPart a (drop o text)
+
+-- The halves of an old text, cut between the sources of two nodes; none has none.
+pub record HalvesAre (prepared : List ℕ) (left right : ℕ) (deck : Text) (old : Old) (r : Halves) : Type 0 where
+  pub first-inside : OldInside (r .first)
+  pub second-inside : OldInside (r .second)
+  pub halves-are :
+      (a b : Pattern)
+      → Describes a (automatonAt prepared left Source) prepared
+      → Describes b (automatonAt prepared right Source) prepared
+      → let j = orElse 0 (apply (cutAt a b) (oldText deck old)) in
+      (oldText deck (r .first) ≡ apply (take j) (oldText deck old)) × (oldText deck (r .second) ≡ apply (drop j) (oldText deck old))
+
+-- the choice that an arm stands for
+abbrev pub choiceOf : Arm → ℕ → ℕ → Old → Choice
+choiceOf putLeft left right old = record { arm = left; old = old }
+choiceOf putRight left right old = record { arm = right; old = old }
+choiceOf createLeft left right old = record { arm = left; old = Nothing }
+choiceOf createRight left right old = record { arm = right; old = Nothing }
+
+-- The choice is that of the definitions' arm.
+pub record Chosen (prepared : List ℕ) (left right : ℕ) (new deck : Text) (old : Old) (r : Choice) : Type 0 where
+  pub choice-is :
+      (a b c : Pattern)
+      → Describes a (automatonAt prepared left Source) prepared
+      → Describes b (automatonAt prepared left Sheet) prepared
+      → Describes c (automatonAt prepared right Sheet) prepared
+      → r ≡ choiceOf (armOf (apply (matches a) (oldText deck old)) (matches b new) (matches c new)) left right old
+
+-- The old text is written, or the default word.
+pub record ConstIs (bytes : Text) (node : ℕ) (old : Option Text) (before after : Text) (answer : Wrote) : Type 0 where
+  pub writes : (w : Text) → treeAt (trees bytes) node ≡ pattern (word w) → Writes (orElse w old) before after answer
+
+abbrev pub leaving : Wrote → Book → Done
+leaving wrote b = record { wrote = wrote; book = b }
+
+-- what was written behind n bytes, with them
+abbrev pub countBehind : ℕ → Wrote → Wrote
+countBehind n (Count m) = Count (n + m)
+countBehind n Full = Full
+
+abbrev pub behind : ℕ → Done → Done
+behind n r = leaving (countBehind n (r .wrote)) (r .book)
+
+-- The sum is a number of 64 bits.
+pub record Fits64 (n : ℕ) (r : Done) : Type 0 where
+  pub fits : (m : ℕ) → r .wrote ≡ Count m → n + m < 2 ^ 64
