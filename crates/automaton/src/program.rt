@@ -9,10 +9,11 @@ use crate::build::build_star;
 use crate::build::build_word;
 use table::Kind;
 use table::Table;
+use table::parts::node_count;
 ghost use mathlib.Core.Path.{_≡_};
-ghost use Prim.Native.Nat.{_+_, _≤_, _<_};
+ghost use Prim.Native.Nat.{_+_, _≤_};
 ghost use lib.ListN.{length, take, drop};
-ghost use Rattle.semantics.specs.Table.{nodeCount, pool};
+ghost use Rattle.semantics.specs.Table.{pool};
 ghost use Rattle.table.specs.Prepared.{Shows};
 ghost use Rattle.table.specs.Rules.{AllSized};
 ghost use Rattle.automaton.specs.Rows.{rowAt};
@@ -33,13 +34,6 @@ enum Parts {
     Two(Pair, usize, usize),
     Repeat(usize),
     Same(usize),
-}
-
-fn node_count(bytes: &[u8]) -> usize
-    requires { ⌜ 0 < length (now bytes) ⌝ }
-    ensures { λ r. ⌜ r ≡ nodeCount (now (bytes .entry)) ⌝ }
-{
-    bytes[0] as usize
 }
 
 // How many rows the automata of all nodes take at most: the positions of both sides, summed over the nodes.

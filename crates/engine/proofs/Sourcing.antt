@@ -1,9 +1,9 @@
 -- The book that a call begins with, and the source that is written with it.
-use mathlib.Core.Path.{_≡_, refl, sym, ap, _∙_}
+use mathlib.Core.Path.{_≡_, refl, sym, _∙_}
 use mathlib.Core.Bool.{Bool, true, false, _||_}
 use mathlib.Core.List.{List}
 use mathlib.Core.Option.{none, some}
-use Prim.Native.Nat.{ℕ, _+_, _-_, _*_, _≤_, _<_, min}
+use Prim.Native.Nat.{ℕ, _-_, _≤_, _<_, min}
 use native.Mathlib.Omega.{arith}
 use lib.Dec.{ltb}
 use lib.ListN.{length, take, drop}
@@ -11,7 +11,7 @@ use lib.Seq.{take-length}
 use borrow.Author.Tests.{lt-ltb, le-ltb, not-false}
 use Rattle.semantics.specs.Text.{Text}
 use Rattle.semantics.specs.Pattern.{In, matches}
-use Rattle.semantics.specs.Lens.{Lens, source, language, entries, put, create, write}
+use Rattle.semantics.specs.Lens.{Lens, source, language, entries, put, create}
 use Rattle.semantics.specs.Table.{nodeCount, treeAt, trees}
 use Rattle.semantics.specs.Calls.{gives, program, maxText, maxEntries, tooLong, notOf}
 use Rattle.laws.specs.Membership.{matches-in}

@@ -7,7 +7,7 @@ use crate::put::put;
 ghost use mathlib.Core.Path.{_≡_};
 ghost use Prim.Native.Nat.{ℕ};
 ghost use lib.ListN.{length};
-ghost use Rattle.semantics.specs.Calls.{checkCall, getCall, putCall, createCall, bufferAfter};
+ghost use Rattle.semantics.specs.Calls.{checkCall, getCall, putCall, createCall};
 ghost use Rattle.engine.specs.Answers.{answerFor};
 ghost use Rattle.engine.specs.Exports.{numbersOf, ExportsText};
 

@@ -5,14 +5,15 @@ use line::put_accepted;
 use line::put_refused;
 use table::Table;
 use table::TableAnswer;
+use table::parts::node_count;
 use typing::round::TypingAnswer;
 use typing::round::second_round;
 ghost use mathlib.Core.Path.{_≡_};
 ghost use mathlib.Core.List.{_++_};
 ghost use mathlib.Core.Option.{none};
-ghost use Prim.Native.Nat.{ℕ, _≤_, _<_};
+ghost use Prim.Native.Nat.{ℕ, _≤_};
 ghost use lib.ListN.{length, drop};
-ghost use Rattle.semantics.specs.Table.{nodeCount, firstThatHolds};
+ghost use Rattle.semantics.specs.Table.{firstThatHolds};
 ghost use Rattle.semantics.specs.Calls.{checkCall, lenscheckLine};
 ghost use Rattle.table.specs.Prepared.{tableLines};
 ghost use Rattle.table.specs.Rules.{AllSized};
@@ -52,14 +53,6 @@ fn full_room() -> [u64; 99840]
     ensures { λ r. ⌜ 99840 ≡ length r ⌝ }
 {
     [0u64; 99840]
-}
-
-// The node count N.
-fn node_count(bytes: &[u8]) -> usize
-    requires { ⌜ 0 < length (now bytes) ⌝ }
-    ensures { λ r. ⌜ r ≡ nodeCount (now (bytes .entry)) ⌝ }
-{
-    bytes[0] as usize
 }
 
 // Checks a program, and prepares it in the slice that is lent.

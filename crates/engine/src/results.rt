@@ -1,11 +1,11 @@
 // What the calls that give a text have in common: the root's languages, the room for a result, and the copy into the output buffer.
 use crate::Answer;
-use crate::node_count;
 use automaton::Side;
 use automaton::automaton_of;
 use language::belongs;
 use lens::Wrote;
 use lens::texts::write_text;
+use table::parts::node_count;
 ghost use mathlib.Core.Path.{_≡_};
 ghost use Prim.Native.Nat.{_-_, min};
 ghost use lib.ListN.{length};

@@ -4,7 +4,7 @@ ghost use lib.ListN.{length};
 ghost use Rattle.semantics.specs.Table.{nodeCount};
 ghost use Rattle.table.specs.Rules.{AllSized, NodeRead, ReadLeaves};
 
-mod parts;
+pub mod parts;
 mod round;
 mod rules;
 mod sizes;

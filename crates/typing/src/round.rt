@@ -4,9 +4,9 @@ use automaton::Side;
 use automaton::automaton_of;
 use table::Kind;
 use table::Table;
+use table::parts::node_count;
 ghost use mathlib.Core.Path.{_≡_};
 ghost use Prim.Native.Nat.{ℕ, _<_};
-ghost use lib.ListN.{length};
 ghost use Rattle.semantics.specs.Text.{Text};
 ghost use Rattle.semantics.specs.Pattern.{Pattern, word, star};
 ghost use Rattle.semantics.specs.Lens.{Lens, const, join, union, repeat};
@@ -19,14 +19,6 @@ ghost use Rattle.typing.specs.Round.{typingAnswer, typingFault, faultOf,
 pub enum TypingAnswer {
     Typed,
     Refused { number: usize, node: usize },
-}
-
-// The node count N.
-fn node_count(bytes: &[u8]) -> usize
-    requires { ⌜ 0 < length (now bytes) ⌝ }
-    ensures { λ res. ⌜ res ≡ nodeCount (now (bytes .entry)) ⌝ }
-{
-    bytes[0] as usize
 }
 
 // Whether some text has two cuts into a text of one node and a text of another, on that side.

@@ -16,7 +16,7 @@ use lens::read::word_of;
 use lens::texts::write_text;
 ghost use mathlib.Core.Path.{_≡_};
 ghost use mathlib.Core.Bool.{cond};
-ghost use Prim.Native.Nat.{ℕ, _≤_, _<_};
+ghost use Prim.Native.Nat.{_≤_, _<_};
 ghost use lib.ListN.{length, drop};
 ghost use Rattle.semantics.specs.Pattern.{Pattern, matches};
 ghost use Rattle.automaton.specs.declared.Side.the-variants.{Source, Sheet};
