@@ -14,6 +14,8 @@ use noontrough_reference::{Calls, Reference};
 
 const SEED: u64 = 1;
 const ENTRIES: usize = 256;
+/// Repeats that fill a dense program up to 96 nodes.
+const DENSE_MOST: usize = 78;
 
 fn main() {
     let bench = std::thread::Builder::new().stack_size(STACK_BYTES + (8 << 20)).spawn(bench);
@@ -41,6 +43,13 @@ fn bench() {
     for positions in [32, 64, 128] {
         let table = program_with_positions(positions);
         row(&format!("check, {positions} positions"), check(&table), check_reference(&table));
+    }
+
+    println!("\nCheck of dense programs of 128 positions a side\n");
+    heading();
+    for repeats in [1, DENSE_MOST] {
+        let table = dense_program(repeats);
+        row(&format!("check, {} nodes", table[0]), check(&table), check_reference(&table));
     }
 
     println!("\nGet by length of the source, program K\n");
@@ -149,6 +158,25 @@ fn program_k() -> Vec<u8> {
     let line = draft.lens_row(&row);
     let entry = draft.matched(line);
     draft.lens_repeat(entry);
+    draft.table()
+}
+
+/// Repeats over one lens with 127 positions that may all follow each other and share every byte, and an end. Accepted, since
+/// the end tells the parts.
+fn dense_program(repeats: usize) -> Vec<u8> {
+    let mut draft = Draft::new();
+    let mut doubled = vec![draft.range(b'a', b'y')];
+    for _ in 0..6 {
+        let last = doubled[doubled.len() - 1];
+        doubled.push(draft.pattern_union(last, last));
+    }
+    let all = doubled[1..].iter().fold(doubled[0], |sum, &more| draft.pattern_union(sum, more));
+    let many = draft.pattern_repeat(all);
+    let row = [draft.copy(many), draft.copy_word(b"z")];
+    let part = draft.lens_row(&row);
+    for _ in 0..repeats {
+        draft.lens_repeat(part);
+    }
     draft.table()
 }
 

@@ -7,9 +7,7 @@ use std::collections::HashSet;
 
 use crate::answer::Refusal;
 use crate::calls::{Calls, MAX_ENTRIES, MAX_TEXT};
-use crate::generator::cases::{
-    legal_text, one_repeated_entry, text_at_entry_limit, text_at_length_limit, Call, Case,
-};
+use crate::generator::cases::{legal_text, one_repeated_entry, text_at_entry_limit, text_at_length_limit, Call, Case};
 use crate::generator::programs::accepted;
 use crate::generator::random::Random;
 use crate::generator::texts::{draw, edit};
