@@ -1,5 +1,5 @@
 -- What a build leaves of everything else: the other automata, and the sizes of the nodes. Assumes nothing.
-use mathlib.Core.Path.{_≡_, _∙_}
+use mathlib.Core.Path.{_≡_}
 use mathlib.Core.List.{List}
 use Prim.Native.Nat.{ℕ, _+_, _*_, _≤_, _<_}
 use native.Mathlib.Omega.{arith}
@@ -7,7 +7,7 @@ use lib.Dec.{eqb}
 use lib.ListN.{getD}
 use Rattle.semantics.specs.Pattern.{Pattern}
 use Rattle.automaton.specs.Rows.{sideIndex, automatonAt, Describes}
-use Rattle.automaton.specs.Build.{countAt, headerAt, Counted, SideBuilt}
+use Rattle.automaton.specs.Build.{countAt, headerAt, SideBuilt}
 use Rattle.automaton.specs.declared.Automaton.{Automaton}
 use Rattle.automaton.specs.declared.Side.{Side}
 use Rattle.automaton.proofs.Steps.{row-kept}
@@ -67,14 +67,6 @@ module _
         let small = side-small other in
         let there : 16 * k + (1 + sideIndex other) ≡ countAt k other = omega arith in
         rw there at (size-kept k (1 + sideIndex other) (omega arith) l)
-
-    pub counted-kept : {r : Pattern} {k : ℕ} {other : Side} → 16 * k + 16 ≤ 1536 → Counted r k other before → Counted r k other after
-    counted-kept {k = k} {other = other} l count = record { counted = count-kept k other l ∙ count .counted }
-
-    -- the new automaton has the count that stood there
-    pub built-count : automatonAt after node side .count ≡ getD before (countAt node side) 0
-    unfolding automatonAt
-    built-count = count-kept node side a-node
 
     -- the automaton of every other node and side stays
     pub automaton-kept :

@@ -232,7 +232,3 @@ module _ (bytes : Text) (l : Lens) (accepted-as : program bytes ≡ gives l) whe
         typed = all-typed;
         each = each-left (trees bytes) old b counted (rw listed (entries-fit (trees bytes) l numbered typed old inside));
       }
-
-  -- the empty book
-  pub entries-fit-none : {old : Text} {b : Book} → b .count ≡ 0 → EntriesFit bytes old b
-  entries-fit-none e = record { typed = all-typed; each = λ i h. absurd (omega arith) }

@@ -1,7 +1,7 @@
 -- Small laws on tests, lists, members and joined parts that the other files cite.
 use mathlib.Core.Path.{_≡_, refl, sym, ap, _∙_, subst}
 use mathlib.Core.Bool.{Bool, true, false, _&&_, _||_, cond, true≢false, false≢true}
-use mathlib.Core.List.{List, [], _∷_, _++_, map, append-assoc}
+use mathlib.Core.List.{List, [], _∷_, _++_, map}
 use mathlib.Core.Logic.{_⊎_, inl, inr}
 use Prim.Native.Nat.{ℕ, zero, suc, _≤_}
 use native.Mathlib.Nat.{not-suc-le-zero, le-of-suc-le-suc, le-refl}
@@ -146,11 +146,6 @@ module _ {A : Type 0} where
   passes-of test x (y ∷ xs) (inr m) p = or-right (test y) (somePasses test xs) (passes-of test x xs m p)
 
   -- ---- Joined parts
-
-  pub joined-append : (ps qs : List (List A)) → joined (ps ++ qs) ≡ joined ps ++ joined qs
-  unfolding joined
-  joined-append [] qs = refl
-  joined-append (p ∷ ps) qs = rw (joined-append ps qs) (sym (append-assoc p (joined ps) (joined qs)))
 
   pub member-joined : (x : A) (p : List A) (ps : List (List A)) → Member x p → Member p ps → Member x (joined ps)
   unfolding joined

@@ -1,6 +1,6 @@
 -- Get and the key, as one reading over the mode, and the parts of a repeat one by one.
 use mathlib.Core.Path.{_≡_, refl, ap}
-use mathlib.Core.Bool.{Bool, true, false, _&&_}
+use mathlib.Core.Bool.{true, false, _&&_}
 use mathlib.Core.List.{[], _∷_, _++_, map}
 use Prim.Native.Nat.{ℕ, zero, suc, _+_, _-_, _≤_, _<_}
 use native.Mathlib.Nat.{not-suc-le-zero, le-refl}
@@ -10,7 +10,7 @@ use lib.ListN.{length, take, drop, length-drop}
 use Rattle.semantics.specs.Text.{Text, joined, least}
 use Rattle.semantics.specs.Pattern.{Pattern, star, matches}
 use Rattle.semantics.specs.Lens.{Lens, copy, const, key, join, union, repeat, match, Side, source, sheet, language, cutAt, parts, partsWithin, get, keyOf}
-use Rattle.laws.specs.Basics.{cond-true, cond-false, least-le}
+use Rattle.laws.specs.Basics.{cond-true, cond-false}
 use Rattle.lens.specs.declared.Mode.{Mode}
 use Rattle.lens.specs.declared.Mode.the-variants.{Get, Key}
 
@@ -114,13 +114,7 @@ parts-next r (c ∷ t) h =
     let turns = enough-turns r (length t) (length (drop i t)) (drop i t) (rw length-drop (omega arith)) (le-refl (length (drop i t))) in
     rw (first-part-cons r c t) (ap (λ ps. (c ∷ take i t) ∷ ps) turns)
 
--- the first part lies within the text, and is not empty
-pub first-part-within : (r : Pattern) (t : Text) → 0 < length t → firstPart r t ≤ length t
-unfolding firstPart
-first-part-within r t h =
-    let test : ℕ → Bool = λ j. matches r (take (1 + j) t) && matches (star r) (drop (1 + j) t) in
-    omega (arith, least-le (length t - 1) test)
-
+-- the first part is not empty
 pub first-part-some : (r : Pattern) (t : Text) → 0 < firstPart r t
 unfolding firstPart
 first-part-some r t = omega arith
