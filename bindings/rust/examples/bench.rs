@@ -8,7 +8,7 @@ use std::process::Command;
 use std::time::{Duration, Instant};
 
 use noontrough::{Answer, MAX_TEXT, STACK_BYTES};
-use noontrough_reference::generator::draft::Draft;
+use noontrough_reference::generator::draft::{Draft, NodeNumber};
 use noontrough_reference::generator::random::Random;
 use noontrough_reference::{Calls, Reference};
 
@@ -150,15 +150,20 @@ fn create_reference(table: &[u8], sheet: &[u8]) -> Duration {
 /// Entries of capitals, then digits that the sheet hides, then a semicolon.
 fn program_k() -> Vec<u8> {
     let mut draft = Draft::new();
+    let line = field(&mut draft, b"0");
+    let entry = draft.matched(line);
+    draft.lens_repeat(entry);
+    draft.table()
+}
+
+/// A name, digits that the sheet hides, and a semicolon.
+fn field(draft: &mut Draft, default: &[u8]) -> NodeNumber {
     let capital = draft.range(b'A', b'Z');
     let name = draft.pattern_some(capital);
     let digit = draft.range(b'0', b'9');
     let digits = draft.pattern_repeat(digit);
-    let row = [draft.key(name), draft.delete(digits, b"0"), draft.copy_word(b";")];
-    let line = draft.lens_row(&row);
-    let entry = draft.matched(line);
-    draft.lens_repeat(entry);
-    draft.table()
+    let row = [draft.key(name), draft.delete(digits, default), draft.copy_word(b";")];
+    draft.lens_row(&row)
 }
 
 /// Repeats over one lens with 127 positions that may all follow each other and share every byte, and an end. Accepted, since
@@ -183,12 +188,7 @@ fn dense_program(repeats: usize) -> Vec<u8> {
 /// Repeated entries with so many positions in the source, four for each field.
 fn program_with_positions(positions: usize) -> Vec<u8> {
     let mut draft = Draft::new();
-    let capital = draft.range(b'A', b'Z');
-    let name = draft.pattern_some(capital);
-    let digit = draft.range(b'0', b'9');
-    let digits = draft.pattern_repeat(digit);
-    let field = [draft.key(name), draft.delete(digits, b""), draft.copy_word(b";")];
-    let field = draft.lens_row(&field);
+    let field = field(&mut draft, b"");
     let line = draft.lens_row(&vec![field; positions / 4]);
     let entry = draft.matched(line);
     draft.lens_repeat(entry);

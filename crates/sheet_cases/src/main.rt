@@ -1,5 +1,5 @@
-// Command lines of the program `sheet`, each with what it writes to standard output, and the sentence of each refusal. The lines that are
-// expected are from the papers, never from this program.
+// Command lines of the program `sheet`, each with what it writes to standard output, and the sentence of each refusal. The results and refusals
+// that are expected are from the papers; the sentences are stored so that a change of one is seen.
 use commands::meanings::explain;
 use commands::run::run;
 use libc::STDOUT_FILENO;
