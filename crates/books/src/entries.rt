@@ -18,45 +18,26 @@ impl Book {
     }
 
     // One more entry, behind the others.
-    pub fn added(self, start: usize, len: usize, child: usize) -> Book
+    pub fn added(mut self, start: usize, len: usize, child: usize) -> Book
         requires { ⌜ self .count < 256 ⌝ }
         requires { ⌜ (start < 65536) × (len < 65536) × (child < 256) ⌝ }
         ensures { λ r. ⌜ r ≡ added self start len child ⌝ }
     {
         let count = self.count;
-        let mut starts = self.starts;
-        starts[count] = start as u16;
-        let mut lengths = self.lengths;
-        lengths[count] = len as u16;
-        let mut children = self.children;
-        children[count] = child as u8;
-        let mut used = self.used;
-        used[count] = false;
-        Book {
-            starts: starts,
-            lengths: lengths,
-            children: children,
-            used: used,
-            count: count + 1,
-        }
+        self.starts[count] = start as u16;
+        self.lengths[count] = len as u16;
+        self.children[count] = child as u8;
+        self.used[count] = false;
+        self.count = count + 1;
+        self
     }
 
     // Entry i is taken.
-    pub fn marked(self, i: usize) -> Book
+    pub fn marked(mut self, i: usize) -> Book
         requires { ⌜ i < 256 ⌝ }
         ensures { λ r. ⌜ r ≡ marked self i ⌝ }
     {
-        let starts = self.starts;
-        let lengths = self.lengths;
-        let children = self.children;
-        let mut used = self.used;
-        used[i] = true;
-        Book {
-            starts: starts,
-            lengths: lengths,
-            children: children,
-            used: used,
-            count: self.count,
-        }
+        self.used[i] = true;
+        self
     }
 }

@@ -40,6 +40,11 @@ module _ (gives : ℕ → ℕ → Type 0) where
   gathered-none s none =
       record { held-iff = λ q. (λ e. absurd (not-both e (none q)), λ g. let (p, l, x) = g in absurd (omega arith)) }
 
+  -- Nor to an empty set, where none gives anything.
+  pub gathered-not : (n : ℕ) (s : Set) → Empty s → ((p q : ℕ) → gives p q → ⊥) → Gathered gives n s
+  gathered-not n s none not =
+      record { held-iff = λ q. (λ e. absurd (not-both e (none q)), λ g. let (p, l, x) = g in absurd (not p q x)) }
+
   -- With what position n gives, the set has what the positions below n + 1 give.
   pub gathered-more : (n : ℕ) (s t : Set) → Gathered gives n s → Grown (gives n) s t → Gathered gives (n + 1) t
   gathered-more n s t before grown = record { held-iff = λ q. (there q, back q) }

@@ -16,8 +16,9 @@ use Rattle.positions.specs.Positions.{holds, Empty, Shared}
 use Rattle.automaton.specs.declared.Automaton.{Automaton}
 use Rattle.automaton.specs.Rows.{Room, Describes, standsIn, followOf}
 use Rattle.language.specs.declared.Run.{Run}
-use Rattle.language.specs.Sets.{Gathered, Standing, Following, Leading}
+use Rattle.language.specs.Sets.{Gathered, Standing, Onward, Leading}
 use Rattle.language.specs.Runs.{Forward, Backward}
+use Rattle.language.proofs.Gathering.{gathered-not}
 
 -- Two tests that are true of the same agree.
 same-test : (a b : Bool) → (a ≡ true) ↔ (b ≡ true) → a ≡ b
@@ -46,19 +47,6 @@ allowed-iff r c u is = (reads is, reads (λ p. sym (is p)))
 pub stuck : {r : Pattern} {t : Text} {run : Run} → Forward r t run → Empty (run .set) → (c : ℕ) (u : Text) → matches r (t ++ c ∷ u) ≡ false
 stuck {r} {t} known none c u =
     false-of-not-true (matches r (t ++ c ∷ u)) (λ e. let x = known .onward-iff c u .0 (matches-iff r (t ++ c ∷ u) .0 e) in not-both (x .allowed) (none (x .position)))
-
--- A byte more leaves it so.
-pub stuck-steps : {r : Pattern} {t : Text} {run : Run} → Forward r t run → Empty (run .set) → (c : ℕ) → Forward r (t ++ c ∷ []) (record { here = false; set = run .set })
-stuck-steps {r} {t} known none c =
-    record {
-      here-is = sym (stuck known none c []);
-      onward-iff = λ e u. (
-        λ i.
-            let j = rw (append-assoc t (c ∷ []) (e ∷ u)) at i in
-            absurd (not-both (matches-iff r (t ++ c ∷ e ∷ u) .1 j) (stuck known none c (e ∷ u))),
-        λ x. absurd (not-both (x .allowed) (none (x .position))),
-      );
-    }
 
 module _ {r : Pattern} {a : Automaton} {prepared : List ℕ} (room : Room a prepared) (d : Describes r a prepared) where
   -- A set has room for each position of the pattern, and the count of rows is that of positions.
@@ -109,17 +97,19 @@ module _ {r : Pattern} {a : Automaton} {prepared : List ℕ} (room : Room a prep
     )
 
     -- It goes on past them at the positions that may follow them.
-    onward-iff : {next : Set} → Gathered (Following prepared a here) (a .count) next → (e : ℕ) (u : Text) → ReadsAt r (holds s) c (e ∷ u) ↔ ReadsAt r (holds next) e u
+    onward-iff : {next : Set} → Gathered (Onward prepared a s c) (a .count) next → (e : ℕ) (u : Text) → ReadsAt r (holds s) c (e ∷ u) ↔ ReadsAt r (holds next) e u
     onward-iff gone e u = (
       λ x.
-          let (p, l, h, i) = past-iff (e ∷ u) .0 x in
-          let y = follow-law r p l e u .0 i in
+          let p = x .position in
+          let l = x .in-pattern in
+          let y = follow-law r p l e u .0 (x .rest-in) in
           let q = y .position in
           let f = d .row-is p l .follow-is q ∙ y .allowed in
+          let there : Standing prepared a s c p p = record { itself = refl; held = x .allowed; stands = stands-is p c l ∙ x .stands } in
           record {
             position = q;
             in-pattern = y .in-pattern;
-            allowed = gone .held-iff q .1 (p, omega (arith, d .count-is), record { held = h; follows = f });
+            allowed = gone .held-iff q .1 (p, omega (arith, d .count-is), record { stood = there; follows = f });
             stands = y .stands;
             rest-in = y .rest-in;
           },
@@ -132,7 +122,7 @@ module _ {r : Pattern} {a : Automaton} {prepared : List ℕ} (room : Room a prep
           follow-law r p k e u .1 (
           record { position = q; in-pattern = y .in-pattern; allowed = f; stands = y .stands; rest-in = y .rest-in }
           ) in
-          past-iff (e ∷ u) .1 (p, k, g .held, i),
+          record { position = p; in-pattern = k; allowed = g .stood .held; stands = sym (stands-is p c k) ∙ g .stood .stands; rest-in = i },
     )
 
     -- Where the set has the positions behind which t may stand, the byte and t can be read from one of the allowed positions exactly if one
@@ -161,7 +151,7 @@ module _ {r : Pattern} {a : Automaton} {prepared : List ℕ} (room : Room a prep
   pub forward-steps :
       {t : Text} {run : Run} → Forward r t run → {c : ℕ} {here : Set} → Gathered (Standing prepared a (run .set) c) (a .count) here
       → {ends : Bool} → (ends ≡ true) ↔ Shared here (a .last)
-      → {next : Set} → Gathered (Following prepared a here) (a .count) next
+      → {next : Set} → Gathered (Onward prepared a (run .set) c) (a .count) next
       → Forward r (t ++ c ∷ []) (record { here = ends; set = next })
   forward-steps {t} known {c} stood {ends} told gone =
       record {
@@ -198,3 +188,17 @@ module _ {r : Pattern} {a : Automaton} {prepared : List ℕ} (room : Room a prep
         λ e. let (q, k, g) = led .held-iff p .0 e in rw (g .itself) (g .leads),
         λ s. led .held-iff p .1 (p, omega (arith, d .count-is), record { itself = refl; leads = s }),
       )
+
+  -- Where the set is empty, no text that ends in what was read belongs.
+  pub stuck-back : {t : Text} {run : Run} → Backward r t run → Empty (run .set) → (c : ℕ) → Backward r (c ∷ t) (record { here = false; set = run .set })
+  stuck-back {t} {run} known none c =
+      backward-steps known {c = c} {here = s}
+      (gathered-not _ (a .count) s none (λ p q g. not-both (g .held) (none p)))
+      (λ e. absurd (not-both e refl), λ h. absurd (shares-none (a .first) h))
+      (gathered-not _ (a .count) s none (λ p q g. shares-none (followOf prepared (a .start + p)) (g .leads)))
+    where
+      s : Set
+      s = run .set
+
+      shares-none : (other : Set) → Shared other s → ⊥
+      shares-none other h = let (p, l, e, f) = h in not-both f (none p)

@@ -8,10 +8,13 @@ use Rattle.semantics.specs.Text.{Text}
 use Rattle.semantics.specs.Pattern.{Pattern, In, matches}
 use Rattle.semantics.specs.Table.{positions}
 use Rattle.laws.specs.PositionAutomaton.{ReadsAt, restAt}
+use Rattle.positions.specs.declared.Set.{Set}
 use Rattle.positions.specs.Positions.{holds}
 use Rattle.automaton.specs.declared.Automaton.{Automaton}
 use Rattle.automaton.specs.Rows.{Describes}
 use Rattle.language.specs.declared.Run.{Run}
+use Rattle.language.specs.declared.Step.{Step}
+use Rattle.language.specs.Sets.{Gathered, Standing, Onward}
 
 -- The text t was read from its beginning; the set has the positions at which the next byte can stand.
 pub record Forward (r : Pattern) (t : Text) (run : Run) : Type 0 where
@@ -22,6 +25,11 @@ pub record Forward (r : Pattern) (t : Text) (run : Run) : Type 0 where
 pub record Backward (r : Pattern) (t : Text) (run : Run) : Type 0 where
   pub here-is : run .here ≡ matches r t
   pub behind-iff : (p : ℕ) → p < positions r → (holds (run .set) p ≡ true) ↔ In (restAt r p) t
+
+-- A byte was read at those of the set's positions below n at which it may stand.
+pub record Stepped (prepared : List ℕ) (a : Automaton) (s : Set) (byte n : ℕ) (step : Step) : Type 0 where
+  pub reached-are : Gathered (Standing prepared a s byte) n (step .reached)
+  pub onward-are : Gathered (Onward prepared a s byte) n (step .onward)
 
 -- One byte more was read, behind the text or in front of it.
 pub record Advanced (prepared : List ℕ) (a : Automaton) (byte : ℕ) (before after : Run) : Type 0 where

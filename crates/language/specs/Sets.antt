@@ -23,9 +23,9 @@ pub record Standing (prepared : List ℕ) (a : Automaton) (s : Set) (byte p q : 
   pub held : holds s p ≡ true
   pub stands : standsIn prepared (a .start + p) byte ≡ true
 
--- It gives those that may follow it.
-pub record Following (prepared : List ℕ) (a : Automaton) (s : Set) (p q : ℕ) : Type 0 where
-  pub held : holds s p ≡ true
+-- It then gives those that may follow it.
+pub record Onward (prepared : List ℕ) (a : Automaton) (s : Set) (byte p q : ℕ) : Type 0 where
+  pub stood : Standing prepared a s byte p p
   pub follows : holds (followOf prepared (a .start + p)) q ≡ true
 
 -- A position gives itself where one of the set may follow it.

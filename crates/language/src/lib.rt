@@ -8,8 +8,8 @@ ghost use lib.ListN.{length, take, drop};
 ghost use Rattle.semantics.specs.Pattern.{Pattern, matches};
 ghost use Rattle.automaton.specs.Rows.{Room, Describes};
 ghost use Rattle.language.specs.Flags.{Flags, flagOf, flagged};
-ghost use Rattle.language.specs.Sets.{Gathered, Grown, Standing, Following, Leading};
-ghost use Rattle.language.specs.Runs.{Advanced, Retreated};
+ghost use Rattle.language.specs.Sets.{Gathered, Grown, Standing, Onward, Leading};
+ghost use Rattle.language.specs.Runs.{Stepped, Advanced, Retreated};
 ghost use Rattle.language.specs.Cuts.{Cut};
 ghost use lib.Dec.{leb};
 
@@ -17,6 +17,12 @@ ghost use lib.Dec.{leb};
 struct Run {
     here: bool,
     set: Set,
+}
+
+// A byte that is read: the positions at which it stands, and those that may follow them.
+struct Step {
+    reached: Set,
+    onward: Set,
 }
 
 // The set, with p where it is in `from` and the byte may stand at it.
@@ -50,34 +56,6 @@ fn standing(prepared: &[u64], a: Automaton, from: Set, byte: u8) -> Set
     set
 }
 
-// The set, with those that may follow p where p is in `from`.
-fn follow(prepared: &[u64], a: Automaton, from: Set, p: usize, set: Set) -> Set
-    requires { ⌜ Room a (now prepared) ⌝ }
-    requires { ⌜ p < a .count ⌝ }
-    ensures { λ res. ⌜ Grown (Following (now (prepared .entry)) a from p) set res ⌝ }
-{
-    if !from.has(p) {
-        return set;
-    }
-    let row = a.start + p;
-    automaton::follow(prepared, row).union(set)
-}
-
-// Those that may follow one of the positions.
-fn following(prepared: &[u64], a: Automaton, from: Set) -> Set
-    requires { ⌜ Room a (now prepared) ⌝ }
-    ensures { λ res. ⌜ Gathered (Following (now (prepared .entry)) a from) (a .count) res ⌝ }
-{
-    let count = a.count;
-    let mut set = Set::empty();
-    let mut p = 0;
-    while p < count {
-        set = follow(prepared, a, from, p, set);
-        p += 1;
-    }
-    set
-}
-
 // The set, with p where one of `to` may follow it.
 fn lead(prepared: &[u64], a: Automaton, to: Set, p: usize, set: Set) -> Set
     requires { ⌜ Room a (now prepared) ⌝ }
@@ -106,24 +84,57 @@ fn leading(prepared: &[u64], a: Automaton, to: Set) -> Set
     set
 }
 
+// The step, with p where the byte is read at it, and those that may follow it.
+fn read_at(prepared: &[u64], a: Automaton, due: Set, byte: u8, p: usize, step: Step) -> Step
+    requires { ⌜ Room a (now prepared) ⌝ }
+    requires { ⌜ p < a .count ⌝ }
+    ensures { λ res. ⌜ Grown (Standing (now (prepared .entry)) a due byte p) (step .reached) (res .reached) × Grown (Onward (now (prepared .entry)) a due byte p) (step .onward) (res .onward) ⌝ }
+{
+    if !due.has(p) {
+        return step;
+    }
+    let row = a.start + p;
+    if !automaton::stands(prepared, row, byte) {
+        return step;
+    }
+    let reached = step.reached;
+    let onward = step.onward;
+    Step {
+        reached: reached.with(p),
+        onward: automaton::follow(prepared, row).union(onward),
+    }
+}
+
+// The step that reads a byte at those of the positions at which it may stand.
+fn read(prepared: &[u64], a: Automaton, due: Set, byte: u8) -> Step
+    requires { ⌜ Room a (now prepared) ⌝ }
+    ensures { λ res. ⌜ Stepped (now (prepared .entry)) a due byte (a .count) res ⌝ }
+{
+    let count = a.count;
+    let mut step = Step {
+        reached: Set::empty(),
+        onward: Set::empty(),
+    };
+    let mut p = 0;
+    while p < count {
+        step = read_at(prepared, a, due, byte, p, step);
+        p += 1;
+    }
+    step
+}
+
 // One byte forward.
 fn advance(prepared: &[u64], a: Automaton, run: Run, byte: u8) -> Run
     requires { ⌜ Room a (now prepared) ⌝ }
     ensures { λ res. ⌜ Advanced (now (prepared .entry)) a byte run res ⌝ }
 {
     let due = run.set;
-    if due.is_empty() {
-        return Run {
-            here: false,
-            set: due,
-        };
-    }
-    let reached = standing(prepared, a, due, byte);
+    let step = read(prepared, a, due, byte);
+    let reached = step.reached;
+    let onward = step.onward;
     let ends = a.last;
-    let here = reached.meets(ends);
-    let onward = following(prepared, a, reached);
     Run {
-        here: here,
+        here: reached.meets(ends),
         set: onward,
     }
 }
@@ -134,6 +145,12 @@ fn retreat(prepared: &[u64], a: Automaton, run: Run, byte: u8) -> Run
     ensures { λ res. ⌜ Retreated (now (prepared .entry)) a byte run res ⌝ }
 {
     let after = run.set;
+    if after.is_empty() {
+        return Run {
+            here: false,
+            set: after,
+        };
+    }
     let reading = standing(prepared, a, after, byte);
     let begins = a.first;
     let here = begins.meets(reading);
