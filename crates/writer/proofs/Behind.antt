@@ -18,7 +18,7 @@ use Rattle.books.specs.declared.Book.{Book}
 use Rattle.books.specs.Listed.{unused}
 use Rattle.books.specs.Looking.{same-then}
 use Rattle.writer.specs.declared.Done.{Done}
-use Rattle.writer.specs.Writing.{WithinBuffer, Progress, WritesLens, WritesNode, WritesBehind, countBehind, behind}
+use Rattle.writer.specs.Writing.{WithinBuffer, Progress, WritesLens, WritesNode, WritesBehind, leaving, countBehind}
 use Rattle.writer.proofs.Below.{rest-size}
 
 not-full : {answer : Wrote} {n : ℕ} → answer ≡ Count n → ¬ (answer ≡ Full)
@@ -77,7 +77,7 @@ module _ {bytes deck : Text} where
       → done .wrote ≡ Count n
       → Progress bytes deck w b before mid done
       → Progress bytes deck (next (unused (trees bytes) deck (done .book))) (done .book) (take (length mid - n) (drop n mid)) rest more
-      → Progress bytes deck (andThen w next) b before (take n mid ++ (rest ++ drop (length mid - n) (drop n mid))) (behind n more)
+      → Progress bytes deck (andThen w next) b before (take n mid ++ (rest ++ drop (length mid - n) (drop n mid))) (leaving (countBehind n (more .wrote)) (more .book))
   unfolding andThen
   progress-behind {w} {before} {mid} {rest} {done} {more} {n} next count first second =
       let left : unused (trees bytes) deck (done .book) ≡ w .book = first .book-is (not-full count) in
@@ -109,7 +109,7 @@ module _ {bytes deck : Text} where
         {rest : Text} {more : Done} {n : ℕ}
         → done .wrote ≡ Count n
         → WritesNode bytes node deck old new (done .book) (take (length mid - n) (drop n mid)) rest more
-        → WritesBehind bytes node deck old new done mid (take n mid ++ (rest ++ drop (length mid - n) (drop n mid))) (behind n more)
+        → WritesBehind bytes node deck old new done mid (take n mid ++ (rest ++ drop (length mid - n) (drop n mid))) (leaving (countBehind n (more .wrote)) (more .book))
     behind-next count second = record { writes = λ l e w b before p. progress-behind (write l old new) count p (second .writes l e) }
 
 -- both counts together lie within the buffer

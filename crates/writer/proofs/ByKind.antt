@@ -30,7 +30,7 @@ use Rattle.lens.specs.Overlay.{Writes}
 use Rattle.lens.specs.Reading.{modeSide}
 use Rattle.lens.specs.Cutting.{CutAt, rest-lent}
 use Rattle.lens.specs.Emitting.{sideFor, LensNode}
-use Rattle.lens.specs.Nodes.{lens-read, shown-const, shown-join, shown-match, describes-lens, lens-below, left-below, right-below}
+use Rattle.lens.specs.Nodes.{lens-read, shown-const, shown-join, shown-match, describes-lens, lens-below, left-below, right-below, word-below}
 use Rattle.books.specs.declared.Book.{Book}
 use Rattle.books.specs.declared.Old.{Old}
 use Rattle.books.specs.declared.Lookup.{Lookup}
@@ -40,7 +40,7 @@ use Rattle.books.specs.Looking.{BookOver, CardsFit, LookedUp, oldText, same-all
 use Rattle.writer.specs.declared.Done.{Done}
 use Rattle.writer.specs.declared.Choice.{Choice}
 use Rattle.writer.specs.declared.Halves.{Halves}
-use Rattle.writer.specs.Writing.{OldInside, Progress, WritesNode, WritesJoin, WritesMatch, WritesBehind, HalvesAre, choiceOf, Chosen, ConstIs, leaving}
+use Rattle.writer.specs.Writing.{OldInside, Progress, WritesNode, WritesJoin, WritesMatch, WritesBehind, HalvesAre, choiceOf, Chosen, DefaultWord, LeafIs, leaving}
 use Rattle.writer.proofs.Stepping.{inside-none}
 use Rattle.writer.proofs.Behind.{progress-is, node-writes}
 
@@ -55,54 +55,6 @@ module _ {bytes prepared : List ℕ} {node : ℕ} (known : LensNode bytes prepar
   unfolding modeSide sideFor
   describes-sheet = describes-lens known KeyMode l e
 
--- ---- Patterns, which are no lenses
-
--- the tags of the patterns' kinds
-abbrev pub PatternTags : List ℕ
-PatternTags = 0 ∷ 1 ∷ 2 ∷ 3 ∷ 4 ∷ []
-
-pattern-tag : (tag : ℕ) → OneOf PatternTags tag → ltb (cond (eqb tag 0) 0 (cond (ltb tag 5) 1 2)) 2 ≡ true
-pattern-tag tag (inl e) = rw e
-pattern-tag tag (inr (inl e)) = rw e
-pattern-tag tag (inr (inr (inl e))) = rw e
-pattern-tag tag (inr (inr (inr (inl e)))) = rw e
-pattern-tag tag (inr (inr (inr (inr e)))) = rw e
-
-pub pattern-read :
-    {A : Type 0} {bytes prepared : List ℕ} {node : ℕ} {r : Node}
-    → LensNode bytes prepared node
-    → NodeRead bytes node r
-    → OneOf PatternTags (tagOf the-type (r .kind))
-    → A
-pattern-read {r} known read h = lens-read (r .kind) known read refl (pattern-tag (tagOf the-type (r .kind)) h)
-
--- ---- Copies and keys, which write the sheet
-
--- The node's lens writes the sheet, and leaves the book.
-record SheetNode (bytes : Text) (node : ℕ) : Type 0 where
-  tree : Lens
-  tree-is : treeAt (trees bytes) node ≡ lens tree
-  writes-sheet : (old : Option Text) (new : Text) (b : Entries) → record { text = new; book = b } ≡ write tree old new b
-
--- the tags of the kinds
-abbrev pub SheetTags : List ℕ
-SheetTags = 5 ∷ 7 ∷ []
-
-sheet-node : (bytes : Text) (node : ℕ) (κ : Kind) → Shows bytes node κ → OneOf SheetTags (tagOf the-type κ) → SheetNode bytes node
-unfolding Shows write
-sheet-node bytes node (Copy a) s h = record { tree = copy (s .child); tree-is = s .tree-is; writes-sheet = λ old new b. refl }
-sheet-node bytes node (Key a) s h = record { tree = key (s .child); tree-is = s .tree-is; writes-sheet = λ old new b. refl }
-sheet-node bytes node (Word a b) s h = absurd (miss SheetTags 0 tt h)
-sheet-node bytes node (Range a b) s h = absurd (miss SheetTags 1 tt h)
-sheet-node bytes node (PatternJoin a b) s h = absurd (miss SheetTags 2 tt h)
-sheet-node bytes node (PatternUnion a b) s h = absurd (miss SheetTags 3 tt h)
-sheet-node bytes node (PatternRepeat a) s h = absurd (miss SheetTags 4 tt h)
-sheet-node bytes node (Const a b c) s h = absurd (miss SheetTags 6 tt h)
-sheet-node bytes node (LensJoin a b) s h = absurd (miss SheetTags 8 tt h)
-sheet-node bytes node (LensUnion a b) s h = absurd (miss SheetTags 9 tt h)
-sheet-node bytes node (LensRepeat a) s h = absurd (miss SheetTags 10 tt h)
-sheet-node bytes node (Match a) s h = absurd (miss SheetTags 11 tt h)
-
 -- ---- What is written at a node, by its kind
 
 -- one text, and the book as it was
@@ -113,28 +65,48 @@ plain :
     → Progress bytes deck (record { text = t; book = unused (trees bytes) deck b }) b before after (leaving answer b)
 plain {b} over w = record { bytes-are = w; book-is = λ h. refl; over = over; same-entries = same-all b }
 
+-- the tags of the kinds that have no lens below them
+abbrev pub LeafTags : List ℕ
+LeafTags = 0 ∷ 1 ∷ 2 ∷ 3 ∷ 4 ∷ 5 ∷ 6 ∷ 7 ∷ []
+
+-- a copy or a key is no const
+no-const : {κ : Kind} → OneOf (5 ∷ 7 ∷ []) (tagOf the-type κ) → (a b c : ℕ) → ¬ (κ ≡ Const a b c)
+no-const h a b c e = miss (5 ∷ 7 ∷ []) 6 tt (rw e at h)
+
+module _ {bytes : Text} {prepared : List ℕ} {node : ℕ} {r : Node} (known : LensNode bytes prepared node) (read : NodeRead bytes node r) where
+  pub default-below : DefaultWord bytes prepared (r .kind)
+  default-below = record { default-is = λ a b c e. let s = shown-const read e in word-below known (s .default-word) (s .default-lower) (s .at-default) }
+
+  module _ {deck : Text} {old : Option Text} {new before after : Text} {b : Book} {answer : Wrote} (over : BookOver 4096 b) where
+    leaf-by-kind :
+        (κ : Kind)
+        → r .kind ≡ κ
+        → Shows bytes node κ
+        → OneOf LeafTags (tagOf the-type κ)
+        → LeafIs bytes κ old new before after answer
+        → WritesNode bytes node deck old new b before after (leaving answer b)
+    unfolding Shows write
+    leaf-by-kind (Copy a) e s h w = node-writes (copy (s .child)) (s .tree-is) (plain over (w .sheet-is (no-const (inl refl))))
+    leaf-by-kind (Key a) e s h w = node-writes (key (s .child)) (s .tree-is) (plain over (w .sheet-is (no-const (inr refl))))
+    leaf-by-kind (Const c d f) e s h w =
+        node-writes (const (s .child) (s .sheet-word) (s .default-word)) (s .tree-is) (plain over (w .const-is c d f refl (s .default-word) (s .at-default)))
+    leaf-by-kind (Word c d) e s h w = lens-read (Word c d) known read e refl
+    leaf-by-kind (Range c d) e s h w = lens-read (Range c d) known read e refl
+    leaf-by-kind (PatternJoin c d) e s h w = lens-read (PatternJoin c d) known read e refl
+    leaf-by-kind (PatternUnion c d) e s h w = lens-read (PatternUnion c d) known read e refl
+    leaf-by-kind (PatternRepeat c) e s h w = lens-read (PatternRepeat c) known read e refl
+    leaf-by-kind (LensJoin c d) e s h w = absurd (miss LeafTags 8 tt h)
+    leaf-by-kind (LensUnion c d) e s h w = absurd (miss LeafTags 9 tt h)
+    leaf-by-kind (LensRepeat c) e s h w = absurd (miss LeafTags 10 tt h)
+    leaf-by-kind (Match c) e s h w = absurd (miss LeafTags 11 tt h)
+
+    pub leaf-writes :
+        OneOf LeafTags (tagOf the-type (r .kind))
+        → LeafIs bytes (r .kind) old new before after answer
+        → WritesNode bytes node deck old new b before after (leaving answer b)
+    leaf-writes h w = leaf-by-kind (r .kind) refl (read .shows) h w
+
 module _ {bytes : Text} {node : ℕ} {r : Node} (read : NodeRead bytes node r) {deck : Text} {old : Option Text} {new before after : Text} {b : Book} where
-  pub sheet-writes :
-      {answer : Wrote}
-      → OneOf SheetTags (tagOf the-type (r .kind))
-      → BookOver 4096 b
-      → Writes new before after answer
-      → WritesNode bytes node deck old new b before after (leaving answer b)
-  sheet-writes h over w =
-      let s = sheet-node bytes node (r .kind) (read .shows) h in
-      node-writes (s .tree) (s .tree-is) (progress-is (s .writes-sheet old new (unused (trees bytes) deck b)) (plain over w))
-
-  pub const-writes :
-      {c d e : ℕ} {answer : Wrote}
-      → r .kind ≡ Const c d e
-      → BookOver 4096 b
-      → ConstIs bytes e old before after answer
-      → WritesNode bytes node deck old new b before after (leaving answer b)
-  unfolding write
-  const-writes is over w =
-      let s = shown-const read is in
-      node-writes (const (s .child) (s .sheet-word) (s .default-word)) (s .tree-is) (plain over (w .writes (s .default-word) (s .at-default)))
-
   pub join-writes :
       {left right : ℕ} {done : Done}
       → r .kind ≡ LensJoin left right

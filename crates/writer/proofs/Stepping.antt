@@ -21,12 +21,8 @@ use Rattle.books.specs.declared.Old.the-variants.{At, Nothing}
 use Rattle.books.specs.Looking.{oldText}
 use Rattle.writer.specs.declared.Done.{Done}
 use Rattle.writer.specs.declared.Choice.{Choice}
-use Rattle.writer.specs.Writing.{OldInside, PartEnd, HalvesAre, choiceOf, leaving, countBehind, behind}
+use Rattle.writer.specs.Writing.{OldInside, PartEnd, HalvesAre, choiceOf}
 use Rattle.writer.proofs.Below.{rest-size}
-
--- what was written, once it is known, stands behind n bytes
-pub behind-known : (n : ℕ) (r : Done) {wrote : Wrote} → r .wrote ≡ wrote → leaving (countBehind n wrote) (r .book) ≡ behind n r
-behind-known n r e = ap (λ w. leaving (countBehind n w) (r .book)) (sym e)
 
 -- ---- The end of a part
 

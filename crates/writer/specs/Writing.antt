@@ -10,6 +10,8 @@ use Rattle.semantics.specs.Text.{Text, orElse, apply}
 use Rattle.semantics.specs.Pattern.{Pattern, word, matches}
 use Rattle.semantics.specs.Lens.{Lens, join, match, cutAt, Arm, putLeft, putRight, createLeft, createRight, armOf, Written, andThen, write}
 use Rattle.semantics.specs.Table.{trees, treeAt, pattern, lens}
+use Rattle.table.specs.declared.Kind.{Kind}
+use Rattle.table.specs.declared.Kind.the-variants.{Const}
 use Rattle.automaton.specs.declared.Side.{Side}
 use Rattle.automaton.specs.declared.Side.the-variants.{Source, Sheet}
 use Rattle.automaton.specs.Rows.{automatonAt, Describes}
@@ -17,7 +19,7 @@ use Rattle.lens.specs.declared.Wrote.{Wrote}
 use Rattle.lens.specs.declared.Wrote.the-variants.{Count, Full}
 use Rattle.lens.specs.Overlay.{Writes}
 use Rattle.lens.specs.Reading.{firstPart}
-use Rattle.lens.specs.Emitting.{LensNode}
+use Rattle.lens.specs.Emitting.{LensNode, WordNode}
 use Rattle.lens.specs.Cutting.{SuffixFlags}
 use Rattle.books.specs.declared.Book.{Book}
 use Rattle.books.specs.declared.Old.{Old}
@@ -140,10 +142,16 @@ pub record Chosen (prepared : List ℕ) (left right : ℕ) (new deck : Text) (ol
       → Describes c (automatonAt prepared right Sheet) prepared
       → r ≡ choiceOf (armOf (apply (matches a) (oldText deck old)) (matches b new) (matches c new)) left right old
 
--- The old text is written, or the default word.
-pub record ConstIs (bytes : Text) (node : ℕ) (old : Option Text) (before after : Text) (answer : Wrote) : Type 0 where
-  pub writes : (w : Text) → treeAt (trees bytes) node ≡ pattern (word w) → Writes (orElse w old) before after answer
+-- The default of a const is a word.
+pub record DefaultWord (bytes : Text) (prepared : List ℕ) (kind : Kind) : Type 0 where
+  pub default-is : (a b c : ℕ) → kind ≡ Const a b c → WordNode bytes prepared c
 
+-- A const writes the old text or its default word, what is no const the sheet.
+pub record LeafIs (bytes : Text) (kind : Kind) (old : Option Text) (new before after : Text) (answer : Wrote) : Type 0 where
+  pub const-is : (a b c : ℕ) → kind ≡ Const a b c → (w : Text) → treeAt (trees bytes) c ≡ pattern (word w) → Writes (orElse w old) before after answer
+  pub sheet-is : ((a b c : ℕ) → ¬ (kind ≡ Const a b c)) → Writes new before after answer
+
+-- what was written, and the book that is left
 abbrev pub leaving : Wrote → Book → Done
 leaving wrote b = record { wrote = wrote; book = b }
 
@@ -152,9 +160,6 @@ abbrev pub countBehind : ℕ → Wrote → Wrote
 countBehind n (Count m) = Count (n + m)
 countBehind n Full = Full
 
-abbrev pub behind : ℕ → Done → Done
-behind n r = leaving (countBehind n (r .wrote)) (r .book)
-
 -- The sum is a number of 64 bits.
-pub record Fits64 (n : ℕ) (r : Done) : Type 0 where
-  pub fits : (m : ℕ) → r .wrote ≡ Count m → n + m < 2 ^ 64
+pub record Fits64 (n : ℕ) (more : Wrote) : Type 0 where
+  pub fits : (m : ℕ) → more ≡ Count m → n + m < 2 ^ 64

@@ -1,11 +1,9 @@
 // The steps of a writer: where its texts are cut, the arm of a union, and what is written behind what.
 use crate::Choice;
-use crate::Done;
 use crate::Halves;
 use crate::Span;
 use automaton::Side;
 use automaton::automaton_of;
-use books::Book;
 use books::Old;
 use language::belongs;
 use language::suffixes;
@@ -14,6 +12,7 @@ use lens::cuts::cut_at;
 use lens::cuts::first_part;
 use lens::read::word_of;
 use lens::texts::write_text;
+use table::Kind;
 ghost use mathlib.Core.Path.{_≡_};
 ghost use mathlib.Core.Bool.{cond};
 ghost use Prim.Native.Nat.{_≤_, _<_};
@@ -23,10 +22,10 @@ ghost use Rattle.automaton.specs.declared.Side.the-variants.{Source, Sheet};
 ghost use Rattle.automaton.specs.Rows.{Describes, automatonAt};
 ghost use Rattle.language.specs.Flags.{Flags};
 ghost use Rattle.lens.specs.Cutting.{CutAt};
-ghost use Rattle.lens.specs.Emitting.{Prepared, WordNode};
+ghost use Rattle.lens.specs.Emitting.{Prepared};
 ghost use Rattle.books.specs.declared.Old.the-variants.{Nothing};
 ghost use Rattle.books.specs.Looking.{oldText};
-ghost use Rattle.writer.specs.Writing.{OldInside, spanOf, oldBetween, PartEnd, HalvesAre, Chosen, ConstIs, leaving, Fits64, behind};
+ghost use Rattle.writer.specs.Writing.{OldInside, spanOf, oldBetween, PartEnd, HalvesAre, Chosen, DefaultWord, LeafIs, Fits64, countBehind};
 
 // Where a text is cut between two nodes.
 pub fn cut_of(
@@ -201,19 +200,23 @@ pub fn choose(
     }
 }
 
-// A const: the old text, or the default word.
-pub fn write_const(
+// A lens with no lens below it: a const writes the old text or its default word, a copy and a key the sheet.
+pub fn write_leaf(
     bytes: &[u8],
     prepared: &[u64],
-    default: usize,
+    kind: Kind,
+    new: &[u8],
     old: Old,
     deck: &[u8],
     out: &mut [u8],
 ) -> Wrote
-    requires { ⌜ WordNode (now bytes) (now prepared) default ⌝ }
+    requires { ⌜ DefaultWord (now bytes) (now prepared) kind ⌝ }
     requires { ⌜ (OldInside old) × (4096 ≤ length (now deck)) ⌝ }
-    ensures { λ r. ⌜ ConstIs (now (bytes .entry)) default (oldText (now (deck .entry)) old) (now (out .entry)) (now (out .exit)) r ⌝ }
+    ensures { λ r. ⌜ LeafIs (now (bytes .entry)) kind (oldText (now (deck .entry)) old) (now (new .entry)) (now (out .entry)) (now (out .exit)) r ⌝ }
 {
+    let Kind::Const { default, .. } = kind else {
+        return write_text(new, out);
+    };
     let Old::At { start, len } = old else {
         return write_text(word_of(bytes, prepared, default), out);
     };
@@ -221,22 +224,13 @@ pub fn write_const(
     write_text(&deck[start..end], out)
 }
 
-// What was written, and the book that is left.
-pub fn leaving(wrote: Wrote, book: Book) -> Done
-    ensures { λ r. ⌜ r ≡ leaving wrote book ⌝ }
-{
-    Done { wrote, book }
-}
-
 // What was written behind n bytes, with them.
-pub fn behind(n: usize, done: Done) -> Done
-    requires { ⌜ Fits64 n done ⌝ }
-    ensures { λ r. ⌜ r ≡ behind n done ⌝ }
+pub fn behind(n: usize, more: Wrote) -> Wrote
+    requires { ⌜ Fits64 n more ⌝ }
+    ensures { λ r. ⌜ r ≡ countBehind n more ⌝ }
 {
-    let wrote = done.wrote;
-    let book = done.book;
-    match wrote {
-        Wrote::Count(m) => leaving(Wrote::Count(n + m), book),
-        Wrote::Full => done,
+    match more {
+        Wrote::Count(m) => Wrote::Count(n + m),
+        Wrote::Full => Wrote::Full,
     }
 }

@@ -6,17 +6,15 @@ use crate::steps::choose;
 use crate::steps::cut_of;
 use crate::steps::flag_ends;
 use crate::steps::halves_of;
-use crate::steps::leaving;
 use crate::steps::old_between;
 use crate::steps::part_end;
 use crate::steps::span_of;
-use crate::steps::write_const;
+use crate::steps::write_leaf;
 use automaton::Side;
 use books::Book;
 use books::Old;
 use books::cards::card_of;
 use lens::Wrote;
-use lens::texts::write_text;
 use table::Kind;
 use table::Table;
 ghost use mathlib.Core.Path.{_≡_};
@@ -89,10 +87,6 @@ fn write_node(
     let read = Table::node(bytes, prepared, node);
     let kind = read.kind;
     match kind {
-        Kind::Copy { .. } | Kind::Key { .. } => leaving(write_text(new, out), book),
-        Kind::Const { default, .. } => {
-            leaving(write_const(bytes, prepared, default, old, deck, out), book)
-        }
         Kind::LensJoin { left, right } => {
             write_join(bytes, prepared, left, right, new, old, deck, book, pad, out)
         }
@@ -106,11 +100,10 @@ fn write_node(
             write_parts(bytes, prepared, node, child, new, old, deck, book, pad, out)
         }
         Kind::Match { child } => write_match(bytes, prepared, child, new, deck, book, pad, out),
-        Kind::Word { .. }
-        | Kind::Range { .. }
-        | Kind::PatternJoin { .. }
-        | Kind::PatternUnion { .. }
-        | Kind::PatternRepeat { .. } => leaving(Wrote::Full, book),
+        _ => {
+            let wrote = write_leaf(bytes, prepared, kind, new, old, deck, out);
+            Done { wrote, book }
+        }
     }
 }
 
@@ -138,7 +131,12 @@ fn write_behind(
     };
     let rest = &mut out[n..];
     let more = write_node(bytes, prepared, node, new, old, deck, book, pad, rest);
-    behind(n, more)
+    let count = more.wrote;
+    let left = more.book;
+    Done {
+        wrote: behind(n, count),
+        book: left,
+    }
 }
 
 // A join: the left half, and directly behind it the right half.
@@ -193,7 +191,10 @@ fn write_parts(
     let free = mid + text.len() + 1;
     flag_ends(prepared, node, Side::Sheet, new, pad);
     flag_ends(prepared, node, Side::Source, text, &mut pad[mid..]);
-    let mut done = leaving(Wrote::Count(0), book);
+    let mut done = Done {
+        wrote: Wrote::Count(0),
+        book,
+    };
     let mut o = 0;
     let mut p = 0;
     while o < new.len() {

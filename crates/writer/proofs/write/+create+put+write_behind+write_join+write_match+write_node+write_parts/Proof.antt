@@ -13,7 +13,7 @@ use Rattle.writer.specs.Writing.{Lent}
 use Rattle.writer.proofs.Stepping.{inside-at, inside-none}
 use Rattle.writer.proofs.Behind.{progress-within, node-within, behind-full, behind-next, behind-within}
 use Rattle.writer.proofs.Below.{ready-left, ready-below, ready-after, lent-below, lent-behind, part-short, rest-size, rest-back}
-use Rattle.writer.proofs.ByKind.{pattern-read, sheet-writes, const-writes, join-writes, match-writes, halves-write, arm-chosen, looked-up-key, found-writes}
+use Rattle.writer.proofs.ByKind.{default-below, leaf-writes, join-writes, match-writes, halves-write, arm-chosen, looked-up-key, found-writes}
 use Rattle.writer.proofs.Parts.{Parting, span-inside, span-reaches, between-inside, parting-begins, parting-next, parting-ends}
 use borrow.Fn.Kinds.{In}
 use borrow.Fn.PlainCycle.{Measures, is, falls, and}
@@ -47,11 +47,10 @@ use Rattle.writer.proofs.steps.choose.Reads as choose-reads
 use Rattle.writer.proofs.steps.cut_of.Reads as cut-of-reads
 use Rattle.writer.proofs.steps.flag_ends.Reads as flag-ends-reads
 use Rattle.writer.proofs.steps.halves_of.Reads as halves-of-reads
-use Rattle.writer.proofs.steps.leaving.Reads as leaving-reads
 use Rattle.writer.proofs.steps.old_between.Reads as old-between-reads
 use Rattle.writer.proofs.steps.part_end.Reads as part-end-reads
 use Rattle.writer.proofs.steps.span_of.Reads as span-of-reads
-use Rattle.writer.proofs.steps.write_const.Reads as write-const-reads
+use Rattle.writer.proofs.steps.write_leaf.Reads as write-leaf-reads
 use Rattle.writer.proofs.write.no_card.Reads as no-card-reads
 use Rattle.writer.proofs.write.+create+put+write_behind+write_join+write_match+write_node+write_parts.{
   statement,
@@ -59,16 +58,6 @@ use Rattle.writer.proofs.write.+create+put+write_behind+write_join+writ
 use Rattle.writer.proofs.write.+create+put+write_behind+write_join+write_match+write_node+write_parts.Tie.{
   close,
 }
-
--- the measure falls from a join to its halves, and from a node to the join of two lower ones
-left-falls : (a b : ℕ) → 4 * a + 1 < 4 * max a b + 3
-left-falls a b = omega (arith, le-max-left a b)
-
-right-falls : (a b : ℕ) → 4 * b + 1 < 4 * max a b + 3
-right-falls a b = omega (arith, le-max-right a b)
-
-join-falls : {a b node : ℕ} → a < node → b < node → 4 * max a b + 3 < 4 * node
-join-falls {a} {b} {node} h k = let both : max (suc a) (suc b) ≤ node = max-le h k in omega (arith, rw suc-max-suc at both)
 
 abbrev μ-create : Measures 6 create-kinds.ps ℕ
 μ-create κs a = 4 * a .1 .1 .0 + 1
@@ -90,6 +79,16 @@ abbrev μ-write-node : Measures 6 write-node-kinds.ps ℕ
 
 abbrev μ-write-parts : Measures 6 write-parts-kinds.ps ℕ
 μ-write-parts κs a = 4 * a .1 .1 .1 .0 + 2
+
+-- the measure falls from a join to its halves, and from a node to the join of two lower ones
+left-falls : (a b : ℕ) → 4 * a + 1 < 4 * max a b + 3
+left-falls a b = omega (arith, le-max-left a b)
+
+right-falls : (a b : ℕ) → 4 * b + 1 < 4 * max a b + 3
+right-falls a b = omega (arith, le-max-right a b)
+
+join-falls : {a b node : ℕ} → a < node → b < node → 4 * max a b + 3 < 4 * node
+join-falls {a} {b} {node} h k = let both : max (suc a) (suc b) ≤ node = max-le h k in omega (arith, rw suc-max-suc at both)
 
 abbrev create-at : ℕ → In 6 create-kinds.ps
 create-at t = and 6 create-kinds.ps (is 6 create-kinds.ps μ-create t) create.Pre
@@ -163,10 +162,10 @@ abbrev write-match-calls : ℕ → write-match-lts.Claims
 write-match-calls t = (no-card-reads.Asked, no-card-reads.Learnt, card-of-reads.Asked, card-of-reads.Learnt, take-reads.Asked, take-reads.Learnt, put-below t, put.Post, create-below t, create.Post)
 
 abbrev write-node-calls : ℕ → write-node-lts.Claims
-write-node-calls t = (node-reads.Asked, node-reads.Learnt, write-text-reads.Asked, write-text-reads.Learnt, leaving-reads.Asked, leaving-reads.Learnt, write-const-reads.Asked, write-const-reads.Learnt, write-join-below t, write-join.Post, choose-reads.Asked, choose-reads.Learnt, write-node-below t, write-node.Post, write-parts-below t, write-parts.Post, write-match-below t, write-match.Post)
+write-node-calls t = (node-reads.Asked, node-reads.Learnt, write-join-below t, write-join.Post, choose-reads.Asked, choose-reads.Learnt, write-node-below t, write-node.Post, write-parts-below t, write-parts.Post, write-match-below t, write-match.Post, write-leaf-reads.Asked, write-leaf-reads.Learnt)
 
 abbrev write-parts-calls : ℕ → write-parts-lts.Claims
-write-parts-calls t = (span-of-reads.Asked, span-of-reads.Learnt, flag-ends-reads.Asked, flag-ends-reads.Learnt, leaving-reads.Asked, leaving-reads.Learnt, part-end-reads.Asked, part-end-reads.Learnt, old-between-reads.Asked, old-between-reads.Learnt, write-behind-below t, write-behind.Post)
+write-parts-calls t = (span-of-reads.Asked, span-of-reads.Learnt, flag-ends-reads.Asked, flag-ends-reads.Learnt, part-end-reads.Asked, part-end-reads.Learnt, old-between-reads.Asked, old-between-reads.Learnt, write-behind-below t, write-behind.Post)
 
 create-write-node-requires : (t : ℕ) → create-lts.Need-write-node-requires (create-calls t) (create-at t) create.Post
 create-write-node-requires t c κs =
@@ -243,7 +242,7 @@ write-behind-write-node-requires t c κs =
 
 write-behind-behind-requires : (t : ℕ) → write-behind-lts.Need-behind-requires (write-behind-calls t) (write-behind-at t) write-behind.Post
 write-behind-behind-requires t c κs =
-    let at-write-node = c .before .before .before .before in
+    let at-write-node = c .before .before .before .before .before in
     let at-wrote = at-write-node .before .before .before .before in
     let start = at-wrote .before .before .before .before .before .before .before .before .before in
     let room = start .pre .1 .1 .1 .within _ (at-wrote .wrote .given .1) in
@@ -259,7 +258,7 @@ write-behind-same-length-2 t c = search needs
 
 write-behind-returns-2 : (t : ℕ) → write-behind-lts.Need-returns-2 (write-behind-calls t) (write-behind-at t) write-behind.Post
 write-behind-returns-2 t c =
-    let at-write-node = c .before .before .before .before .before in
+    let at-write-node = c .before .before .before .before .before .before in
     let at-wrote = at-write-node .before .before .before .before in
     rw (c .behind .ensures) (behind-next (at-wrote .wrote .given .1) (at-write-node .write-node .ensures))
 
@@ -442,116 +441,87 @@ write-node-node-requires t c κs =
     let known = start .pre .1 .0 .lens-node in
     (known .built .sized, known .inside)
 
-write-node-write-text-requires : (t : ℕ) → write-node-lts.Need-write-text-requires (write-node-calls t) (write-node-at t) write-node.Post
-write-node-write-text-requires t c κs = search needs
-
-write-node-leaving-requires : (t : ℕ) → write-node-lts.Need-leaving-requires (write-node-calls t) (write-node-at t) write-node.Post
-write-node-leaving-requires t c κs = search needs
-
 write-node-enum-known-kind : (t : ℕ) → write-node-lts.Need-enum-known-kind (write-node-calls t) (write-node-at t) write-node.Post
 write-node-enum-known-kind t c = search needs
 
-write-node-write-const-requires : (t : ℕ) → write-node-lts.Need-write-const-requires (write-node-calls t) (write-node-at t) write-node.Post
-write-node-write-const-requires t c κs =
-    let at-kind = c .before .before in
-    let at-node = at-kind .before .before in
-    let start = at-node .before .before .before .before .before .before .before in
-    let ready = start .pre .1 .0 in
-    let s = shown-const (at-node .node .ensures) (at-kind .kind .given .1) in
-    (word-below (ready .lens-node) (s .default-word) (s .default-lower) (s .at-default), (start .pre .1 .1 .1, omega (arith, ready .deck-size)))
-
-write-node-leaving-requires-2 : (t : ℕ) → write-node-lts.Need-leaving-requires-2 (write-node-calls t) (write-node-at t) write-node.Post
-write-node-leaving-requires-2 t c κs = search needs
-
-write-node-enum-known-kind-2 : (t : ℕ) → write-node-lts.Need-enum-known-kind-2 (write-node-calls t) (write-node-at t) write-node.Post
-write-node-enum-known-kind-2 t c = search needs
-
 write-node-write-join-requires : (t : ℕ) → write-node-lts.Need-write-join-requires (write-node-calls t) (write-node-at t) write-node.Post
 write-node-write-join-requires t c κs =
-    let at-kind2 = c .before .before .before in
-    let at-node = at-kind2 .before .before in
+    let at-kind = c .before .before .before in
+    let at-node = at-kind .before .before in
     let start = at-node .before .before .before .before .before .before .before in
     let ready = start .pre .1 .0 in
     let known = ready .lens-node in
     let (lent, inside) = start .pre .1 .1 in
-    let s = shown-join (at-node .node .ensures) (at-kind2 .kind2 .given .1) in
+    let s = shown-join (at-node .node .ensures) (at-kind .kind .given .1) in
     let first = ready-below ready (left-below known s) in
     let second = ready-below ready (right-below known s) in
     (omega (arith, join-falls (s .left-lower) (s .right-lower), start .pre .0), ((first, second), (lent-below lent (le-of-lt (s .left-lower)) (le-refl _) refl, lent-below lent (le-of-lt (s .right-lower)) (le-refl _) refl, inside)))
 
-write-node-enum-known-kind-3 : (t : ℕ) → write-node-lts.Need-enum-known-kind-3 (write-node-calls t) (write-node-at t) write-node.Post
-write-node-enum-known-kind-3 t c = search needs
+write-node-enum-known-kind-2 : (t : ℕ) → write-node-lts.Need-enum-known-kind-2 (write-node-calls t) (write-node-at t) write-node.Post
+write-node-enum-known-kind-2 t c = search needs
 
 write-node-choose-requires : (t : ℕ) → write-node-lts.Need-choose-requires (write-node-calls t) (write-node-at t) write-node.Post
 write-node-choose-requires t c κs =
-    let at-kind3 = c .before in
-    let at-node = at-kind3 .before .before in
+    let at-kind2 = c .before in
+    let at-node = at-kind2 .before .before in
     let start = at-node .before .before .before .before .before .before .before in
     let ready = start .pre .1 .0 in
     let known = ready .lens-node in
-    let s = shown-union (at-node .node .ensures) (at-kind3 .kind3 .given .1) in
+    let s = shown-union (at-node .node .ensures) (at-kind2 .kind2 .given .1) in
     let left = left-below known s in
     (node-prepared left Source, (node-prepared left Sheet, (node-prepared (right-below known s) Sheet, (start .pre .1 .1 .1, omega (arith, ready .deck-size)))))
 
 write-node-write-node-requires : (t : ℕ) → write-node-lts.Need-write-node-requires (write-node-calls t) (write-node-at t) write-node.Post
 write-node-write-node-requires t c κs =
     let at-choose = c .before .before in
-    let at-kind3 = at-choose .before .before in
-    let at-node = at-kind3 .before .before in
+    let at-kind2 = at-choose .before .before in
+    let at-node = at-kind2 .before .before in
     let start = at-node .before .before .before .before .before .before .before in
     let ready = start .pre .1 .0 in
     let known = ready .lens-node in
-    let arm = arm-chosen (known) (shown-union (at-node .node .ensures) (at-kind3 .kind3 .given .1)) (start .pre .1 .1 .1) (at-choose .choose .ensures) in
+    let arm = arm-chosen (known) (shown-union (at-node .node .ensures) (at-kind2 .kind2 .given .1)) (start .pre .1 .1 .1) (at-choose .choose .ensures) in
     (omega (arith, arm .lower, start .pre .0), (ready-below ready (arm .lens-node), (lent-below (start .pre .1 .1 .0) (le-of-lt (arm .lower)) (le-refl _) refl, arm .old-inside)))
+
+write-node-enum-known-kind-3 : (t : ℕ) → write-node-lts.Need-enum-known-kind-3 (write-node-calls t) (write-node-at t) write-node.Post
+write-node-enum-known-kind-3 t c = search needs
+
+write-node-write-parts-requires : (t : ℕ) → write-node-lts.Need-write-parts-requires (write-node-calls t) (write-node-at t) write-node.Post
+write-node-write-parts-requires t c κs =
+    let at-kind3 = c .before .before .before in
+    let at-node = at-kind3 .before .before in
+    let start = at-node .before .before .before .before .before .before .before in
+    let s = shown-repeat (at-node .node .ensures) (at-kind3 .kind3 .given .1) in
+    (omega (arith, s .lower, start .pre .0), ((start .pre .1 .0, s), start .pre .1 .1))
 
 write-node-enum-known-kind-4 : (t : ℕ) → write-node-lts.Need-enum-known-kind-4 (write-node-calls t) (write-node-at t) write-node.Post
 write-node-enum-known-kind-4 t c = search needs
 
-write-node-write-parts-requires : (t : ℕ) → write-node-lts.Need-write-parts-requires (write-node-calls t) (write-node-at t) write-node.Post
-write-node-write-parts-requires t c κs =
+write-node-write-match-requires : (t : ℕ) → write-node-lts.Need-write-match-requires (write-node-calls t) (write-node-at t) write-node.Post
+write-node-write-match-requires t c κs =
     let at-kind4 = c .before .before .before in
     let at-node = at-kind4 .before .before in
     let start = at-node .before .before .before .before .before .before .before in
-    let s = shown-repeat (at-node .node .ensures) (at-kind4 .kind4 .given .1) in
-    (omega (arith, s .lower, start .pre .0), ((start .pre .1 .0, s), start .pre .1 .1))
-
-write-node-enum-known-kind-5 : (t : ℕ) → write-node-lts.Need-enum-known-kind-5 (write-node-calls t) (write-node-at t) write-node.Post
-write-node-enum-known-kind-5 t c = search needs
-
-write-node-write-match-requires : (t : ℕ) → write-node-lts.Need-write-match-requires (write-node-calls t) (write-node-at t) write-node.Post
-write-node-write-match-requires t c κs =
-    let at-kind5 = c .before .before .before in
-    let at-node = at-kind5 .before .before in
-    let start = at-node .before .before .before .before .before .before .before in
     let ready = start .pre .1 .0 in
     let known = ready .lens-node in
-    let s = shown-match (at-node .node .ensures) (at-kind5 .kind5 .given .1) in
+    let s = shown-match (at-node .node .ensures) (at-kind4 .kind4 .given .1) in
     (omega (arith, s .lower, start .pre .0), (ready-below ready (child-below known s), lent-below (start .pre .1 .1 .0) (le-of-lt (s .lower)) (le-refl _) refl))
 
-write-node-leaving-requires-3 : (t : ℕ) → write-node-lts.Need-leaving-requires-3 (write-node-calls t) (write-node-at t) write-node.Post
-write-node-leaving-requires-3 t c κs = search needs
+write-node-write-leaf-requires : (t : ℕ) → write-node-lts.Need-write-leaf-requires (write-node-calls t) (write-node-at t) write-node.Post
+write-node-write-leaf-requires t c κs =
+    (default-below (c .before .before .before .before .before .before .before .before .before .pre .1 .0 .lens-node) (c .before .before .node .ensures), (c .before .before .before .before .before .before .before .before .before .pre .1 .1 .1, omega (arith, c .before .before .before .before .before .before .before .before .before .pre .1 .0 .deck-size)))
 
 write-node-same-length : (t : ℕ) → write-node-lts.Need-same-length (write-node-calls t) (write-node-at t) write-node.Post
 write-node-same-length t c = search needs
 
-write-node-returns : (t : ℕ) → write-node-lts.Need-returns (write-node-calls t) (write-node-at t) write-node.Post
-write-node-returns t c =
-    let at-write-text = c .before .before .before in
-    let at-match = at-write-text .before .before in
-    let at-node = at-match .before in
-    let start = at-node .before .before .before .before .before .before .before in
-    rw (c .leaving .ensures) (sheet-writes (at-node .node .ensures) (at-match .match .keys1) (start .pre .1 .0 .over) (at-write-text .write-text .ensures))
-
 write-node-same-length-2 : (t : ℕ) → write-node-lts.Need-same-length-2 (write-node-calls t) (write-node-at t) write-node.Post
 write-node-same-length-2 t c = search needs
 
-write-node-returns-2 : (t : ℕ) → write-node-lts.Need-returns-2 (write-node-calls t) (write-node-at t) write-node.Post
-write-node-returns-2 t c =
-    let at-write-const = c .before .before .before in
-    let at-kind = at-write-const .before .before .before in
+write-node-returns : (t : ℕ) → write-node-lts.Need-returns (write-node-calls t) (write-node-at t) write-node.Post
+write-node-returns t c =
+    let at-write-join = c .before .before .before .before in
+    let at-kind = at-write-join .before .before .before .before in
     let at-node = at-kind .before .before in
-    let start = at-node .before .before .before .before .before .before .before in
-    rw (c .leaving2 .ensures) (const-writes (at-node .node .ensures) (at-kind .kind .given .1) (start .pre .1 .0 .over) (at-write-const .write-const .ensures))
+    join-writes (at-node .node .ensures) (at-kind .kind .given .1) (at-write-join .write-join .ensures)
 
 write-node-same-length-3 : (t : ℕ) → write-node-lts.Need-same-length-3 (write-node-calls t) (write-node-at t) write-node.Post
 write-node-same-length-3 t c = search needs
@@ -559,12 +529,15 @@ write-node-same-length-3 t c = search needs
 write-node-same-length-4 : (t : ℕ) → write-node-lts.Need-same-length-4 (write-node-calls t) (write-node-at t) write-node.Post
 write-node-same-length-4 t c = search needs
 
-write-node-returns-3 : (t : ℕ) → write-node-lts.Need-returns-3 (write-node-calls t) (write-node-at t) write-node.Post
-write-node-returns-3 t c =
-    let at-write-join = c .before .before .before .before in
-    let at-kind2 = at-write-join .before .before .before .before in
+write-node-returns-2 : (t : ℕ) → write-node-lts.Need-returns-2 (write-node-calls t) (write-node-at t) write-node.Post
+write-node-returns-2 t c =
+    let at-write-node = c .before .before .before .before in
+    let at-choose = at-write-node .before .before .before in
+    let at-kind2 = at-choose .before .before in
     let at-node = at-kind2 .before .before in
-    join-writes (at-node .node .ensures) (at-kind2 .kind2 .given .1) (at-write-join .write-join .ensures)
+    let start = at-node .before .before .before .before .before .before .before in
+    let arm = arm-chosen (start .pre .1 .0 .lens-node) (shown-union (at-node .node .ensures) (at-kind2 .kind2 .given .1)) (start .pre .1 .1 .1) (at-choose .choose .ensures) in
+    arm .writes (at-write-node .write-node .ensures)
 
 write-node-same-length-5 : (t : ℕ) → write-node-lts.Need-same-length-5 (write-node-calls t) (write-node-at t) write-node.Post
 write-node-same-length-5 t c = search needs
@@ -572,15 +545,10 @@ write-node-same-length-5 t c = search needs
 write-node-same-length-6 : (t : ℕ) → write-node-lts.Need-same-length-6 (write-node-calls t) (write-node-at t) write-node.Post
 write-node-same-length-6 t c = search needs
 
-write-node-returns-4 : (t : ℕ) → write-node-lts.Need-returns-4 (write-node-calls t) (write-node-at t) write-node.Post
-write-node-returns-4 t c =
-    let at-write-node = c .before .before .before .before in
-    let at-choose = at-write-node .before .before .before in
-    let at-kind3 = at-choose .before .before in
-    let at-node = at-kind3 .before .before in
-    let start = at-node .before .before .before .before .before .before .before in
-    let arm = arm-chosen (start .pre .1 .0 .lens-node) (shown-union (at-node .node .ensures) (at-kind3 .kind3 .given .1)) (start .pre .1 .1 .1) (at-choose .choose .ensures) in
-    arm .writes (at-write-node .write-node .ensures)
+write-node-returns-3 : (t : ℕ) → write-node-lts.Need-returns-3 (write-node-calls t) (write-node-at t) write-node.Post
+write-node-returns-3 t c =
+    let at-write-parts = c .before .before .before .before in
+    at-write-parts .write-parts .ensures
 
 write-node-same-length-7 : (t : ℕ) → write-node-lts.Need-same-length-7 (write-node-calls t) (write-node-at t) write-node.Post
 write-node-same-length-7 t c = search needs
@@ -588,30 +556,19 @@ write-node-same-length-7 t c = search needs
 write-node-same-length-8 : (t : ℕ) → write-node-lts.Need-same-length-8 (write-node-calls t) (write-node-at t) write-node.Post
 write-node-same-length-8 t c = search needs
 
-write-node-returns-5 : (t : ℕ) → write-node-lts.Need-returns-5 (write-node-calls t) (write-node-at t) write-node.Post
-write-node-returns-5 t c =
-    let at-write-parts = c .before .before .before .before in
-    at-write-parts .write-parts .ensures
+write-node-returns-4 : (t : ℕ) → write-node-lts.Need-returns-4 (write-node-calls t) (write-node-at t) write-node.Post
+write-node-returns-4 t c =
+    let at-write-match = c .before .before .before .before in
+    let at-kind4 = at-write-match .before .before .before .before in
+    let at-node = at-kind4 .before .before in
+    match-writes (at-node .node .ensures) (at-kind4 .kind4 .given .1) (at-write-match .write-match .ensures)
 
 write-node-same-length-9 : (t : ℕ) → write-node-lts.Need-same-length-9 (write-node-calls t) (write-node-at t) write-node.Post
 write-node-same-length-9 t c = search needs
 
-write-node-same-length-10 : (t : ℕ) → write-node-lts.Need-same-length-10 (write-node-calls t) (write-node-at t) write-node.Post
-write-node-same-length-10 t c = search needs
-
-write-node-returns-6 : (t : ℕ) → write-node-lts.Need-returns-6 (write-node-calls t) (write-node-at t) write-node.Post
-write-node-returns-6 t c =
-    let at-write-match = c .before .before .before .before in
-    let at-kind5 = at-write-match .before .before .before .before in
-    let at-node = at-kind5 .before .before in
-    match-writes (at-node .node .ensures) (at-kind5 .kind5 .given .1) (at-write-match .write-match .ensures)
-
-write-node-returns-7 : (t : ℕ) → write-node-lts.Need-returns-7 (write-node-calls t) (write-node-at t) write-node.Post
-write-node-returns-7 t c =
-    let at-match = c .before in
-    let at-node = at-match .before in
-    let start = at-node .before .before .before .before .before .before .before in
-    pattern-read (start .pre .1 .0 .lens-node) (at-node .node .ensures) (at-match .match .keys7)
+write-node-returns-5 : (t : ℕ) → write-node-lts.Need-returns-5 (write-node-calls t) (write-node-at t) write-node.Post
+write-node-returns-5 t c =
+    leaf-writes (c .before .before .before .before .before .before .before .before .before .before .before .before .pre .1 .0 .lens-node) (c .before .before .before .before .before .node .ensures) (c .before .before .before .before .before .before .before .before .before .before .before .before .pre .1 .0 .over) (c .before .before .before .before .match .keys5) (c .before .before .write-leaf .ensures)
 
 abbrev write-parts-Inv-loop : write-parts-lts.InvT-loop
 write-parts-Inv-loop bytes prepared node child new deck pad₀ out₀ start end text mid free done₀ o₀ p₀ pad out done o p =
@@ -696,12 +653,9 @@ write-parts-flag-ends-requires-2 t c κs =
     let reaches = span-reaches (start .args .deck .now) (start .pre .1 .1 .1) (at-span-of .span-of .ensures) in
     (node-prepared (start .pre .1 .0 .0 .lens-node) Source, omega (arith, lent .new-short, lent .pad-room, at-flag-ends .flag-ends .kept .1 .1 .1 .1 .0, reaches, rest-size (at-flag-ends .flag-ends .last .1 .1 .1 .1 .0) (length (start .args .new .now) + 1)))
 
-write-parts-leaving-requires : (t : ℕ) → write-parts-lts.Need-leaving-requires (write-parts-calls t) (write-parts-at t) write-parts.Post write-parts-Inv-loop write-parts-μ-loop
-write-parts-leaving-requires t c κs = search needs
-
 write-parts-loop-holds : (t : ℕ) → write-parts-lts.Need-loop-holds (write-parts-calls t) (write-parts-at t) write-parts.Post write-parts-Inv-loop write-parts-μ-loop
 write-parts-loop-holds t c =
-    let at-flag-ends2 = c .before .before .before in
+    let at-flag-ends2 = c .before .before in
     let at-flag-ends = at-flag-ends2 .before .before .before .before in
     let start = at-flag-ends .before .before .before .before .before .before .before .before .before .before in
     let (ready, one) = start .pre .1 .0 in
@@ -709,12 +663,12 @@ write-parts-loop-holds t c =
     let room : length (start .args .new .now) + 1 ≤ length (at-flag-ends .flag-ends .last .1 .1 .1 .1 .0) = omega (arith, lent .new-short, lent .pad-room, at-flag-ends .flag-ends .kept .1 .1 .1 .1 .0) in
     let same-pad = rest-back (at-flag-ends .flag-ends .last .1 .1 .1 .1 .0) (at-flag-ends2 .flag-ends2 .last .1 .1 .1 .1 .0) (length (start .args .new .now) + 1) room (at-flag-ends2 .flag-ends2 .kept .1 .1 .1 .1 .0) ∙ at-flag-ends .flag-ends .kept .1 .1 .1 .1 .0 in
     let parting = parting-begins (start .args .out .now) (ready .lens-node) one (ready .over) (at-flag-ends .flag-ends .ensures) (at-flag-ends2 .flag-ends2 .ensures) room in
-    (rw (c .leaving .ensures) parting, (lent-below lent (le-refl _) (le-refl _) same-pad, (refl, refl)))
+    (parting, (lent-below lent (le-refl _) (le-refl _) same-pad, (refl, refl)))
 
 write-parts-part-end-requires : (t : ℕ) → write-parts-lts.Need-part-end-requires (write-parts-calls t) (write-parts-at t) write-parts.Post write-parts-Inv-loop write-parts-μ-loop
 write-parts-part-end-requires t c κs =
     let at-loop = c .before .before in
-    let start = at-loop .before .before .before .before .before .before .before .before .before .before .before .before .before .before .before .before .before .before in
+    let start = at-loop .before .before .before .before .before .before .before .before .before .before .before .before .before .before .before .before .before in
     let child = child-below (start .pre .1 .0 .0 .lens-node) (start .pre .1 .0 .1) in
     let (parting, (lent, lengths)) = at-loop .loop .inv in
     (node-prepared child Sheet, (parting .o-within, omega (arith, lent .new-short, lent .pad-room)))
@@ -740,7 +694,7 @@ write-parts-part-part-end-end t c =
 write-parts-part-end-requires-2 : (t : ℕ) → write-parts-lts.Need-part-end-requires-2 (write-parts-calls t) (write-parts-at t) write-parts.Post write-parts-Inv-loop write-parts-μ-loop
 write-parts-part-end-requires-2 t c κs =
     let at-loop = c .before .before .before .before .before in
-    let at-span-of = at-loop .before .before .before .before .before .before .before .before .before .before .before in
+    let at-span-of = at-loop .before .before .before .before .before .before .before .before .before .before in
     let start = at-span-of .before .before .before .before .before .before .before in
     let child = child-below (start .pre .1 .0 .0 .lens-node) (start .pre .1 .0 .1) in
     let (parting, (lent, lengths)) = at-loop .loop .inv in
@@ -765,7 +719,7 @@ write-parts-part-piece-end t c =
 write-parts-add-old-between : (t : ℕ) → write-parts-lts.Need-add-old-between (write-parts-calls t) (write-parts-at t) write-parts.Post write-parts-Inv-loop write-parts-μ-loop
 write-parts-add-old-between t c =
     let at-loop = c .before .before .before .before .before .before .before in
-    let at-span-of = at-loop .before .before .before .before .before .before .before .before .before .before .before in
+    let at-span-of = at-loop .before .before .before .before .before .before .before .before .before .before in
     let start = at-span-of .before .before .before .before .before .before .before in
     let reaches = span-reaches (start .args .deck .now) (start .pre .1 .1 .1) (at-span-of .span-of .ensures) in
     omega (arith, at-loop .loop .inv .0 .p-within, reaches)
@@ -773,7 +727,7 @@ write-parts-add-old-between t c =
 write-parts-add-old-between-2 : (t : ℕ) → write-parts-lts.Need-add-old-between-2 (write-parts-calls t) (write-parts-at t) write-parts.Post write-parts-Inv-loop write-parts-μ-loop
 write-parts-add-old-between-2 t c =
     let at-part-end2 = c .before in
-    let at-span-of = at-part-end2 .before .before .before .before .before .before .before .before .before .before .before .before .before .before .before .before .before in
+    let at-span-of = at-part-end2 .before .before .before .before .before .before .before .before .before .before .before .before .before .before .before .before in
     let start = at-span-of .before .before .before .before .before .before .before in
     let reaches = span-reaches (start .args .deck .now) (start .pre .1 .1 .1) (at-span-of .span-of .ensures) in
     omega (arith, at-part-end2 .part-end2 .ensures .within, reaches)
@@ -784,7 +738,7 @@ write-parts-old-between-requires t c κs = search needs
 write-parts-sub-rest : (t : ℕ) → write-parts-lts.Need-sub-rest (write-parts-calls t) (write-parts-at t) write-parts.Post write-parts-Inv-loop write-parts-μ-loop
 write-parts-sub-rest t c =
     let at-loop = c .before .before .before .before .before .before .before .before in
-    let at-span-of = at-loop .before .before .before .before .before .before .before .before .before .before .before in
+    let at-span-of = at-loop .before .before .before .before .before .before .before .before .before .before in
     let start = at-span-of .before .before .before .before .before .before .before in
     let lent = at-loop .loop .inv .1 .0 in
     let reaches = span-reaches (start .args .deck .now) (start .pre .1 .1 .1) (at-span-of .span-of .ensures) in
@@ -793,7 +747,7 @@ write-parts-sub-rest t c =
 write-parts-part-rest-start : (t : ℕ) → write-parts-lts.Need-part-rest-start (write-parts-calls t) (write-parts-at t) write-parts.Post write-parts-Inv-loop write-parts-μ-loop
 write-parts-part-rest-start t c =
     let at-loop = c .before .before .before .before .before .before .before .before in
-    let at-span-of = at-loop .before .before .before .before .before .before .before .before .before .before .before in
+    let at-span-of = at-loop .before .before .before .before .before .before .before .before .before .before in
     let start = at-span-of .before .before .before .before .before .before .before in
     let lent = at-loop .loop .inv .1 .0 in
     let reaches = span-reaches (start .args .deck .now) (start .pre .1 .1 .1) (at-span-of .span-of .ensures) in
@@ -802,7 +756,7 @@ write-parts-part-rest-start t c =
 write-parts-part-rest-end : (t : ℕ) → write-parts-lts.Need-part-rest-end (write-parts-calls t) (write-parts-at t) write-parts.Post write-parts-Inv-loop write-parts-μ-loop
 write-parts-part-rest-end t c =
     let at-loop = c .before .before .before .before .before .before .before .before in
-    let at-span-of = at-loop .before .before .before .before .before .before .before .before .before .before .before in
+    let at-span-of = at-loop .before .before .before .before .before .before .before .before .before .before in
     let start = at-span-of .before .before .before .before .before .before .before in
     let lent = at-loop .loop .inv .1 .0 in
     let reaches = span-reaches (start .args .deck .now) (start .pre .1 .1 .1) (at-span-of .span-of .ensures) in
@@ -814,12 +768,11 @@ write-parts-write-behind-requires t c κs =
     let at-part-end2 = at-old-between .before .before in
     let at-part-end = at-part-end2 .before .before .before in
     let at-loop = at-part-end .before .before .before in
-    let at-leaving = at-loop .before in
-    let at-span-of = at-leaving .before .before .before .before .before .before .before .before .before .before in
+    let at-span-of = at-loop .before .before .before .before .before .before .before .before .before .before in
     let start = at-span-of .before .before .before .before .before .before .before in
     let (ready, one) = start .pre .1 .0 in
     let child = child-below (ready .lens-node) one in
-    let progress = (rw (at-leaving .leaving .ensures) at (at-loop .loop .inv .0)) .progress in
+    let progress = (at-loop .loop .inv .0) .progress in
     let lent = at-loop .loop .inv .1 .0 in
     let reaches = span-reaches (start .args .deck .now) (start .pre .1 .1 .1) (at-span-of .span-of .ensures) in
     let short = part-short (at-part-end .part-end .result - at-loop .loop .o) (at-loop .loop .o) (start .args .new .now) in
@@ -840,7 +793,7 @@ write-parts-loop-again t c =
     let at-part-end = at-part-end2 .before .before .before in
     let at-loop-test = at-part-end .before .before in
     let at-loop = at-loop-test .before in
-    let at-span-of = at-loop .before .before .before .before .before .before .before .before .before .before .before in
+    let at-span-of = at-loop .before .before .before .before .before .before .before .before .before .before in
     let start = at-span-of .before .before .before .before .before .before .before in
     let child = child-below (start .pre .1 .0 .0 .lens-node) (start .pre .1 .0 .1) in
     let lent = at-loop .loop .inv .1 .0 in
@@ -856,7 +809,7 @@ write-parts-loop-again t c =
 write-parts-same-length : (t : ℕ) → write-parts-lts.Need-same-length (write-parts-calls t) (write-parts-at t) write-parts.Post write-parts-Inv-loop write-parts-μ-loop
 write-parts-same-length t c =
     let at-loop = c .before in
-    let at-flag-ends2 = at-loop .before .before .before .before in
+    let at-flag-ends2 = at-loop .before .before .before in
     let at-flag-ends = at-flag-ends2 .before .before .before .before in
     let start = at-flag-ends .before .before .before .before .before .before .before .before .before .before in
     let lent = start .pre .1 .1 .0 in
@@ -872,10 +825,9 @@ write-parts-same-length-2 t c =
 write-parts-returns : (t : ℕ) → write-parts-lts.Need-returns (write-parts-calls t) (write-parts-at t) write-parts.Post write-parts-Inv-loop write-parts-μ-loop
 write-parts-returns t c =
     let at-loop = c .before in
-    let at-leaving = at-loop .before in
-    let at-span-of = at-leaving .before .before .before .before .before .before .before .before .before .before in
+    let at-span-of = at-loop .before .before .before .before .before .before .before .before .before .before in
     let start = at-span-of .before .before .before .before .before .before .before in
-    parting-ends (start .args .old) (start .pre .1 .0 .1) (at-span-of .span-of .ensures) (rw (at-leaving .leaving .ensures) at (at-loop .loop .inv .0)) (c .loop-test .left)
+    parting-ends (start .args .old) (start .pre .1 .0 .1) (at-span-of .span-of .ensures) (at-loop .loop .inv .0) (c .loop-test .left)
 
 pub +create+put+write-behind+write-join+write-match+write-node+write-parts-spec :
     {M : Type 1} → statement M
@@ -958,38 +910,30 @@ pub +create+put+write-behind+write-join+write-match+write-node+write-parts-spec 
     (write-node-at t)
     write-node.Post
     (write-node-node-requires t)
-    (write-node-write-text-requires t)
-    (write-node-leaving-requires t)
     (write-node-enum-known-kind t)
-    (write-node-write-const-requires t)
-    (write-node-leaving-requires-2 t)
-    (write-node-enum-known-kind-2 t)
     (write-node-write-join-requires t)
-    (write-node-enum-known-kind-3 t)
+    (write-node-enum-known-kind-2 t)
     (write-node-choose-requires t)
     (write-node-write-node-requires t)
-    (write-node-enum-known-kind-4 t)
+    (write-node-enum-known-kind-3 t)
     (write-node-write-parts-requires t)
-    (write-node-enum-known-kind-5 t)
+    (write-node-enum-known-kind-4 t)
     (write-node-write-match-requires t)
-    (write-node-leaving-requires-3 t)
+    (write-node-write-leaf-requires t)
     (write-node-same-length t)
-    (write-node-returns t)
     (write-node-same-length-2 t)
-    (write-node-returns-2 t)
+    (write-node-returns t)
     (write-node-same-length-3 t)
     (write-node-same-length-4 t)
-    (write-node-returns-3 t)
+    (write-node-returns-2 t)
     (write-node-same-length-5 t)
     (write-node-same-length-6 t)
-    (write-node-returns-4 t)
+    (write-node-returns-3 t)
     (write-node-same-length-7 t)
     (write-node-same-length-8 t)
-    (write-node-returns-5 t)
+    (write-node-returns-4 t)
     (write-node-same-length-9 t)
-    (write-node-same-length-10 t)
-    (write-node-returns-6 t)
-    (write-node-returns-7 t))
+    (write-node-returns-5 t))
     λ t. write-parts-lts.spec (write-parts-calls t)
     (write-parts-at t)
     write-parts.Post
@@ -1007,7 +951,6 @@ pub +create+put+write-behind+write-join+write-match+write-node+write-parts-spec 
     (write-parts-part-flag-ends-start t)
     (write-parts-part-flag-ends-end t)
     (write-parts-flag-ends-requires-2 t)
-    (write-parts-leaving-requires t)
     (write-parts-loop-holds t)
     (write-parts-part-end-requires t)
     (write-parts-sub-part-end t)
