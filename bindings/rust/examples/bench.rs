@@ -3,19 +3,23 @@
 //! `cargo run --release --example bench`, in the folder of this package.
 
 use std::collections::HashSet;
+use std::io::{BufRead, BufReader, Write};
 use std::path::{Path, PathBuf};
-use std::process::Command;
+use std::process::{Child, ChildStdout, Command, Stdio};
 use std::time::{Duration, Instant};
 
 use noontrough::{Answer, MAX_TEXT, STACK_BYTES};
 use noontrough_reference::generator::draft::{Draft, NodeNumber};
 use noontrough_reference::generator::random::Random;
-use noontrough_reference::{Calls, Reference};
+use noontrough_reference::{Calls, Reference, Refusal};
 
 const SEED: u64 = 1;
 const ENTRIES: usize = 256;
 /// Repeats that fill a dense program up to 96 nodes.
 const DENSE_MOST: usize = 78;
+/// Calls that one of two makes before it is the other's turn, and turns at most.
+const CALLS: usize = 10;
+const TURNS: usize = 20;
 
 fn main() {
     let bench = std::thread::Builder::new().stack_size(STACK_BYTES + (8 << 20)).spawn(bench);
@@ -29,122 +33,134 @@ fn bench() {
     let sheet = sheet_of(&entries);
     let reversed: Vec<_> = entries.iter().rev().cloned().collect();
     let (reversed_source, reversed_sheet) = (source_of(&reversed), sheet_of(&reversed));
-    println!("Program K, {ENTRIES} entries, {} bytes of source, {} of sheet, seed {SEED}\n", source.len(), sheet.len());
-    heading();
-    row("check", check(&table), check_reference(&table));
-    row("get", get(&table, &source, &sheet), get_reference(&table, &source));
-    row("put, unedited", put(&table, &sheet, &source, &source), put_reference(&table, &sheet, &source));
-    let by_reference = put_reference(&table, &reversed_sheet, &source);
-    row("put, reversed", put(&table, &reversed_sheet, &source, &reversed_source), by_reference);
-    row("create", create(&table, &sheet), create_reference(&table, &sheet));
+    let sizes = format!("{ENTRIES} entries, {} bytes of source, {} of sheet, seed {SEED}", source.len(), sheet.len());
+    heading(&format!("Program K, {sizes}"), "Reference");
+    check(&table, "check");
+    get(&table, &source, &sheet, "get");
+    put(&table, &sheet, &source, &source, "put, unedited");
+    put(&table, &reversed_sheet, &source, &reversed_source, "put, reversed");
+    create(&table, &sheet, "create");
 
-    println!("\nCheck by positions\n");
-    heading();
+    heading("Check by positions", "Reference");
     for positions in [32, 64, 128] {
-        let table = program_with_positions(positions);
-        row(&format!("check, {positions} positions"), check(&table), check_reference(&table));
+        check(&program_with_positions(positions), &format!("check, {positions} positions"));
     }
 
-    println!("\nCheck of dense programs of 128 positions a side\n");
-    heading();
+    heading("Check of dense programs of 128 positions a side", "Reference");
     for repeats in [1, DENSE_MOST] {
         let table = dense_program(repeats);
-        row(&format!("check, {} nodes", table[0]), check(&table), check_reference(&table));
+        check(&table, &format!("check, {} nodes", table[0]));
     }
 
-    println!("\nGet by length of the source, program K\n");
-    heading();
+    heading("Get by length of the source, program K", "Reference");
     for bytes in [512, 1024, 2048, 4096] {
         let (source, sheet) = texts_of_length(bytes);
-        row(&format!("get, {bytes} bytes"), get(&table, &source, &sheet), get_reference(&table, &source));
+        get(&table, &source, &sheet, &format!("get, {bytes} bytes"));
     }
 
-    println!("\nAugeas, program K, the same source\n");
-    match augeas(&source, &reversed_source) {
-        Ok(times) => {
-            println!("| Call | Augeas |\n|---|---|");
-            for (name, time) in ["get", "put, unedited", "put, reversed"].iter().zip(times) {
-                println!("| {name} | {} |", shown(time));
-            }
+    match Augeas::start(&source, &reversed_source) {
+        Ok(mut augeas) => {
+            heading("Augeas, program K, the same source", "Augeas");
+            row("get", || engine_get(&table, &source, &sheet), || augeas.call(b'g'));
+            row("put, unedited", || engine_put(&table, &sheet, &source, &source), || augeas.call(b'p'));
+            row("put, reversed", || engine_put(&table, &reversed_sheet, &source, &reversed_source), || augeas.call(b'r'));
         }
-        Err(reason) => println!("Augeas is skipped: {reason}"),
+        Err(reason) => println!("\nAugeas is skipped: {reason}"),
     }
 }
 
-fn heading() {
-    println!("| Call | Engine | Reference | Engine : reference |\n|---|---|---|---|");
+fn heading(title: &str, other: &str) {
+    println!("\n{title}\n\n| Call | Engine | {other} | Engine : {other} |\n|---|---|---|---|");
 }
 
-fn row(name: &str, engine: Duration, reference: Duration) {
-    let ratio = engine.as_secs_f64() / reference.as_secs_f64();
-    println!("| {name} | {} | {} | {ratio:.2} |", shown(engine), shown(reference));
-}
-
-fn shown(time: Duration) -> String {
-    format!("{:.1} µs", time.as_secs_f64() * 1e6)
-}
-
-/// The median of at least 5 runs, of up to 201 if they end within two seconds.
-fn median(mut call: impl FnMut()) -> Duration {
-    call();
+/// Times the engine and another in turn, so that a slow moment of the machine falls on both. Prints the median call of each, and
+/// the median of the ratios of their turns.
+fn row(name: &str, mut engine: impl FnMut() -> Duration, mut other: impl FnMut() -> Duration) {
+    engine();
+    other();
     let begun = Instant::now();
-    let mut times = Vec::new();
-    while times.len() < 5 || (times.len() < 201 && begun.elapsed() < Duration::from_secs(2)) {
-        let start = Instant::now();
-        call();
-        times.push(start.elapsed());
+    let (mut engines, mut others, mut ratios) = (Vec::new(), Vec::new(), Vec::new());
+    while ratios.is_empty() || (ratios.len() < TURNS && begun.elapsed() < Duration::from_secs(4)) {
+        let [mine, theirs] = [turn(&mut engine), turn(&mut other)];
+        ratios.push(mine.iter().sum::<f64>() / theirs.iter().sum::<f64>());
+        engines.extend(mine);
+        others.extend(theirs);
     }
-    times.sort();
-    times[times.len() / 2]
+    let [engine, other, ratio] = [engines, others, ratios].map(median);
+    println!("| {name} | {engine:.1} µs | {other:.1} µs | {ratio:.2} |");
 }
 
-fn length_of(answer: Answer) -> usize {
-    match answer {
-        Answer::Result { length } => length,
-        Answer::Refusal { number, node } => panic!("refused {number} at node {node}"),
-    }
+/// What each call of a turn takes, in microseconds.
+fn turn(call: &mut impl FnMut() -> Duration) -> Vec<f64> {
+    (0..CALLS).map(|_| call().as_secs_f64() * 1e6).collect()
 }
 
-fn check(table: &[u8]) -> Duration {
-    median(|| assert_eq!(length_of(noontrough::check(table)), usize::from(table[0])))
+fn median(mut numbers: Vec<f64>) -> f64 {
+    numbers.sort_by(f64::total_cmp);
+    numbers[numbers.len() / 2]
 }
 
-fn check_reference(table: &[u8]) -> Duration {
-    median(|| assert_eq!(Reference.check(table), Ok(usize::from(table[0]))))
+/// What a call gives, and how long it takes.
+fn timed<T>(call: impl FnOnce() -> T) -> (T, Duration) {
+    let start = Instant::now();
+    let given = call();
+    (given, start.elapsed())
 }
 
-fn get(table: &[u8], source: &[u8], expected: &[u8]) -> Duration {
-    let mut out = [0; MAX_TEXT];
-    let time = median(|| assert_eq!(length_of(noontrough::get(table, source, &mut out)), expected.len()));
+fn assert_gives(answer: Answer, out: &[u8], expected: &[u8]) {
+    assert_eq!(answer, Answer::Result { length: expected.len() });
     assert_eq!(&out[..expected.len()], expected);
+}
+
+fn engine_get(table: &[u8], source: &[u8], expected: &[u8]) -> Duration {
+    let mut out = [0; MAX_TEXT];
+    let (answer, time) = timed(|| noontrough::get(table, source, &mut out));
+    assert_gives(answer, &out, expected);
     time
 }
 
-fn get_reference(table: &[u8], source: &[u8]) -> Duration {
+fn engine_put(table: &[u8], sheet: &[u8], source: &[u8], expected: &[u8]) -> Duration {
     let mut out = [0; MAX_TEXT];
-    median(|| assert!(Reference.get(table, source, &mut out).is_ok()))
-}
-
-fn put(table: &[u8], sheet: &[u8], source: &[u8], expected: &[u8]) -> Duration {
-    let mut out = [0; MAX_TEXT];
-    let time = median(|| assert_eq!(length_of(noontrough::put(table, sheet, source, &mut out)), expected.len()));
-    assert_eq!(&out[..expected.len()], expected);
+    let (answer, time) = timed(|| noontrough::put(table, sheet, source, &mut out));
+    assert_gives(answer, &out, expected);
     time
 }
 
-fn put_reference(table: &[u8], sheet: &[u8], source: &[u8]) -> Duration {
+fn engine_create(table: &[u8], sheet: &[u8]) -> Duration {
     let mut out = [0; MAX_TEXT];
-    median(|| assert!(Reference.put(table, sheet, source, &mut out).is_ok()))
+    let (answer, time) = timed(|| noontrough::create(table, sheet, &mut out));
+    assert!(matches!(answer, Answer::Result { .. }));
+    time
 }
 
-fn create(table: &[u8], sheet: &[u8]) -> Duration {
-    let mut out = [0; MAX_TEXT];
-    median(|| assert!(length_of(noontrough::create(table, sheet, &mut out)) > 0))
+fn engine_check(table: &[u8]) -> Duration {
+    let (answer, time) = timed(|| noontrough::check(table));
+    assert_eq!(answer, Answer::Result { length: usize::from(table[0]) });
+    time
 }
 
-fn create_reference(table: &[u8], sheet: &[u8]) -> Duration {
+/// The time of a call of the reference, which is not to be refused.
+fn reference(call: impl FnOnce(&mut [u8]) -> Result<usize, Refusal>) -> Duration {
     let mut out = [0; MAX_TEXT];
-    median(|| assert!(Reference.create(table, sheet, &mut out).is_ok()))
+    let (answer, time) = timed(|| call(&mut out));
+    assert!(answer.is_ok());
+    time
+}
+
+fn check(table: &[u8], name: &str) {
+    row(name, || engine_check(table), || reference(|_| Reference.check(table)));
+}
+
+fn get(table: &[u8], source: &[u8], sheet: &[u8], name: &str) {
+    row(name, || engine_get(table, source, sheet), || reference(|out| Reference.get(table, source, out)));
+}
+
+fn put(table: &[u8], sheet: &[u8], source: &[u8], expected: &[u8], name: &str) {
+    row(name, || engine_put(table, sheet, source, expected), || reference(|out| Reference.put(table, sheet, source, out)));
+}
+
+fn create(table: &[u8], sheet: &[u8], name: &str) {
+    row(name, || engine_create(table, sheet), || reference(|out| Reference.create(table, sheet, out)));
 }
 
 /// Entries of capitals, then digits that the sheet hides, then a semicolon.
@@ -230,33 +246,50 @@ fn texts_of_length(bytes: usize) -> (Vec<u8>, Vec<u8>) {
     (source_of(&entries), sheet_of(&entries))
 }
 
-/// Builds and runs `augeas/bench.c`: get, put unedited, put reversed.
-fn augeas(source: &[u8], reversed: &[u8]) -> Result<Vec<Duration>, String> {
-    let folder = Path::new(env!("CARGO_MANIFEST_DIR")).join("examples/augeas");
-    let program = temporary("noontrough-augeas-bench");
-    let options = Command::new("pkg-config").args(["--cflags", "--libs", "augeas"]).output();
-    let options = options.map_err(|error| format!("no pkg-config ({error})"))?;
-    if !options.status.success() {
-        return Err("libaugeas-dev is not installed".to_string());
-    }
-    let options = String::from_utf8_lossy(&options.stdout).into_owned();
-    let mut compiler = Command::new("cc");
-    compiler.arg("-O2").arg("-o").arg(&program).arg(folder.join("bench.c")).args(options.split_whitespace());
-    let built = compiler.output().map_err(|error| format!("no C compiler ({error})"))?;
-    if !built.status.success() {
-        return Err("examples/augeas/bench.c does not build".to_string());
-    }
-    let [source, reversed] = [source, reversed].map(|text| String::from_utf8_lossy(text).into_owned());
-    let ran = Command::new(&program).arg(&folder).args([&source, &reversed]).arg("51").output();
-    let _ = std::fs::remove_file(&program);
-    let ran = ran.map_err(|error| error.to_string())?;
-    if !ran.status.success() {
-        return Err(String::from_utf8_lossy(&ran.stderr).trim().to_string());
-    }
-    let lines = String::from_utf8_lossy(&ran.stdout).into_owned();
-    lines.lines().map(|line| line.parse().map(Duration::from_nanos).map_err(|_| lines.clone())).collect()
+/// `augeas/bench.c`, built and started: it makes a call for each letter that it is sent.
+struct Augeas {
+    process: Child,
+    times: BufReader<ChildStdout>,
+    program: PathBuf,
 }
 
-fn temporary(name: &str) -> PathBuf {
-    std::env::temp_dir().join(format!("{name}-{}", std::process::id()))
+impl Augeas {
+    fn start(source: &[u8], reversed: &[u8]) -> Result<Augeas, String> {
+        let folder = Path::new(env!("CARGO_MANIFEST_DIR")).join("examples/augeas");
+        let program = std::env::temp_dir().join(format!("noontrough-augeas-bench-{}", std::process::id()));
+        let options = Command::new("pkg-config").args(["--cflags", "--libs", "augeas"]).output();
+        let options = options.map_err(|error| format!("no pkg-config ({error})"))?;
+        if !options.status.success() {
+            return Err("libaugeas-dev is not installed".to_string());
+        }
+        let options = String::from_utf8_lossy(&options.stdout).into_owned();
+        let mut compiler = Command::new("cc");
+        compiler.arg("-O2").arg("-o").arg(&program).arg(folder.join("bench.c")).args(options.split_whitespace());
+        let built = compiler.output().map_err(|error| format!("no C compiler ({error})"))?;
+        if !built.status.success() {
+            return Err("examples/augeas/bench.c does not build".to_string());
+        }
+        let [source, reversed] = [source, reversed].map(|text| String::from_utf8_lossy(text).into_owned());
+        let mut started = Command::new(&program);
+        started.arg(&folder).args([&source, &reversed]).stdin(Stdio::piped()).stdout(Stdio::piped());
+        let mut process = started.spawn().map_err(|error| error.to_string())?;
+        let times = BufReader::new(process.stdout.take().expect("its output is a pipe"));
+        Ok(Augeas { process, times, program })
+    }
+
+    fn call(&mut self, letter: u8) -> Duration {
+        let input = self.process.stdin.as_mut().expect("its input is a pipe");
+        input.write_all(&[letter]).and_then(|()| input.flush()).expect("Augeas takes a letter");
+        let mut line = String::new();
+        self.times.read_line(&mut line).expect("Augeas answers");
+        Duration::from_nanos(line.trim().parse().expect("Augeas gives a time"))
+    }
+}
+
+impl Drop for Augeas {
+    fn drop(&mut self) {
+        drop(self.process.stdin.take());
+        let _ = self.process.wait();
+        let _ = std::fs::remove_file(&self.program);
+    }
 }
