@@ -90,14 +90,7 @@ pub fn list(
         Kind::LensRepeat { child } => {
             list_repeat(bytes, prepared, node, child, text, at, flags, book)
         }
-        Kind::Word { .. }
-        | Kind::Range { .. }
-        | Kind::PatternJoin { .. }
-        | Kind::PatternUnion { .. }
-        | Kind::PatternRepeat { .. }
-        | Kind::Copy { .. }
-        | Kind::Const { .. }
-        | Kind::Key { .. } => Listing { over: false, book },
+        _ => Listing { over: false, book },
     }
 }
 
@@ -139,7 +132,7 @@ fn list_repeat(
     text: &[u8],
     at: usize,
     flags: &mut [u8],
-    book: Book,
+    mut book: Book,
 ) -> Listing
     requires { ⌜ ToList (now bytes) (now prepared) (now text) at (now flags) book ⌝ }
     requires { ⌜ (child < node) × (node < nodeCount (now bytes)) ⌝ }
@@ -152,22 +145,18 @@ fn list_repeat(
     let whole = automaton_of(prepared, node, Side::Source);
     language::suffixes(prepared, whole, text, flags);
     let part = automaton_of(prepared, child, Side::Source);
-    let mut so_far = book;
     let mut o = 0;
     while o < text.len() {
         let i = first_part(prepared, part, &text[o..], &flags[o..]);
         let e = o + i;
         let piece = &text[o..e];
         let own = &mut flags[o..e + 1];
-        let listed = list(bytes, prepared, child, piece, at + o, own, so_far);
+        let listed = list(bytes, prepared, child, piece, at + o, own, book);
         if listed.over {
             return listed;
         }
-        so_far = listed.book;
+        book = listed.book;
         o = e;
     }
-    Listing {
-        over: false,
-        book: so_far,
-    }
+    Listing { over: false, book }
 }

@@ -82,9 +82,12 @@ program-gives call a g = rw (a .gives-root) g
 
 -- a test holds,
 pub refused :
-    {test : Bool} (number : ℕ) (rest : Outcome Text) {before : Text} → test ≡ true → GivesText (refuseIf test number rest) before before (Refusal number 0)
+    {test : Bool} (number : ℕ) (rest : Outcome Text) {before : Text} {answer : Answer}
+    → answer ≡ Refusal number 0
+    → test ≡ true
+    → GivesText (refuseIf test number rest) before before answer
 unfolding refuseIf answerFor bufferAfter
-refused number rest e = rw e (record { answer-is = refl; buffer-is = refl })
+refused number rest is e = rw (is, e) (record { answer-is = refl; buffer-is = refl })
 
 -- or does not.
 pub passed :
@@ -133,7 +136,7 @@ finish-full {result} {before} {wrote} e = record { finishes = go }
         let over : length start < length text = full-over text start (sym e ∙ w .answer-is) in
         let same : length result ≡ length start = rw (w .buffer-is) (overlay-length text start) in
         let large : min (length before) maxText < length text = rw (← room) (omega arith) in
-        refused 16 (gives text) (lt-ltb (min (length before) maxText) (length text) large)
+        refused 16 (gives text) refl (lt-ltb (min (length before) maxText) (length text) large)
 
 -- a text that is given
 given :

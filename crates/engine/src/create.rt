@@ -7,6 +7,7 @@ use crate::results::belongs_to_root;
 use crate::results::finish;
 use crate::results::no_pad;
 use crate::results::no_text;
+use crate::results::refuse;
 use crate::results::room_in;
 use crate::results::root_of;
 use crate::some_room;
@@ -53,16 +54,10 @@ fn create_with(bytes: &[u8], prepared: &[u64], sheet: &[u8], out: &mut [u8]) -> 
     ensures { λ r. ⌜ GivesText (createCall (now (bytes .entry)) (now (sheet .entry)) (length (now (out .entry)))) (now (out .entry)) (now (out .exit)) r ⌝ }
 {
     if 4096 < sheet.len() {
-        return Answer::Refusal {
-            number: 12,
-            node: 0,
-        };
+        return refuse(12);
     }
     if !belongs_to_root(bytes, prepared, Side::Sheet, sheet) {
-        return Answer::Refusal {
-            number: 14,
-            node: 0,
-        };
+        return refuse(14);
     }
     let mut result = no_text();
     let room = room_in(out.len());

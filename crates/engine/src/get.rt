@@ -7,6 +7,7 @@ use crate::results::belongs_to_root;
 use crate::results::finish;
 use crate::results::no_flags;
 use crate::results::no_text;
+use crate::results::refuse;
 use crate::results::room_in;
 use crate::results::root_of;
 use crate::some_room;
@@ -53,16 +54,10 @@ fn get_with(bytes: &[u8], prepared: &[u64], source: &[u8], out: &mut [u8]) -> An
     ensures { λ r. ⌜ GivesText (getCall (now (bytes .entry)) (now (source .entry)) (length (now (out .entry)))) (now (out .entry)) (now (out .exit)) r ⌝ }
 {
     if 4096 < source.len() {
-        return Answer::Refusal {
-            number: 12,
-            node: 0,
-        };
+        return refuse(12);
     }
     if !belongs_to_root(bytes, prepared, Side::Source, source) {
-        return Answer::Refusal {
-            number: 13,
-            node: 0,
-        };
+        return refuse(13);
     }
     let mut result = no_text();
     let room = room_in(out.len());

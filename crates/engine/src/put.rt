@@ -8,6 +8,7 @@ use crate::results::finish;
 use crate::results::no_flags;
 use crate::results::no_pad;
 use crate::results::no_text;
+use crate::results::refuse;
 use crate::results::room_in;
 use crate::results::root_of;
 use crate::some_room;
@@ -70,35 +71,20 @@ fn put_with(bytes: &[u8], prepared: &[u64], sheet: &[u8], source: &[u8], out: &m
     ensures { λ r. ⌜ GivesText (putCall (now (bytes .entry)) (now (sheet .entry)) (now (source .entry)) (length (now (out .entry)))) (now (out .entry)) (now (out .exit)) r ⌝ }
 {
     if 4096 < sheet.len() {
-        return Answer::Refusal {
-            number: 12,
-            node: 0,
-        };
+        return refuse(12);
     }
     if 4096 < source.len() {
-        return Answer::Refusal {
-            number: 12,
-            node: 0,
-        };
+        return refuse(12);
     }
     if !belongs_to_root(bytes, prepared, Side::Source, source) {
-        return Answer::Refusal {
-            number: 13,
-            node: 0,
-        };
+        return refuse(13);
     }
     if !belongs_to_root(bytes, prepared, Side::Sheet, sheet) {
-        return Answer::Refusal {
-            number: 14,
-            node: 0,
-        };
+        return refuse(14);
     }
     let listing = entries_of(bytes, prepared, source);
     if listing.over {
-        return Answer::Refusal {
-            number: 15,
-            node: 0,
-        };
+        return refuse(15);
     }
     let book = listing.book;
     let mut result = no_text();

@@ -10,6 +10,7 @@ ghost use mathlib.Core.Path.{_≡_};
 ghost use Prim.Native.Nat.{_-_, min};
 ghost use lib.ListN.{length};
 ghost use Rattle.semantics.specs.Table.{nodeCount};
+ghost use Rattle.engine.specs.declared.Answer.the-variants.{Refusal};
 ghost use Rattle.engine.specs.Answers.{IsAccepted, Ready};
 ghost use Rattle.engine.specs.Results.{Counted, Finishes, Decides};
 
@@ -59,16 +60,20 @@ pub fn no_pad() -> [u8; 786624]
     [0u8; 786624]
 }
 
+// A refusal that concerns no node: that of a text, of its entries or of a result.
+pub fn refuse(number: usize) -> Answer
+    ensures { λ r. ⌜ r ≡ Refusal number 0 ⌝ }
+{
+    Answer::Refusal { number, node: 0 }
+}
+
 // A result that had room is copied to the start of the output buffer; one that had not leaves it as it is.
 pub fn finish(wrote: Wrote, result: &[u8], out: &mut [u8]) -> Answer
     requires { ⌜ Counted wrote (now result) ⌝ }
     ensures { λ r. ⌜ Finishes wrote (now (result .entry)) (now (out .entry)) (now (out .exit)) r ⌝ }
 {
     match wrote {
-        Wrote::Full => Answer::Refusal {
-            number: 16,
-            node: 0,
-        },
+        Wrote::Full => refuse(16),
         Wrote::Count(length) => {
             write_text(&result[0..length], out);
             Answer::Result { length }

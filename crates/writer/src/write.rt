@@ -191,10 +191,8 @@ fn write_parts(
     let free = mid + text.len() + 1;
     flag_ends(prepared, node, Side::Sheet, new, pad);
     flag_ends(prepared, node, Side::Source, text, &mut pad[mid..]);
-    let mut done = Done {
-        wrote: Wrote::Count(0),
-        book,
-    };
+    let none = Wrote::Count(0);
+    let mut done = Done { wrote: none, book };
     let mut o = 0;
     let mut p = 0;
     while o < new.len() {

@@ -221,11 +221,11 @@ list-join-returns-2 t c =
     join-next _ _ (c .before .before .before .before .before .before .before .before .before .before .before .before .before .before .cut-at .ensures) left-described right-described (c .before .before .before .before .before .before .before .before .before .list .ensures) (c .before .before .before .before .before .before .if1 .left) (c .before .before .list2 .ensures)
 
 abbrev list-repeat-Inv-loop : list-repeat-lts.InvT-loop
-list-repeat-Inv-loop bytes prepared node child text at flags₀ part so-far₀ o₀ flags so-far o =
-    Repeated (trees bytes) (treeAt (trees bytes) child) text at flags₀ so-far₀ flags so-far o
+list-repeat-Inv-loop bytes prepared node child text at flags₀ book₀ part o₀ flags book o =
+    Repeated (trees bytes) (treeAt (trees bytes) child) text at flags₀ book₀ flags book o
 
 abbrev list-repeat-μ-loop : list-repeat-lts.MeasureT-loop
-list-repeat-μ-loop bytes prepared node child text at flags₀ part so-far₀ o₀ flags so-far o = length text - o
+list-repeat-μ-loop bytes prepared node child text at flags₀ book₀ part o₀ flags book o = length text - o
 
 list-repeat-automaton-of-requires : (t : ℕ) → list-repeat-lts.Need-automaton-of-requires (list-repeat-calls t) (list-repeat-at t) list-repeat.Post list-repeat-Inv-loop list-repeat-μ-loop
 list-repeat-automaton-of-requires t c κs =

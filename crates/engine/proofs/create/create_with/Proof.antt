@@ -9,23 +9,23 @@ use Rattle.automaton.specs.Rows.{sideOf}
 use Rattle.engine.proofs.Giving.{program-gives, refused, passed, too-long, not-too-long, not-of}
 use Rattle.engine.proofs.create.create_with.Statement.{statement}
 use Rattle.engine.proofs.create.create_with.Tie as tie
-use Rattle.engine.proofs.create.create_with.Reads as reads
-use Rattle.engine.proofs.create.create_with.Lts as lts
-use Rattle.engine.proofs.results.belongs_to_root.Reads as belongs-to-root-reads
-use Rattle.engine.proofs.results.no_text.Reads as no-text-reads
-use Rattle.engine.proofs.results.room_in.Reads as room-in-reads
-use Rattle.engine.proofs.create.create_into.Reads as create-into-reads
+
+refuse-requires : tie.Need-refuse-requires
+refuse-requires c κs = search needs
 
 returns : tie.Need-returns
 unfolding createCall
-returns c = program-gives _ (c .before .before .before .before .before .pre .accepted) (refused 12 _ (too-long (now (c .before .before .before .before .before .args .sheet)) (c .if1 .taken)))
+returns c = program-gives _ (c .before .before .before .before .before .before .pre .accepted) (refused 12 _ (c .refuse .ensures) (too-long (now (c .before .before .before .before .before .before .args .sheet)) (c .before .if1 .taken)))
 
 belongs-to-root-requires : tie.Need-belongs-to-root-requires
 belongs-to-root-requires c κs = search needs
 
+refuse-requires-2 : tie.Need-refuse-requires-2
+refuse-requires-2 c κs = search needs
+
 returns-2 : tie.Need-returns-2
 unfolding createCall sideOf
-returns-2 c = program-gives _ (c .before .before .before .before .before .before .before .pre .accepted) (passed 12 (not-too-long (now (c .before .before .before .before .before .before .before .args .sheet)) (c .before .before .if1 .left)) (refused 14 _ (not-of (c .before .before .before .before .before .before .before .pre .accepted) (c .before .belongs-to-root .ensures) ∙ c .if2 .taken)))
+returns-2 c = program-gives _ (c .before .before .before .before .before .before .before .before .pre .accepted) (passed 12 (not-too-long (now (c .before .before .before .before .before .before .before .before .args .sheet)) (c .before .before .before .if1 .left)) (refused 14 _ (c .refuse2 .ensures) (not-of (c .before .before .before .before .before .before .before .before .pre .accepted) (c .before .before .belongs-to-root .ensures) ∙ c .before .if2 .taken)))
 
 no-text-requires : tie.Need-no-text-requires
 no-text-requires c κs = search needs
@@ -56,8 +56,10 @@ pub create-with-spec : {M : Type 1} → statement M
 create-with-spec =
     tie.close
     (tie.spec
+    refuse-requires
     returns
     belongs-to-root-requires
+    refuse-requires-2
     returns-2
     no-text-requires
     room-in-requires

@@ -10,42 +10,50 @@ use Rattle.engine.proofs.Giving.{program-gives, refused, passed, not-of
 use Rattle.engine.proofs.Sourcing.{first-long, second-long, neither-long}
 use Rattle.engine.proofs.put.put_with.Statement.{statement}
 use Rattle.engine.proofs.put.put_with.Tie as tie
-use Rattle.engine.proofs.put.put_with.Reads as reads
-use Rattle.engine.proofs.put.put_with.Lts as lts
-use Rattle.engine.proofs.put.entries_of.Reads as entries-of-reads
-use Rattle.engine.proofs.results.belongs_to_root.Reads as belongs-to-root-reads
-use Rattle.engine.proofs.results.no_text.Reads as no-text-reads
-use Rattle.engine.proofs.results.room_in.Reads as room-in-reads
-use Rattle.engine.proofs.put.put_into.Reads as put-into-reads
+
+refuse-requires : tie.Need-refuse-requires
+refuse-requires c κs = search needs
 
 returns : tie.Need-returns
 unfolding putCall
-returns c = program-gives _ (c .before .before .before .before .before .before .pre .accepted) (refused 12 _ (first-long (now (c .before .before .before .before .before .before .args .sheet)) (now (c .before .before .before .before .before .before .args .source)) (c .if1 .taken)))
+returns c = program-gives _ (c .before .before .before .before .before .before .before .pre .accepted) (refused 12 _ (c .refuse .ensures) (first-long (now (c .before .before .before .before .before .before .before .args .sheet)) (now (c .before .before .before .before .before .before .before .args .source)) (c .before .if1 .taken)))
+
+refuse-requires-2 : tie.Need-refuse-requires-2
+refuse-requires-2 c κs = search needs
 
 returns-2 : tie.Need-returns-2
 unfolding putCall
-returns-2 c = program-gives _ (c .before .before .before .before .before .before .before .pre .accepted) (refused 12 _ (second-long (now (c .before .before .before .before .before .before .before .args .sheet)) (now (c .before .before .before .before .before .before .before .args .source)) (c .before .if1 .left) (c .if2 .taken)))
+returns-2 c = program-gives _ (c .before .before .before .before .before .before .before .before .pre .accepted) (refused 12 _ (c .refuse2 .ensures) (second-long (now (c .before .before .before .before .before .before .before .before .args .sheet)) (now (c .before .before .before .before .before .before .before .before .args .source)) (c .before .before .if1 .left) (c .before .if2 .taken)))
 
 belongs-to-root-requires : tie.Need-belongs-to-root-requires
 belongs-to-root-requires c κs = search needs
 
+refuse-requires-3 : tie.Need-refuse-requires-3
+refuse-requires-3 c κs = search needs
+
 returns-3 : tie.Need-returns-3
 unfolding putCall sideOf
-returns-3 c = program-gives _ (c .before .before .before .before .before .before .before .before .before .pre .accepted) (passed 12 (neither-long (now (c .before .before .before .before .before .before .before .before .before .args .sheet)) (now (c .before .before .before .before .before .before .before .before .before .args .source)) (c .before .before .before .if1 .left) (c .before .before .if2 .left)) (refused 13 _ (not-of (c .before .before .before .before .before .before .before .before .before .pre .accepted) (c .before .belongs-to-root .ensures) ∙ c .if3 .taken)))
+returns-3 c = program-gives _ (c .before .before .before .before .before .before .before .before .before .before .pre .accepted) (passed 12 (neither-long (now (c .before .before .before .before .before .before .before .before .before .before .args .sheet)) (now (c .before .before .before .before .before .before .before .before .before .before .args .source)) (c .before .before .before .before .if1 .left) (c .before .before .before .if2 .left)) (refused 13 _ (c .refuse3 .ensures) (not-of (c .before .before .before .before .before .before .before .before .before .before .pre .accepted) (c .before .before .belongs-to-root .ensures) ∙ c .before .if3 .taken)))
 
 belongs-to-root-requires-2 : tie.Need-belongs-to-root-requires-2
 belongs-to-root-requires-2 c κs = search needs
 
+refuse-requires-4 : tie.Need-refuse-requires-4
+refuse-requires-4 c κs = search needs
+
 returns-4 : tie.Need-returns-4
 unfolding putCall sideOf
-returns-4 c = program-gives _ (c .before .before .before .before .before .before .before .before .before .before .before .pre .accepted) (passed 12 (neither-long (now (c .before .before .before .before .before .before .before .before .before .before .before .args .sheet)) (now (c .before .before .before .before .before .before .before .before .before .before .before .args .source)) (c .before .before .before .before .before .if1 .left) (c .before .before .before .before .if2 .left)) (passed 13 (not-of (c .before .before .before .before .before .before .before .before .before .before .before .pre .accepted) (c .before .before .before .belongs-to-root .ensures) ∙ c .before .before .if3 .left) (refused 14 _ (not-of (c .before .before .before .before .before .before .before .before .before .before .before .pre .accepted) (c .before .belongs-to-root2 .ensures) ∙ c .if4 .taken))))
+returns-4 c = program-gives _ (c .before .before .before .before .before .before .before .before .before .before .before .before .pre .accepted) (passed 12 (neither-long (now (c .before .before .before .before .before .before .before .before .before .before .before .before .args .sheet)) (now (c .before .before .before .before .before .before .before .before .before .before .before .before .args .source)) (c .before .before .before .before .before .before .if1 .left) (c .before .before .before .before .before .if2 .left)) (passed 13 (not-of (c .before .before .before .before .before .before .before .before .before .before .before .before .pre .accepted) (c .before .before .before .before .belongs-to-root .ensures) ∙ c .before .before .before .if3 .left) (refused 14 _ (c .refuse4 .ensures) (not-of (c .before .before .before .before .before .before .before .before .before .before .before .before .pre .accepted) (c .before .before .belongs-to-root2 .ensures) ∙ c .before .if4 .taken))))
 
 entries-of-requires : tie.Need-entries-of-requires
 entries-of-requires c κs = search needs
 
+refuse-requires-5 : tie.Need-refuse-requires-5
+refuse-requires-5 c κs = search needs
+
 returns-5 : tie.Need-returns-5
 unfolding putCall sideOf
-returns-5 c = program-gives _ (c .before .before .before .before .before .before .before .before .before .before .before .before .before .pre .accepted) (passed 12 (neither-long (now (c .before .before .before .before .before .before .before .before .before .before .before .before .before .args .sheet)) (now (c .before .before .before .before .before .before .before .before .before .before .before .before .before .args .source)) (c .before .before .before .before .before .before .before .if1 .left) (c .before .before .before .before .before .before .if2 .left)) (passed 13 (not-of (c .before .before .before .before .before .before .before .before .before .before .before .before .before .pre .accepted) (c .before .before .before .before .before .belongs-to-root .ensures) ∙ c .before .before .before .before .if3 .left) (passed 14 (not-of (c .before .before .before .before .before .before .before .before .before .before .before .before .before .pre .accepted) (c .before .before .before .belongs-to-root2 .ensures) ∙ c .before .before .if4 .left) (refused 15 _ (sym (c .before .entries-of .ensures .over-is (c .before .before .before .before .before .before .before .before .before .before .before .before .before .pre .accepted .root) (c .before .before .before .before .before .before .before .before .before .before .before .before .before .pre .accepted .gives-root)) ∙ c .if5 .taken)))))
+returns-5 c = program-gives _ (c .before .before .before .before .before .before .before .before .before .before .before .before .before .before .pre .accepted) (passed 12 (neither-long (now (c .before .before .before .before .before .before .before .before .before .before .before .before .before .before .args .sheet)) (now (c .before .before .before .before .before .before .before .before .before .before .before .before .before .before .args .source)) (c .before .before .before .before .before .before .before .before .if1 .left) (c .before .before .before .before .before .before .before .if2 .left)) (passed 13 (not-of (c .before .before .before .before .before .before .before .before .before .before .before .before .before .before .pre .accepted) (c .before .before .before .before .before .before .belongs-to-root .ensures) ∙ c .before .before .before .before .before .if3 .left) (passed 14 (not-of (c .before .before .before .before .before .before .before .before .before .before .before .before .before .before .pre .accepted) (c .before .before .before .before .belongs-to-root2 .ensures) ∙ c .before .before .before .if4 .left) (refused 15 _ (c .refuse5 .ensures) (sym (c .before .before .entries-of .ensures .over-is (c .before .before .before .before .before .before .before .before .before .before .before .before .before .before .pre .accepted .root) (c .before .before .before .before .before .before .before .before .before .before .before .before .before .before .pre .accepted .gives-root)) ∙ c .before .if5 .taken)))))
 
 no-text-requires : tie.Need-no-text-requires
 no-text-requires c κs = search needs
@@ -77,13 +85,18 @@ pub put-with-spec : {M : Type 1} → statement M
 put-with-spec =
     tie.close
     (tie.spec
+    refuse-requires
     returns
+    refuse-requires-2
     returns-2
     belongs-to-root-requires
+    refuse-requires-3
     returns-3
     belongs-to-root-requires-2
+    refuse-requires-4
     returns-4
     entries-of-requires
+    refuse-requires-5
     returns-5
     no-text-requires
     room-in-requires

@@ -8,6 +8,9 @@ use Rattle.engine.proofs.results.finish.Tie as tie
 enum-told : tie.Need-enum-told
 enum-told c = search needs
 
+refuse-requires : tie.Need-refuse-requires
+refuse-requires c κs = search needs
+
 enum-known-wrote : tie.Need-enum-known-wrote
 enum-known-wrote c = search needs
 
@@ -24,7 +27,7 @@ write-text-requires : tie.Need-write-text-requires
 write-text-requires c κs = search needs
 
 returns : tie.Need-returns
-returns c = finish-full (c .enum-told .given .1)
+returns c = rw (c .refuse .ensures) (finish-full (c .before .enum-told .given .1))
 
 same-length : tie.Need-same-length
 same-length c = search needs
@@ -37,6 +40,7 @@ finish-spec =
     tie.close
     (tie.spec
     enum-told
+    refuse-requires
     enum-known-wrote
     sub-write-text
     part-write-text-start
