@@ -340,6 +340,14 @@ module _ {prepared : List ℕ} {a b : Automaton} where
       complete (begins m) = led .keeps _ _ (poured .all _ _ (omega arith) (m .left) (meets-joins a s m))
       complete (goes r o) = settled .onward _ _ _ _ (nothing _) (reached-within r .1) (complete r) o
 
+  -- where no text begins, none is reached
+  pub filled-none : {A : List ℕ} {begun : Set} → Blank A → Empty begun → Filled prepared a b begun A
+  filled-none {A} {begun} blank none = record { sound = λ x y h. absurd (not-both h (blank .none-held x y)); complete = λ x y r. absurd (never r) }
+    where
+      never : {x y : ℕ} → Reached prepared a b begun x y → ⊥
+      never (begins m) = not-both (m .in-left) (none _)
+      never (goes r o) = never r
+
 -- ---- The end of the sweeps
 
 -- All due rows are below n.

@@ -116,7 +116,7 @@ fn gain(cells: &mut [u64], x: usize, set: Set) -> bool
 }
 
 // All pairs of positions that share a byte. No other function compares bytes, so that a pair is compared once a stage.
-pub fn share_rows(prepared: &[u64], a: Automaton, b: Automaton, shares: &mut [u64])
+fn share_rows(prepared: &[u64], a: Automaton, b: Automaton, shares: &mut [u64])
     requires { ⌜ (Room a (now prepared)) × (Room b (now prepared)) ⌝ }
     requires { ⌜ Blank (now shares) ⌝ }
     ensures { λ _. ⌜ Shares (now (prepared .entry)) (a .start) b (a .count) (now (shares .exit)) ⌝ }
@@ -200,26 +200,23 @@ fn sweep(
     now_due
 }
 
-// All pairs that are reached from positions of the first and the start of the second. The work grows as the cube of the positions: a row is led on
-// only after it gained a pair, so at most as often as there are pairs, each time with some set operations for each position of the two automata;
-// and every sweep but the last adds a pair, and asks each row once whether it is due.
-pub fn fill(
-    prepared: &[u64],
-    a: Automaton,
-    b: Automaton,
-    shares: &[u64],
-    begun: Set,
-    cells: &mut [u64],
-)
+// All pairs that are reached from positions of the first and the start of the second; where none has begun there are none, and no bytes are compared.
+// The work grows as the cube of the positions: a row is led on only after it gained a pair, so at most as often as there are pairs, each time with
+// some set operations for each position of the two automata; and every sweep but the last adds a pair, and asks each row once whether it is due.
+pub fn fill(prepared: &[u64], a: Automaton, b: Automaton, begun: Set, cells: &mut [u64])
     requires { ⌜ (Room a (now prepared)) × (Room b (now prepared)) ⌝ }
-    requires { ⌜ Shares (now prepared) (a .start) b (a .count) (now shares) ⌝ }
     requires { ⌜ Blank (now cells) ⌝ }
     ensures { λ _. ⌜ Filled (now (prepared .entry)) a b begun (now (cells .exit)) ⌝ }
 {
+    if begun.is_empty() {
+        return;
+    }
+    let mut shares = blank();
+    share_rows(prepared, a, b, &mut shares);
     let count = a.count;
     let first = b.first;
-    let mut due = pour(count, shares, begun, first, Set::empty(), cells);
+    let mut due = pour(count, &shares, begun, first, Set::empty(), cells);
     while !due.is_empty() {
-        due = sweep(prepared, a, b, shares, due, cells);
+        due = sweep(prepared, a, b, &shares, due, cells);
     }
 }

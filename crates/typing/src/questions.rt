@@ -46,10 +46,8 @@ fn stage(prepared: &[u64], a: Automaton, b: Automaton, marked: Marked) -> Marked
     let count = a.count;
     let last = a.last;
     let begun = next(prepared, a, marked);
-    let mut shares = pairs::blank();
-    pairs::share_rows(prepared, a, b, &mut shares);
     let mut cells = pairs::blank();
-    pairs::fill(prepared, a, b, &shares, begun, &mut cells);
+    pairs::fill(prepared, a, b, begun, &mut cells);
     let at = pairs::rows(&cells, count, last);
     let start = some_final(a, marked);
     Marked {

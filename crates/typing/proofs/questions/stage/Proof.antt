@@ -10,20 +10,8 @@ next-requires c κs = search needs
 blank-requires : tie.Need-blank-requires
 blank-requires c κs = search needs
 
-slice-aggregate-share-rows : tie.Need-slice-aggregate-share-rows
-slice-aggregate-share-rows c = search needs
-
-share-rows-requires : tie.Need-share-rows-requires
-share-rows-requires c κs = search needs
-
-blank-requires-2 : tie.Need-blank-requires-2
-blank-requires-2 c κs = search needs
-
 slice-aggregate-fill : tie.Need-slice-aggregate-fill
 slice-aggregate-fill c = search needs
-
-slice-aggregate-fill-2 : tie.Need-slice-aggregate-fill-2
-slice-aggregate-fill-2 c = search needs
 
 fill-requires : tie.Need-fill-requires
 fill-requires c κs = search needs
@@ -38,7 +26,17 @@ some-final-requires : tie.Need-some-final-requires
 some-final-requires c κs = search needs
 
 returns : tie.Need-returns
-returns c = stage-law (c .before .before .before .before .before .before .before .before .before .before .before .before .before .before .before .pre .1) (c .before .before .before .before .before .before .before .before .before .before .before .before .next .ensures) (c .before .before .before .before .fill .ensures) (c .before .rows .ensures) (c .some-final .ensures)
+returns c = stage-law (c .before .before .before .before .before .before .before .before .before .before .pre .1) (c .before .before .before .before .before .before .before .next .ensures) (c .before .before .before .before .fill .ensures) (c .before .rows .ensures) (c .some-final .ensures)
 
 pub stage-spec : {M : Type 1} → statement M
-stage-spec = tie.close (tie.spec next-requires blank-requires slice-aggregate-share-rows share-rows-requires blank-requires-2 slice-aggregate-fill slice-aggregate-fill-2 fill-requires slice-aggregate-rows rows-requires some-final-requires returns)
+stage-spec =
+    tie.close
+    (tie.spec
+    next-requires
+    blank-requires
+    slice-aggregate-fill
+    fill-requires
+    slice-aggregate-rows
+    rows-requires
+    some-final-requires
+    returns)
