@@ -1,14 +1,14 @@
 -- Sets that are gathered position by position: what the loops over the positions cite. Assumes nothing.
 use mathlib.Core.Path.{_≡_, sym, _∙_}
-use mathlib.Core.Bool.{Bool, true, _||_}
+use mathlib.Core.Bool.{Bool, true, false, _||_}
 use mathlib.Core.Logic.{_↔_, inl, inr, ⊎-elim}
-use Prim.Native.Nat.{ℕ, _+_, _<_}
+use Prim.Native.Nat.{ℕ, _+_, _≤_, _<_}
 use native.Mathlib.Omega.{arith}
-use borrow.Author.Tests.{eqb-true, eqb-false, eq-eqb}
-use lib.Dec.{eqb}
+use borrow.Author.Tests.{eqb-true, eqb-false, eq-eqb, ltb-true, ltb-false}
+use lib.Dec.{eqb, ltb}
 use Rattle.laws.specs.Basics.{bool-cases, not-both, or-either, or-left, or-right}
 use Rattle.positions.specs.declared.Set.{Set}
-use Rattle.positions.specs.Positions.{holds, Empty, Added}
+use Rattle.positions.specs.Positions.{holds, Empty, Added, FirstFrom}
 use Rattle.language.specs.Sets.{Gathered, Grown}
 
 -- A set grew by a test's positions where the test is true exactly of what was given.
@@ -45,6 +45,20 @@ module _ (gives : ℕ → ℕ → Type 0) where
   gathered-not n s none not =
       record { held-iff = λ q. (λ e. absurd (not-both e (none q)), λ g. let (p, l, x) = g in absurd (not p q x)) }
 
+  -- Positions from n to before m that give nothing make no difference.
+  pub gathered-skip : (n m : ℕ) (s : Set) → n ≤ m → ((p q : ℕ) → n ≤ p → p < m → gives p q → ⊥) → Gathered gives n s ↔ Gathered gives m s
+  gathered-skip n m s h none = (
+    λ known. record { held-iff = λ q. (λ e. let (p, l, g) = known .held-iff q .0 e in (p, (omega arith), g), λ (p, l, g). known .held-iff q .1 (below p q l g)) },
+    λ known. record { held-iff = λ q. (λ e. let (p, l, g) = known .held-iff q .0 e in below p q l g, λ (p, l, g). known .held-iff q .1 (p, (omega arith), g)) },
+  )
+    where
+      below : (p q : ℕ) → p < m → gives p q → (p′ : ℕ) × (p′ < n) × gives p′ q
+      below p q l g =
+          ⊎-elim
+          (λ e. (p, ltb-true p n e, g))
+          (λ e. absurd (none p q (ltb-false p n e) l g))
+          (bool-cases (ltb p n))
+
   -- With what position n gives, the set has what the positions below n + 1 give.
   pub gathered-more : (n : ℕ) (s t : Set) → Gathered gives n s → Grown (gives n) s t → Gathered gives (n + 1) t
   gathered-more n s t before grown = record { held-iff = λ q. (there q, back q) }
@@ -63,3 +77,30 @@ module _ (gives : ℕ → ℕ → Type 0) where
           (λ e. inr (rw (eqb-true p n e) at g))
           (λ e. let ne = eqb-false p n e in inl (before .held-iff q .1 (p, (omega arith), g)))
           (bool-cases (eqb p n)))
+
+-- ---- From one position of a set to the next
+
+-- The place is a position of the set or past all, and none from count on to before it is one.
+pub record Going (due : Set) (count p : ℕ) : Type 0 where
+  pub at-one : p < 128 → holds due p ≡ true
+  pub none-past : (q : ℕ) → count ≤ q → q < p → holds due q ≡ false
+
+pub going-begins : {due : Set} {count p : ℕ} → FirstFrom due 0 p → Going due count p
+going-begins first = record { at-one = first .held; none-past = λ q h l. first .skipped q (omega arith) l }
+
+pub going-on : {due : Set} {count n p : ℕ} → n < count → FirstFrom due (n + 1) p → Going due count p
+going-on below first = record { at-one = first .held; none-past = λ q h l. first .skipped q (omega arith) l }
+
+-- What only positions of the set give is gathered from these alone.
+module _ {gives : ℕ → ℕ → Type 0} {due : Set} (only : (p q : ℕ) → gives p q → holds due p ≡ true) where
+  from-first : {n p : ℕ} {s : Set} → FirstFrom due n p → Gathered gives n s → Gathered gives p s
+  from-first {n} {p} {s} first = gathered-skip gives n p s (first .from) (λ k q l m g. not-both (only k q g) (first .skipped k l m)) .0
+
+  pub gathered-first : {p : ℕ} {s : Set} → Empty s → FirstFrom due 0 p → Gathered gives p s
+  gathered-first {s} none first = from-first first (gathered-none gives s none)
+
+  pub gathered-next : {n p : ℕ} {s t : Set} → Gathered gives n s → Grown (gives n) s t → FirstFrom due (n + 1) p → Gathered gives p t
+  gathered-next {n} {s} {t} before grown first = from-first first (gathered-more gives n s t before grown)
+
+  pub gathered-all : {count p : ℕ} {s : Set} → Going due count p → count ≤ p → Gathered gives p s → Gathered gives count s
+  gathered-all {count} {p} {s} going h = gathered-skip gives count p s h (λ k q l m g. not-both (only k q g) (going .none-past k l m)) .1

@@ -2,10 +2,11 @@
 use automaton::Automaton;
 use positions::Set;
 ghost use mathlib.Core.Path.{_≡_};
-ghost use mathlib.Core.Bool.{_&&_};
+ghost use mathlib.Core.Bool.{true, _&&_};
 ghost use Prim.Native.Nat.{_≤_, _<_};
 ghost use lib.ListN.{length, take, drop};
 ghost use Rattle.semantics.specs.Pattern.{Pattern, matches};
+ghost use Rattle.positions.specs.Positions.{holds};
 ghost use Rattle.automaton.specs.Rows.{Room, Describes};
 ghost use Rattle.language.specs.Flags.{Flags, flagOf, flagged};
 ghost use Rattle.language.specs.Sets.{Gathered, Grown, Standing, Onward, Leading};
@@ -25,15 +26,12 @@ struct Step {
     onward: Set,
 }
 
-// The set, with p where it is in `from` and the byte may stand at it.
+// The set, with p, one of `from`, where the byte may stand at it.
 fn stand(prepared: &[u64], a: Automaton, from: Set, byte: u8, p: usize, set: Set) -> Set
     requires { ⌜ Room a (now prepared) ⌝ }
-    requires { ⌜ p < a .count ⌝ }
+    requires { ⌜ (p < a .count) × (holds from p ≡ true) ⌝ }
     ensures { λ res. ⌜ Grown (Standing (now (prepared .entry)) a from byte p) set res ⌝ }
 {
-    if !from.has(p) {
-        return set;
-    }
     let row = a.start + p;
     if !automaton::stands(prepared, row, byte) {
         return set;
@@ -48,10 +46,10 @@ fn standing(prepared: &[u64], a: Automaton, from: Set, byte: u8) -> Set
 {
     let count = a.count;
     let mut set = Set::empty();
-    let mut p = 0;
+    let mut p = from.first_from(0);
     while p < count {
         set = stand(prepared, a, from, byte, p, set);
-        p += 1;
+        p = from.first_from(p + 1);
     }
     set
 }
@@ -84,15 +82,12 @@ fn leading(prepared: &[u64], a: Automaton, to: Set) -> Set
     set
 }
 
-// The step, with p where the byte is read at it, and those that may follow it.
+// The step, with p, one of `due`, where the byte may stand at it, and those that may follow it.
 fn read_at(prepared: &[u64], a: Automaton, due: Set, byte: u8, p: usize, step: Step) -> Step
     requires { ⌜ Room a (now prepared) ⌝ }
-    requires { ⌜ p < a .count ⌝ }
+    requires { ⌜ (p < a .count) × (holds due p ≡ true) ⌝ }
     ensures { λ res. ⌜ Grown (Standing (now (prepared .entry)) a due byte p) (step .reached) (res .reached) × Grown (Onward (now (prepared .entry)) a due byte p) (step .onward) (res .onward) ⌝ }
 {
-    if !due.has(p) {
-        return step;
-    }
     let row = a.start + p;
     if !automaton::stands(prepared, row, byte) {
         return step;
@@ -115,10 +110,10 @@ fn read(prepared: &[u64], a: Automaton, due: Set, byte: u8) -> Step
         reached: Set::empty(),
         onward: Set::empty(),
     };
-    let mut p = 0;
+    let mut p = due.first_from(0);
     while p < count {
         step = read_at(prepared, a, due, byte, p, step);
-        p += 1;
+        p = due.first_from(p + 1);
     }
     step
 }

@@ -3,16 +3,17 @@ use mathlib.Core.Path.{_≡_, refl, sym, ap, ap₂, _∙_}
 use mathlib.Core.Bool.{Bool, true, false, not, _&&_, _||_, cond, true≢false, false≢true}
 use mathlib.Core.Logic.{_≢_, _↔_}
 use Prim.Native.Nat.{ℕ, zero, suc, _+_, _-_, _*_, _/_, _%_, _^_, _≤_, _<_, suc-le-suc}
-use native.Mathlib.Nat.{zero-div, div-one, one-mul, pow-suc, mul-mod-left, mul-div-cancel, zero-lt-suc, lt-of-le-of-lt, lt-of-lt-of-le, mul-assoc, div-eq-of-lt}
+use native.Mathlib.Nat.{zero-div, div-one, one-mul, pow-suc, mul-mod-left, mul-div-cancel, zero-lt-suc, lt-of-le-of-lt, lt-of-lt-of-le, mul-assoc, div-eq-of-lt, div-le-self, mod-lt}
 use native.Mathlib.Numerals.{one-add, add-one}
 use native.Mathlib.Omega.{arith}
 use borrow.Author.Tests.{ltb-true, ltb-false, lt-ltb, le-ltb, leb-true, leb-false, le-leb, lt-leb, eqb-true, eqb-false, eq-eqb, ne-eqb, not-true}
 use lib.Arith.{lt-one}
+use lib.Count.{under, trailingZeros}
 use lib.Bits.{bitAnd, bitOr, bitXor, and-shr, and-mod, or-shr, or-mod, xor-shr, xor-mod, or-lt, and-le-l, shifted-even}
 use lib.Dec.{ltb, leb, eqb, eqb·zero-suc, eqb·suc-zero, eqb·suc-suc}
 use lib.Pow.{shl-exact, shl-shr, shr-lt, shr-shr, field, mod-mod-pow, pow-add, pow-mono}
 use Rattle.positions.specs.declared.Set.{Set}
-use Rattle.positions.specs.Positions.{bit, holds, Empty, Shared, holdsMoved, Moved}
+use Rattle.positions.specs.Positions.{bit, holds, Empty, Shared, holdsMoved, Moved, FirstFrom}
 
 -- ---- Truth values
 
@@ -366,3 +367,94 @@ shared-test s t l h = (found, λ w. go w (blank both) refl)
     go : Shared s t → (x : Bool) → blank both ≡ x → not x ≡ true
     go (p, k, in-s, in-t) true e = sym (none-held both e p) ∙ holds-and s t p ∙ ap₂ _&&_ in-s in-t
     go w false e = refl
+
+-- ---- The first position from a place on
+
+-- Of the first k bits of n, bit t is the lowest that is 1; t is k if none is.
+abbrev Lowest : ℕ → ℕ → ℕ → Type 0
+Lowest t k n = ((j : ℕ) → j < t → bit j n ≡ false) × (t < k → bit t n ≡ true)
+
+-- With one digit more below the k of half a number.
+lowest-digit : (k n d t : ℕ) → n % 2 ≡ d → Lowest t k (n / 2) → Lowest (under d t) (suc k) n
+lowest-digit k n zero t e rest = (even, λ h. bit-suc t n ∙ rest .1 (omega arith))
+  where
+    even : (j : ℕ) → j < suc t → bit j n ≡ false
+    even zero h = bit-first n ∙ ne-eqb (n % 2) 1 (λ o. omega arith)
+    even (suc j) h = bit-suc j n ∙ rest .0 j (omega arith)
+lowest-digit k n (suc d) t e rest = (λ j h. absurd (omega arith), λ h. bit-first n ∙ eq-eqb (n % 2) 1 (omega (arith, mod-lt n (zero-lt-suc 1))))
+
+-- The zeros in which a number ends stand below that bit.
+zeros-below : (k n : ℕ) → Lowest (trailingZeros k n) k n
+unfolding trailingZeros
+zeros-below zero n = (λ j h. absurd (omega arith), λ h. absurd (omega arith))
+zeros-below (suc k) n = lowest-digit k n (n % 2) (trailingZeros k (n / 2)) refl (zeros-below k (n / 2))
+
+-- A number that is not zero has it.
+zeros-few : (n : ℕ) → n < 2 ^ 64 → n ≢ 0 → trailingZeros 64 n < 64
+zeros-few n fits some = let (j, k, b) = some-bit 64 n fits some in go j k b (ltb j (trailingZeros 64 n)) refl
+  where
+    go : (j : ℕ) → j < 64 → bit j n ≡ true → (x : Bool) → ltb j (trailingZeros 64 n) ≡ x → trailingZeros 64 n < 64
+    go j k b true e = absurd (true≢false (sym b ∙ zeros-below 64 n .0 j (ltb-true j (trailingZeros 64 n) e)))
+    go j k b false e = let u = ltb-false j (trailingZeros 64 n) e in omega arith
+
+-- A bit that is 1 is one of the number's own.
+bit-within : (w n j : ℕ) → n < 2 ^ w → bit j n ≡ true → j < w
+bit-within w n j fits b = go (ltb j w) refl
+  where
+    go : (x : Bool) → ltb j w ≡ x → j < w
+    go true e = ltb-true j w e
+    go false e = absurd (true≢false (sym b ∙ bit-beyond w n j fits (ltb-false j w e)))
+
+-- The bits of a number from i on, once it is shifted down.
+shifted-down : (m i q : ℕ) → i ≤ q → bit (q - i) (m / 2 ^ i) ≡ bit q m
+shifted-down m i q h = let same : i + (q - i) ≡ q = omega arith in bit-down m i (q - i) ∙ ap (λ (j : ℕ). bit j m) same
+
+module _ (s : Set) (p : ℕ) where
+  -- in `low`, if a bit is left there
+  pub first-low : p < 64 → s .low < 2 ^ 64 → s .low / 2 ^ p ≢ 0 → FirstFrom s p (p + trailingZeros 64 (s .low / 2 ^ p))
+  first-low h fits some =
+      let rest = s .low / 2 ^ p in
+      let t = trailingZeros 64 rest in
+      let lowest = zeros-below 64 rest in
+      let there : bit (p + t) (s .low) ≡ true =
+      sym (bit-down (s .low) p t) ∙ lowest .1 (zeros-few rest (lt-of-le-of-lt (div-le-self (s .low) (2 ^ p)) fits) some) in
+      let within = bit-within 64 (s .low) (p + t) fits there in
+      record {
+        from = omega arith;
+        skipped = λ q k l. holds-low s q (omega arith) ∙ sym (shifted-down (s .low) p q k) ∙ lowest .0 (q - p) (omega arith);
+        held = λ l. holds-low s (p + t) within ∙ there;
+      }
+
+  -- otherwise in `high`
+  pub first-after : p < 64 → s .low / 2 ^ p ≡ 0 → FirstFrom s p (64 + trailingZeros 64 (s .high))
+  first-after h none =
+      let t = trailingZeros 64 (s .high) in
+      let lowest = zeros-below 64 (s .high) in
+      let same : 64 + t - 64 ≡ t = omega arith in
+      record {
+        from = omega arith;
+        skipped = λ q k l. holds-by s q (λ u. sym (shifted-down (s .low) p q k) ∙ ap (bit (q - p)) none ∙ bit-zero (q - p)) (λ u v. lowest .0 (q - 64) (omega arith)) (λ u. refl);
+        held = λ l. holds-high s (64 + t) (omega arith) (omega arith) ∙ ap (λ (j : ℕ). bit j (s .high)) same ∙ lowest .1 (omega arith);
+      }
+
+  -- or, from 64 on, there only
+  pub first-high : 64 ≤ p → p < 128 → FirstFrom s p (p + trailingZeros 64 (s .high / 2 ^ (p - 64)))
+  first-high h l =
+      let rest = s .high / 2 ^ (p - 64) in
+      let t = trailingZeros 64 rest in
+      let lowest = zeros-below 64 rest in
+      let same : p + t - p ≡ t = omega arith in
+      record {
+        from = omega arith;
+        skipped = λ q k m. holds-by s q (λ u. absurd (omega arith)) (λ u v. there q k ∙ lowest .0 (q - p) (omega arith)) (λ u. refl);
+        held = λ m. holds-high s (p + t) (omega arith) m ∙ there (p + t) (omega arith) ∙ ap (λ (j : ℕ). bit j rest) same ∙ lowest .1 (omega arith);
+      }
+    where
+      there : (q : ℕ) → p ≤ q → bit (q - 64) (s .high) ≡ bit (q - p) (s .high / 2 ^ (p - 64))
+      there q k =
+          let same : q - 64 - (p - 64) ≡ q - p = omega arith in
+          sym (shifted-down (s .high) (p - 64) (q - 64) (omega arith)) ∙ ap (λ (j : ℕ). bit j (s .high / 2 ^ (p - 64))) same
+
+  -- From 128 on none is held.
+  pub first-past : 128 ≤ p → FirstFrom s p p
+  first-past h = record { from = omega arith; skipped = λ q k l. absurd (omega arith); held = λ l. absurd (omega arith) }

@@ -1,7 +1,7 @@
 -- Which positions a set holds: those below 64 are the bits of `low`, those from 64 to 127 the bits of `high`.
 use mathlib.Core.Path.{_≡_}
 use mathlib.Core.Bool.{Bool, true, false, not, _&&_, _||_, cond}
-use Prim.Native.Nat.{ℕ, _-_, _/_, _%_, _^_, _<_}
+use Prim.Native.Nat.{ℕ, _-_, _/_, _%_, _^_, _≤_, _<_}
 use lib.Dec.{ltb, leb, eqb}
 use Rattle.positions.specs.declared.Set.{Set}
 
@@ -48,3 +48,9 @@ holdsMoved s n q = ltb q 128 && (leb n q && holds s (q - n))
 -- r holds what s holds, moved up by n.
 abbrev pub Moved : Set → ℕ → Set → Type 0
 Moved s n r = (q : ℕ) → holds r q ≡ holdsMoved s n q
+
+-- r is the first position from p on that s holds; where s holds none, r is 128 or more.
+pub record FirstFrom (s : Set) (p r : ℕ) : Type 0 where
+  pub from : p ≤ r
+  pub skipped : (q : ℕ) → p ≤ q → q < r → holds s q ≡ false
+  pub held : r < 128 → holds s r ≡ true

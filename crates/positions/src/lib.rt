@@ -2,13 +2,21 @@
 ghost use mathlib.Core.Path.{_≡_};
 ghost use mathlib.Core.Bool.{true};
 ghost use mathlib.Core.Logic.{_↔_};
-ghost use Prim.Native.Nat.{_<_};
-ghost use Rattle.positions.specs.Positions.{holds, Empty, Only, Added, Removed, Joined, Met, Shared, Moved};
+ghost use Prim.Native.Nat.{_≤_, _<_};
+ghost use lib.Count.{trailingZeros};
+ghost use Rattle.positions.specs.Positions.{holds, Empty, Only, Added, Removed, Joined, Met, Shared, Moved, FirstFrom};
 
 // Positions 0 to 63 are the bits of low, 64 to 127 those of high.
 pub struct Set {
     pub low: u64,
     pub high: u64,
+}
+
+// How many zeros a number ends in, of its 64 bits.
+fn zeros(number: u64) -> usize
+    ensures { λ r. ⌜ (r ≡ trailingZeros 64 number) × (r ≤ 64) ⌝ }
+{
+    u64::trailing_zeros(number) as usize
 }
 
 impl Set {
@@ -30,6 +38,23 @@ impl Set {
             return (self.high >> (p - 64)) % 2 == 1;
         }
         false
+    }
+
+    // The first position from p on that the set holds; 128 or more if there is none.
+    pub fn first_from(self, p: usize) -> usize
+        ensures { λ r. ⌜ FirstFrom self p r ⌝ }
+    {
+        if p < 64 {
+            let rest = self.low >> p;
+            if rest != 0 {
+                return p + zeros(rest);
+            }
+            return 64 + zeros(self.high);
+        }
+        if p < 128 {
+            return p + zeros(self.high >> (p - 64));
+        }
+        p
     }
 
     // The set of p alone.

@@ -1,4 +1,4 @@
--- `language::read_at` meets its contract: both sets grow exactly if both tests hold. Assumes nothing.
+-- `language::read_at` meets its contract: both sets grow exactly if the byte may stand at p. Assumes nothing.
 use mathlib.Core.Path.{refl, sym, _∙_}
 use borrow.Author.Tests.{not-true, not-false}
 use Rattle.laws.specs.Basics.{not-both}
@@ -9,24 +9,16 @@ use borrow.Author.Needs.{needs}
 use Rattle.language.proofs.read_at.Statement.{statement}
 use Rattle.language.proofs.read_at.Tie as tie
 
-has-requires : tie.Need-has-requires
-has-requires c κs = search needs
-
-returns : tie.Need-returns
-returns c =
-    let not-held = sym (c .before .has .ensures) ∙ not-true _ (c .if1 .taken) in
-    (grown-not _ (c .before .before .before .args .step .reached) (λ q g. not-both (g .held) not-held), grown-not _ (c .before .before .before .args .step .onward) (λ q g. not-both (g .stood .held) not-held))
-
 add-row : tie.Need-add-row
 add-row c = search needs
 
 stands-requires : tie.Need-stands-requires
 stands-requires c κs = search needs
 
-returns-2 : tie.Need-returns-2
-returns-2 c =
-    let not-standing = sym (c .before .stands .ensures) ∙ not-true _ (c .if2 .taken) in
-    (grown-not _ (c .before .before .before .before .before .before .args .step .reached) (λ q g. not-both (g .stands) not-standing), grown-not _ (c .before .before .before .before .before .before .args .step .onward) (λ q g. not-both (g .stood .stands) not-standing))
+returns : tie.Need-returns
+returns c =
+    let not-standing = sym (c .before .stands .ensures) ∙ not-true _ (c .if1 .taken) in
+    (grown-not _ (c .before .before .before .before .args .step .reached) (λ q g. not-both (g .stands) not-standing), grown-not _ (c .before .before .before .before .args .step .onward) (λ q g. not-both (g .stood .stands) not-standing))
 
 with-requires : tie.Need-with-requires
 with-requires c κs = search needs
@@ -37,12 +29,12 @@ follow-requires c κs = search needs
 union-requires : tie.Need-union-requires
 union-requires c κs = search needs
 
-returns-3 : tie.Need-returns-3
-returns-3 c =
-    let p = c .before .before .before .before .before .before .before .before .before .before .before .args .p in
-    let there : Standing (c .before .before .before .before .before .before .before .before .before .before .before .args .prepared .now) (c .before .before .before .before .before .before .before .before .before .before .before .args .a) (c .before .before .before .before .before .before .before .before .before .before .before .args .due) (c .before .before .before .before .before .before .before .before .before .before .before .args .byte) p p = record { itself = refl; held = sym (c .before .before .before .before .before .before .before .before .before .has .ensures) ∙ not-false _ (c .before .before .before .before .before .before .before .before .if1 .left); stands = sym (c .before .before .before .before .before .before .stands .ensures) ∙ not-false _ (c .before .before .before .before .before .if2 .left) } in (
-      grown-with _ p (c .before .before .before .before .before .before .before .before .before .before .before .args .step .reached) (c .before .before .with .result) (c .before .before .with .ensures) (λ q g. g .itself) there,
-      grown-by _ (holds (c .before .follow .result)) (c .before .before .before .before .before .before .before .before .before .before .before .args .step .onward) (c .union .result) (c .union .ensures)
+returns-2 : tie.Need-returns-2
+returns-2 c =
+    let p = c .before .before .before .before .before .before .before .before .before .args .p in
+    let there : Standing (c .before .before .before .before .before .before .before .before .before .args .prepared .now) (c .before .before .before .before .before .before .before .before .before .args .a) (c .before .before .before .before .before .before .before .before .before .args .due) (c .before .before .before .before .before .before .before .before .before .args .byte) p p = record { itself = refl; held = c .before .before .before .before .before .before .before .before .before .pre .1 .1; stands = sym (c .before .before .before .before .before .before .stands .ensures) ∙ not-false _ (c .before .before .before .before .before .if1 .left) } in (
+      grown-with _ p (c .before .before .before .before .before .before .before .before .before .args .step .reached) (c .before .before .with .result) (c .before .before .with .ensures) (λ q g. g .itself) there,
+      grown-by _ (holds (c .before .follow .result)) (c .before .before .before .before .before .before .before .before .before .args .step .onward) (c .union .result) (c .union .ensures)
           (λ q. (λ e. record { stood = there; follows = rw (c .before .follow .ensures) at e }, λ g. rw (c .before .follow .ensures) (g .follows))),
     )
 
@@ -50,12 +42,10 @@ pub read-at-spec : {M : Type 1} → statement M
 read-at-spec =
     tie.close
     (tie.spec
-    has-requires
-    returns
     add-row
     stands-requires
-    returns-2
+    returns
     with-requires
     follow-requires
     union-requires
-    returns-3)
+    returns-2)

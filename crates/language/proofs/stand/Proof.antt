@@ -1,4 +1,4 @@
--- `language::stand` meets its contract: the set grows by p exactly if both tests hold. Assumes nothing.
+-- `language::stand` meets its contract: the set grows by p exactly if the byte may stand at it. Assumes nothing.
 use mathlib.Core.Path.{refl, sym, _∙_}
 use borrow.Author.Tests.{not-true, not-false}
 use Rattle.laws.specs.Basics.{not-both}
@@ -7,31 +7,23 @@ use borrow.Author.Needs.{needs}
 use Rattle.language.proofs.stand.Statement.{statement}
 use Rattle.language.proofs.stand.Tie as tie
 
-has-requires : tie.Need-has-requires
-has-requires c κs = search needs
-
-returns : tie.Need-returns
-returns c = grown-not _ (c .before .before .before .args .set) (λ q g. not-both (g .held) (sym (c .before .has .ensures) ∙ not-true _ (c .if1 .taken)))
-
 add-row : tie.Need-add-row
 add-row c = search needs
 
 stands-requires : tie.Need-stands-requires
 stands-requires c κs = search needs
 
-returns-2 : tie.Need-returns-2
-returns-2 c = grown-not _ (c .before .before .before .before .before .before .args .set) (λ q g. not-both (g .stands) (sym (c .before .stands .ensures) ∙ not-true _ (c .if2 .taken)))
+returns : tie.Need-returns
+returns c = grown-not _ (c .before .before .before .before .args .set) (λ q g. not-both (g .stands) (sym (c .before .stands .ensures) ∙ not-true _ (c .if1 .taken)))
 
 with-requires : tie.Need-with-requires
 with-requires c κs = search needs
 
-returns-3 : tie.Need-returns-3
-returns-3 c =
-    grown-with _ (c .before .before .before .before .before .before .before .args .p) (c .before .before .before .before .before .before .before .args .set) (c .with .result) (c .with .ensures)
+returns-2 : tie.Need-returns-2
+returns-2 c =
+    grown-with _ (c .before .before .before .before .before .args .p) (c .before .before .before .before .before .args .set) (c .with .result) (c .with .ensures)
     (λ q g. g .itself)
-    (record { itself = refl; held = sym (c .before .before .before .before .before .has .ensures) ∙ not-false _ (c .before .before .before .before .if1 .left); stands = sym (c .before .before .stands .ensures) ∙ not-false _ (c .before .if2 .left) })
+    (record { itself = refl; held = c .before .before .before .before .before .pre .1 .1; stands = sym (c .before .before .stands .ensures) ∙ not-false _ (c .before .if1 .left) })
 
 pub stand-spec : {M : Type 1} → statement M
-stand-spec =
-    tie.close
-    (tie.spec has-requires returns add-row stands-requires returns-2 with-requires returns-3)
+stand-spec = tie.close (tie.spec add-row stands-requires returns with-requires returns-2)
