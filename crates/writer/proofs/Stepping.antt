@@ -13,13 +13,11 @@ use Rattle.automaton.specs.declared.Automaton.{Automaton}
 use Rattle.automaton.specs.declared.Side.{Side}
 use Rattle.automaton.specs.declared.Side.the-variants.{Source}
 use Rattle.automaton.specs.Rows.{automatonAt}
-use Rattle.lens.specs.declared.Wrote.{Wrote}
 use Rattle.lens.specs.Cutting.{CutAt, FirstPart, rest-lent, suffix-flags-lent}
 use Rattle.lens.specs.Reading.{firstPart}
 use Rattle.books.specs.declared.Old.{Old}
 use Rattle.books.specs.declared.Old.the-variants.{At, Nothing}
 use Rattle.books.specs.Looking.{oldText}
-use Rattle.writer.specs.declared.Done.{Done}
 use Rattle.writer.specs.declared.Choice.{Choice}
 use Rattle.writer.specs.Writing.{OldInside, PartEnd, HalvesAre, choiceOf}
 use Rattle.writer.proofs.Below.{rest-size}

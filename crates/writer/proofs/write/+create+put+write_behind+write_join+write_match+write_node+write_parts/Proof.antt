@@ -7,7 +7,7 @@ use mathlib.Core.Path.{_≡_, refl, _∙_}
 use borrow.Author.Needs.{needs}
 use lib.ListN.{length, take, drop}
 use Rattle.automaton.specs.declared.Side.the-variants.{Source, Sheet}
-use Rattle.lens.specs.Nodes.{shown-const, shown-join, shown-union, shown-repeat, shown-match, node-prepared, word-below, child-below, left-below, right-below}
+use Rattle.lens.specs.Nodes.{shown-join, shown-union, shown-repeat, shown-match, node-prepared, child-below, left-below, right-below}
 use Rattle.books.specs.Looking.{oldText}
 use Rattle.writer.specs.Writing.{Lent}
 use Rattle.writer.proofs.Stepping.{inside-at, inside-none}
