@@ -1,6 +1,6 @@
 -- How a position automaton stands in the prepared program, a slice of 64-bit numbers. A node has 16 of them: its four sizes, then for each
--- side its first row, whether the empty text belongs, and the sets of first and last positions. Behind the nodes stand the rows, four numbers
--- a position: the first and the last byte of its range, and the set of positions that may follow.
+-- side its first row, whether the empty text belongs, and the sets of first and last positions. Behind the nodes stand the rows, six numbers
+-- a position: the first and the last byte of its range, the set of positions that may follow it, and that of those that it may follow.
 use mathlib.Core.Path.{_≡_}
 use mathlib.Core.Bool.{Bool}
 use mathlib.Core.List.{List}
@@ -28,13 +28,16 @@ sideIndex Sheet = 1
 
 -- the first number of a row
 abbrev pub rowAt : ℕ → ℕ
-rowAt row = 1536 + 4 * row
+rowAt row = 1536 + 6 * row
 
 abbrev pub setAt : List ℕ → ℕ → Set
 setAt prepared i = record { low = getD prepared i 0; high = getD prepared (i + 1) 0 }
 
 abbrev pub followOf : List ℕ → ℕ → Set
 followOf prepared row = setAt prepared (rowAt row + 2)
+
+abbrev pub precedingOf : List ℕ → ℕ → Set
+precedingOf prepared row = setAt prepared (rowAt row + 4)
 
 -- 'byte c may stand at position p'
 unfoldable pub standsIn : List ℕ → ℕ → ℕ → Bool
@@ -67,6 +70,7 @@ pub record RowIs (r : Pattern) (start p : ℕ) (prepared : List ℕ) : Type 0 wh
   pub low-is : getD prepared (rowAt (start + p)) 0 ≡ lowAt r p
   pub high-is : getD prepared (rowAt (start + p) + 1) 0 ≡ highAt r p
   pub follow-is : (q : ℕ) → holds (followOf prepared (start + p)) q ≡ followAt r p q
+  pub preceding-is : (q : ℕ) → holds (precedingOf prepared (start + p)) q ≡ followAt r q p
 
 -- It is the position automaton of the pattern r.
 pub record Describes (r : Pattern) (a : Automaton) (prepared : List ℕ) : Type 0 where

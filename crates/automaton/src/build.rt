@@ -28,7 +28,7 @@ fn last_of(count: usize) -> Set
     Set::empty().with(count - 1)
 }
 
-// A row for each letter, followed by the next one.
+// A row for each letter, followed by the next one and behind the one before.
 fn put_letters(prepared: &mut [u64], row: usize, letters: &[u8])
     requires { ⌜ (length (now letters) ≤ 128) × (rowAt (row + length (now letters)) ≤ length (now prepared)) ⌝ }
     ensures { λ r. ⌜ Lettered row (length (now (letters .entry))) (now (letters .entry)) (now (prepared .entry)) (now (prepared .exit)) ⌝ }
@@ -37,7 +37,14 @@ fn put_letters(prepared: &mut [u64], row: usize, letters: &[u8])
     let mut p = 0;
     while p < count {
         let letter = letters[p] as u64;
-        put_row(prepared, row + p, letter, letter, single(p + 1, count));
+        put_row(
+            prepared,
+            row + p,
+            letter,
+            letter,
+            single(p + 1, count),
+            last_of(p),
+        );
         p += 1;
     }
 }
@@ -63,7 +70,8 @@ pub fn build_range(prepared: &mut [u64], node: usize, side: Side, row: usize, fi
     requires { ⌜ Space node row 1 (now prepared) ⌝ }
     ensures { λ r. ⌜ BuiltAlone (range first last) node side row 1 (now (prepared .entry)) (now (prepared .exit)) ⌝ }
 {
-    put_row(prepared, row, first as u64, last as u64, Set::empty());
+    let none = Set::empty();
+    put_row(prepared, row, first as u64, last as u64, none, none);
     let zero = single(0, 1);
     put_header(prepared, node, side, row, false, zero, zero);
 }
@@ -76,10 +84,13 @@ fn join_rows(prepared: &mut [u64], row: usize, left: Automaton, right: Automaton
     ensures { λ r. ⌜ RowsJoined row left right last (now (prepared .entry)) (now (prepared .exit)) ⌝ }
 {
     let n = left.count;
+    let m = right.count;
     let first = right.first;
+    let next = first.moved(n);
     let none = Set::empty();
-    copy_rows(prepared, left.start, row, n, 0, last, first.moved(n));
-    copy_rows(prepared, right.start, row + n, right.count, n, none, none);
+    copy_rows(prepared, left.start, row, n, 0, last, next, none, none);
+    let to = row + n;
+    copy_rows(prepared, right.start, to, m, n, none, none, first, last);
 }
 
 fn both(a: bool, b: bool) -> bool
@@ -166,7 +177,8 @@ pub fn build_star(prepared: &mut [u64], node: usize, side: Side, row: usize, par
 {
     let first = part.first;
     let last = part.last;
-    copy_rows(prepared, part.start, row, part.count, 0, last, first);
+    let n = part.count;
+    copy_rows(prepared, part.start, row, n, 0, last, first, first, last);
     put_header(prepared, node, side, row, true, first, last);
 }
 

@@ -7,7 +7,7 @@ use positions::Set;
 ghost use mathlib.Core.Path.{_≡_};
 ghost use Prim.Native.Nat.{_+_, _*_, _≤_, _<_};
 ghost use lib.ListN.{length};
-ghost use Rattle.automaton.specs.Rows.{rowAt, followOf, standsIn, shareIn, automatonAt};
+ghost use Rattle.automaton.specs.Rows.{rowAt, followOf, precedingOf, standsIn, shareIn, automatonAt};
 
 pub enum Side {
     Source,
@@ -64,7 +64,15 @@ pub fn follow(prepared: &[u64], row: usize) -> Set
     requires { ⌜ rowAt row + 4 ≤ length (now prepared) ⌝ }
     ensures { λ r. ⌜ r ≡ followOf (now (prepared .entry)) row ⌝ }
 {
-    set_at(prepared, 1536 + 4 * row + 2)
+    set_at(prepared, 1536 + 6 * row + 2)
+}
+
+// The positions that the position of a row may follow.
+pub fn preceding(prepared: &[u64], row: usize) -> Set
+    requires { ⌜ rowAt row + 6 ≤ length (now prepared) ⌝ }
+    ensures { λ r. ⌜ r ≡ precedingOf (now (prepared .entry)) row ⌝ }
+{
+    set_at(prepared, 1536 + 6 * row + 4)
 }
 
 // Whether a byte may stand at the position of a row.
@@ -72,7 +80,7 @@ pub fn stands(prepared: &[u64], row: usize, byte: u8) -> bool
     requires { ⌜ rowAt row + 4 ≤ length (now prepared) ⌝ }
     ensures { λ r. ⌜ r ≡ standsIn (now (prepared .entry)) row byte ⌝ }
 {
-    let i = 1536 + 4 * row;
+    let i = 1536 + 6 * row;
     let c = byte as u64;
     prepared[i] <= c && c <= prepared[i + 1]
 }
@@ -83,8 +91,8 @@ pub fn share(prepared: &[u64], row: usize, other: usize) -> bool
     requires { ⌜ rowAt other + 4 ≤ length (now prepared) ⌝ }
     ensures { λ r. ⌜ r ≡ shareIn (now (prepared .entry)) row other ⌝ }
 {
-    let i = 1536 + 4 * row;
-    let j = 1536 + 4 * other;
+    let i = 1536 + 6 * row;
+    let j = 1536 + 6 * other;
     larger(prepared[i], prepared[j]) <= smaller(prepared[i + 1], prepared[j + 1])
 }
 

@@ -135,7 +135,7 @@ pub told : (bytes : Text) {checked which : Checked} (prepared : List ℕ) → Ch
 told bytes prepared h e = subst (λ (x : Checked). CheckedIs bytes x prepared) e h
 
 -- no program needs more room than 24,576 rows take
-pub never-small : {bytes : Text} {prepared : List ℕ} → TooSmall bytes prepared → length prepared ≡ 99840 → ⊥
+pub never-small : {bytes : Text} {prepared : List ℕ} → TooSmall bytes prepared → length prepared ≡ 148992 → ⊥
 never-small h e = omega (arith, h .no-room, h .most)
 
 -- ---- The call Check

@@ -42,17 +42,17 @@ pub enum Checked {
 }
 
 // Room for a program whose automata take at most 256 rows.
-fn some_room() -> [u64; 2560]
-    ensures { λ r. ⌜ 2560 ≡ length r ⌝ }
+fn some_room() -> [u64; 3072]
+    ensures { λ r. ⌜ 3072 ≡ length r ⌝ }
 {
-    [0u64; 2560]
+    [0u64; 3072]
 }
 
 // Room for every program: 96 nodes with 128 positions on each side.
-fn full_room() -> [u64; 99840]
-    ensures { λ r. ⌜ 99840 ≡ length r ⌝ }
+fn full_room() -> [u64; 148992]
+    ensures { λ r. ⌜ 148992 ≡ length r ⌝ }
 {
-    [0u64; 99840]
+    [0u64; 148992]
 }
 
 // Checks a program, and prepares it in the slice that is lent.
@@ -74,7 +74,7 @@ fn build_in(bytes: &[u8], prepared: &mut [u64]) -> Checked
     ensures { λ r. ⌜ CheckedIs (now (bytes .entry)) r (now (prepared .exit)) ⌝ }
 {
     let rows = rows_needed(bytes, prepared);
-    if prepared.len() < 1536 + 4 * rows {
+    if prepared.len() < 1536 + 6 * rows {
         return Checked::Small;
     }
     build_all(bytes, prepared);

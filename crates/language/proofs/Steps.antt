@@ -14,7 +14,7 @@ use Rattle.laws.specs.PositionAutomaton.{standsAt, firstAt, followAt, restAt, R
 use Rattle.positions.specs.declared.Set.{Set}
 use Rattle.positions.specs.Positions.{holds, Empty, Shared}
 use Rattle.automaton.specs.declared.Automaton.{Automaton}
-use Rattle.automaton.specs.Rows.{Room, Describes, standsIn, followOf}
+use Rattle.automaton.specs.Rows.{Room, Describes, standsIn, followOf, precedingOf}
 use Rattle.language.specs.declared.Run.{Run}
 use Rattle.language.specs.Sets.{Gathered, Standing, Onward, Leading}
 use Rattle.language.specs.Runs.{Forward, Backward}
@@ -183,10 +183,20 @@ module _ {r : Pattern} {a : Automaton} {prepared : List ℕ} (room : Room a prep
       reads : (may : Set) (allowed : ℕ → Bool) → ((p : ℕ) → holds may p ≡ allowed p) → ReadsAt r allowed c t ↔ Shared may here
       reads = read-iff stood t (known .behind-iff)
 
+      -- q is among those that p may follow exactly if p is among those that may follow q
+      turned : (p q : ℕ) → p < positions r → q < positions r → holds (precedingOf prepared (a .start + p)) q ≡ holds (followOf prepared (a .start + q)) p
+      turned p q l k = d .row-is p l .preceding-is q ∙ sym (d .row-is q k .follow-is p)
+
       led-iff : (p : ℕ) → p < positions r → (holds next p ≡ true) ↔ Shared (followOf prepared (a .start + p)) here
       led-iff p l = (
-        λ e. let (q, k, g) = led .held-iff p .0 e in rw (g .itself) (g .leads),
-        λ s. led .held-iff p .1 (p, omega (arith, d .count-is), record { itself = refl; leads = s }),
+        λ e.
+            let (q, k, g) = led .held-iff p .0 e in
+            let m = counted q k in
+            (q, few q m, sym (turned q p m l) ∙ g .leads, g .held),
+        λ s.
+            let (q, k, e, f) = s in
+            let m = stood-iff stood q .0 f .0 in
+            led .held-iff p .1 (q, omega (arith, d .count-is), record { held = f; leads = turned q p m l ∙ e }),
       )
 
   -- Where the set is empty, no text that ends in what was read belongs.
@@ -194,11 +204,8 @@ module _ {r : Pattern} {a : Automaton} {prepared : List ℕ} (room : Room a prep
   stuck-back {t} {run} known none c =
       backward-steps known {c = c} {here = s}
       (gathered-not _ (a .count) s none (λ p q g. not-both (g .held) (none p)))
-      (λ e. absurd (not-both e refl), λ h. absurd (shares-none (a .first) h))
-      (gathered-not _ (a .count) s none (λ p q g. shares-none (followOf prepared (a .start + p)) (g .leads)))
+      (λ e. absurd (not-both e refl), λ h. let (p, l, e, f) = h in absurd (not-both f (none p)))
+      (gathered-not _ (a .count) s none (λ p q g. not-both (g .held) (none p)))
     where
       s : Set
       s = run .set
-
-      shares-none : (other : Set) → Shared other s → ⊥
-      shares-none other h = let (p, l, e, f) = h in not-both f (none p)

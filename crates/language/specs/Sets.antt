@@ -5,9 +5,9 @@ use mathlib.Core.List.{List}
 use mathlib.Core.Logic.{_↔_, _⊎_}
 use Prim.Native.Nat.{ℕ, _+_, _<_}
 use Rattle.positions.specs.declared.Set.{Set}
-use Rattle.positions.specs.Positions.{holds, Shared}
+use Rattle.positions.specs.Positions.{holds}
 use Rattle.automaton.specs.declared.Automaton.{Automaton}
-use Rattle.automaton.specs.Rows.{followOf, standsIn}
+use Rattle.automaton.specs.Rows.{followOf, precedingOf, standsIn}
 
 -- The set holds what some position below n gives.
 pub record Gathered (gives : ℕ → ℕ → Type 0) (n : ℕ) (s : Set) : Type 0 where
@@ -28,7 +28,7 @@ pub record Onward (prepared : List ℕ) (a : Automaton) (s : Set) (byte p q : �
   pub stood : Standing prepared a s byte p p
   pub follows : holds (followOf prepared (a .start + p)) q ≡ true
 
--- A position gives itself where one of the set may follow it.
+-- A position of the set gives those that it may follow.
 pub record Leading (prepared : List ℕ) (a : Automaton) (s : Set) (p q : ℕ) : Type 0 where
-  pub itself : q ≡ p
-  pub leads : Shared (followOf prepared (a .start + p)) s
+  pub held : holds s p ≡ true
+  pub leads : holds (precedingOf prepared (a .start + p)) q ≡ true

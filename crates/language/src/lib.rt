@@ -54,17 +54,14 @@ fn standing(prepared: &[u64], a: Automaton, from: Set, byte: u8) -> Set
     set
 }
 
-// The set, with p where one of `to` may follow it.
+// The set, with those that p, one of `to`, may follow.
 fn lead(prepared: &[u64], a: Automaton, to: Set, p: usize, set: Set) -> Set
     requires { ⌜ Room a (now prepared) ⌝ }
-    requires { ⌜ p < a .count ⌝ }
+    requires { ⌜ (p < a .count) × (holds to p ≡ true) ⌝ }
     ensures { λ res. ⌜ Grown (Leading (now (prepared .entry)) a to p) set res ⌝ }
 {
     let row = a.start + p;
-    if automaton::follow(prepared, row).meets(to) {
-        return set.with(p);
-    }
-    set
+    automaton::preceding(prepared, row).union(set)
 }
 
 // Those that one of the positions may follow.
@@ -74,10 +71,10 @@ fn leading(prepared: &[u64], a: Automaton, to: Set) -> Set
 {
     let count = a.count;
     let mut set = Set::empty();
-    let mut p = 0;
+    let mut p = to.first_from(0);
     while p < count {
         set = lead(prepared, a, to, p, set);
-        p += 1;
+        p = to.first_from(p + 1);
     }
     set
 }

@@ -20,7 +20,7 @@ same-length : tie.Need-same-length
 same-length c = search needs
 
 returns : tie.Need-returns
-returns c = range-built (c .before .before .before .before .before .before .before .before .before .before .before .args .node) (c .before .before .before .before .before .before .before .before .before .before .before .args .side) (c .before .before .before .before .before .before .before .before .before .before .before .args .row) (c .before .before .before .before .before .before .before .before .before .before .before .args .first) (c .before .before .before .before .before .before .before .before .before .before .before .args .last) _ _ _ (c .before .before .before .before .before .before .before .before .empty .result) (c .before .before .before .before .single .result) (c .before .before .before .before .before .before .before .before .before .before .before .pre .a-node) (c .before .before .before .before .before .before .before .before .empty .ensures) (c .before .before .before .before .single .ensures) (c .before .before .before .before .before .before .before .put-row .ensures) (c .before .before .put-header .ensures)
+returns c = range-built (c .before .before .before .before .before .before .before .before .before .before .before .args .node) (c .before .before .before .before .before .before .before .before .before .before .before .args .side) (c .before .before .before .before .before .before .before .before .before .before .before .args .row) (c .before .before .before .before .before .before .before .before .before .before .before .args .first) (c .before .before .before .before .before .before .before .before .before .before .before .args .last) _ _ _ (c .before .before .before .before .before .before .before .before .before .empty .result) (c .before .before .before .before .single .result) (c .before .before .before .before .before .before .before .before .before .before .before .pre .a-node) (c .before .before .before .before .before .before .before .before .before .empty .ensures) (c .before .before .before .before .single .ensures) (c .before .before .before .before .before .before .before .put-row .ensures) (c .before .before .put-header .ensures)
 
 pub build-range-spec : {M : Type 1} → statement M
 build-range-spec =

@@ -33,8 +33,11 @@ add-single c = search needs
 single-requires : tie.Need-single-requires Inv-loop μ-loop
 single-requires c κs = search needs
 
+last-of-requires : tie.Need-last-of-requires Inv-loop μ-loop
+last-of-requires c κs = search needs
+
 put-row-requires : tie.Need-put-row-requires Inv-loop μ-loop
-put-row-requires c κs = omega (arith, c .before .before .before .before .loop .inv .1 .rest .same-length)
+put-row-requires c κs = omega (arith, c .before .before .before .before .before .loop .inv .1 .rest .same-length)
 
 add-p : tie.Need-add-p Inv-loop μ-loop
 add-p c = search needs
@@ -45,7 +48,7 @@ loop-less c = search needs
 loop-again : tie.Need-loop-again Inv-loop μ-loop
 loop-again c = (
   omega arith,
-  lettered-more (c .before .before .before .before .before .before .before .before .before .before .args .row) (c .before .before .before .before .before .before .before .loop .p) (c .before .before .before .before .before .before .before .before .before .before .args .letters .now) _ _ _ (c .before .before .before .single .result) (c .before .before .before .single .ensures) (c .before .before .before .before .before .before .before .loop .inv .1) (c .before .before .put-row .ensures),
+  lettered-more (c .before .before .before .before .before .before .before .before .before .before .before .args .row) (c .before .before .before .before .before .before .before .before .loop .p) (c .before .before .before .before .before .before .before .before .before .before .before .args .letters .now) _ _ _ (c .before .before .before .before .single .result) (c .before .before .before .last-of .result) (omega arith) (c .before .before .before .before .single .ensures) (c .before .before .before .last-of .ensures) (c .before .before .before .before .before .before .before .before .loop .inv .1) (c .before .before .put-row .ensures),
 )
 
 same-length : tie.Need-same-length Inv-loop μ-loop
@@ -68,6 +71,7 @@ put-letters-spec =
     add-put-row
     add-single
     single-requires
+    last-of-requires
     put-row-requires
     add-p
     loop-less

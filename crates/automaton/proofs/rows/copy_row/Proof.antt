@@ -34,6 +34,15 @@ moved-requires c κs = search needs
 union-requires : tie.Need-union-requires
 union-requires c κs = search needs
 
+preceding-requires : tie.Need-preceding-requires
+preceding-requires c κs = search needs
+
+moved-requires-2 : tie.Need-moved-requires-2
+moved-requires-2 c κs = search needs
+
+union-requires-2 : tie.Need-union-requires-2
+union-requires-2 c κs = search needs
+
 put-row-requires : tie.Need-put-row-requires
 put-row-requires c κs = search needs
 
@@ -41,7 +50,7 @@ same-length : tie.Need-same-length
 same-length c = search needs
 
 returns : tie.Need-returns
-returns c = (row-copied (c .before .before .before .before .before .before .before .before .before .before .before .args .from) (c .before .before .before .before .before .before .before .before .before .before .before .args .to) (c .before .before .before .before .before .before .before .before .before .before .before .args .up) _ _ (c .before .before .before .before .before .before .before .before .before .before .before .args .more) (c .before .before .before .before .before .before .follow .result) (c .before .before .before .before .before .moved .result) (c .before .before .before .before .union .result) (c .before .before .before .before .before .before .follow .ensures) (c .before .before .before .before .before .moved .ensures) (c .before .before .before .before .union .ensures) (c .before .before .put-row .ensures), c .before .before .put-row .ensures .rest)
+returns c = (row-copied (c .before .before .before .before .before .before .before .before .before .before .before .before .before .before .before .args .from) (c .before .before .before .before .before .before .before .before .before .before .before .before .before .before .before .args .to) (c .before .before .before .before .before .before .before .before .before .before .before .before .before .before .before .args .up) _ _ (c .before .before .before .before .before .before .before .before .before .before .before .before .before .before .before .args .more) (c .before .before .before .before .before .before .before .before .before .before .before .before .before .before .before .args .earlier) (c .before .before .before .before .before .before .before .before .before .before .follow .result) (c .before .before .before .before .before .before .before .before .before .moved .result) (c .before .before .before .before .before .before .before .before .union .result) (c .before .before .before .before .before .before .preceding .result) (c .before .before .before .before .before .moved2 .result) (c .before .before .before .before .union2 .result) (c .before .before .before .before .before .before .before .before .before .before .follow .ensures) (c .before .before .before .before .before .before .before .before .before .moved .ensures) (c .before .before .before .before .before .before .before .before .union .ensures) (c .before .before .before .before .before .before .preceding .ensures) (c .before .before .before .before .before .moved2 .ensures) (c .before .before .before .before .union2 .ensures) (c .before .before .put-row .ensures), c .before .before .put-row .ensures .rest)
 
 pub copy-row-spec : {M : Type 1} → statement M
 copy-row-spec =
@@ -57,6 +66,9 @@ copy-row-spec =
     follow-requires
     moved-requires
     union-requires
+    preceding-requires
+    moved-requires-2
+    union-requires-2
     put-row-requires
     same-length
     returns)
