@@ -45,10 +45,10 @@ extern "C" {
 /* The most entries that the old source of a put may have. */
 #define NOONTROUGH_MAX_ENTRIES 256
 
-/* The stack that a call needs: at most 6 MiB. On x86-64, 3.3 MB were measured
- * for a put of 256 entries with a flat program, and 4.4 MB with joins nested as
+/* The stack that a call needs: at most 6 MiB. On x86-64, 3.7 MB were measured
+ * for a put of 256 entries with a flat program, and 4.6 MB with joins nested as
  * deep as 96 nodes allow, the most of all programs tried; get and check took at
- * most 0.9 MB. The bound is measured, not proved (docs/PERFORMANCE.md). */
+ * most 1.3 MB. The bound is measured, not proved (docs/PERFORMANCE.md). */
 #define NOONTROUGH_STACK_BYTES (6 * 1024 * 1024)
 
 /*

@@ -58,10 +58,10 @@ fn bench() {
         get(&table, &source, &sheet, &format!("get, {bytes} bytes"));
     }
 
-    heading("By positions, a source of 2,048 bytes", "Reference");
+    heading("By positions, 2,048 bytes of source", "Reference");
     for positions in [32, 64, 128] {
         let table = program_with_positions(positions);
-        let source = rows_of_fields(positions / 4);
+        let source = source_with_fields(positions / 4);
         let sheet: Vec<u8> = source.iter().copied().filter(|byte| !byte.is_ascii_digit()).collect();
         get(&table, &source, &sheet, &format!("get, {positions} positions"));
         put(&table, &sheet, &source, &source, &format!("put, {positions} positions"));
@@ -221,7 +221,7 @@ fn program_with_positions(positions: usize) -> Vec<u8> {
 }
 
 /// Entries of so many fields, 2,048 bytes or a little less, each field with a name of its own.
-fn rows_of_fields(fields: usize) -> Vec<u8> {
+fn source_with_fields(fields: usize) -> Vec<u8> {
     let names = entries(&mut Random::new(SEED), MAX_TEXT);
     let rows: Vec<_> = names.chunks(fields).map(source_of).collect();
     let mut source = Vec::new();
