@@ -72,7 +72,11 @@ fn bench() {
             heading("Augeas, program K, the same source", "Augeas");
             row("get", || engine_get(&table, &source, &sheet), || augeas.call(b'g'));
             row("put, unedited", || engine_put(&table, &sheet, &source, &source), || augeas.call(b'p'));
-            row("put, reversed", || engine_put(&table, &reversed_sheet, &source, &reversed_source), || augeas.call(b'r'));
+            row(
+                "put, reversed",
+                || engine_put(&table, &reversed_sheet, &source, &reversed_source),
+                || augeas.call(b'r'),
+            );
         }
         Err(reason) => println!("\nAugeas is skipped: {reason}"),
     }
@@ -165,7 +169,11 @@ fn get(table: &[u8], source: &[u8], sheet: &[u8], name: &str) {
 }
 
 fn put(table: &[u8], sheet: &[u8], source: &[u8], expected: &[u8], name: &str) {
-    row(name, || engine_put(table, sheet, source, expected), || reference(|out| Reference.put(table, sheet, source, out)));
+    row(
+        name,
+        || engine_put(table, sheet, source, expected),
+        || reference(|out| Reference.put(table, sheet, source, out)),
+    );
 }
 
 fn create(table: &[u8], sheet: &[u8], name: &str) {
