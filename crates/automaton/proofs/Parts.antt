@@ -11,8 +11,8 @@ use borrow.Author.Tests.{ltb-true, ltb-false, lt-ltb, le-ltb, le-leb, lt-leb, eq
 use Rattle.semantics.specs.Text.{Text}
 use Rattle.semantics.specs.Pattern.{Pattern, word, range, concat, alt, star, nullable}
 use Rattle.semantics.specs.Table.{positions}
-use Rattle.laws.specs.Basics.{bool-cases, false-of-not-true, cond-true, cond-false, and-both}
-use Rattle.laws.specs.PositionAutomaton.{split, lowAt, highAt, firstAt, lastAt, followAt, first-within, last-within, follow-within, follow-from}
+use Rattle.laws.specs.Basics.{bool-cases, false-of-not-true, cond-false, and-both}
+use Rattle.laws.specs.PositionAutomaton.{split, split-left, lowAt, highAt, firstAt, lastAt, followAt, first-within, last-within, follow-within, follow-from}
 use Rattle.positions.proofs.Bits.{same-test}
 use Rattle.positions.specs.declared.Set.{Set}
 use Rattle.positions.specs.Positions.{holds, holdsMoved, Empty, Moved}
@@ -26,10 +26,6 @@ use Rattle.automaton.proofs.Steps.{or-false, kept-all, kept-both, RowKe
 -- ---- Two halves
 
 module _ {A : Type 0} (n : ℕ) (f g : ℕ → A) where
-  split-left : (p : ℕ) → p < n → split n f g p ≡ f p
-  unfolding split
-  split-left p h = cond-true (ltb p n) (f p) (g (p - n)) (lt-ltb p n h)
-
   split-right : (p : ℕ) → n ≤ p → split n f g p ≡ g (p - n)
   unfolding split
   split-right p h = cond-false (ltb p n) (f p) (g (p - n)) (le-ltb p n h)

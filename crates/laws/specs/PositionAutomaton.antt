@@ -108,7 +108,7 @@ halves n m p h left right =
 
 module _ {A : Type 0} (n : ℕ) (f g : ℕ → A) where
   -- the split is the first function below n, and the second from n on
-  split-left : (p : ℕ) → p < n → split n f g p ≡ f p
+  pub split-left : (p : ℕ) → p < n → split n f g p ≡ f p
   unfolding split
   split-left p h = cond-true (ltb p n) (f p) (g (p - n)) (lt-ltb p n h)
 
