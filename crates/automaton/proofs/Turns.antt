@@ -12,7 +12,7 @@ use lib.Seq.{drop-drop}
 use borrow.Author.Tests.{ltb-false}
 use Rattle.semantics.specs.Text.{Text}
 use Rattle.semantics.specs.Pattern.{Pattern, word, range, star}
-use Rattle.semantics.specs.Lens.{source, sheet, language, constLanguage}
+use Rattle.semantics.specs.Lens.{copy, const, key, join, union, repeat, match, source, sheet, language, constLanguage}
 use Rattle.semantics.specs.Lens.{Side as SideOf}
 use Rattle.semantics.specs.Table.{nodeCount, poolLength, pool, Tree, pattern, lens, broken, treeAt, trees, treeSize, treePositions, positions, overLimit}
 use Rattle.table.specs.declared.Kind.{Kind}
@@ -32,7 +32,7 @@ use Rattle.automaton.specs.declared.Side.the-variants.{Source, Sheet}
 use Rattle.automaton.specs.Rows.{sideOf, sideIndex, rowAt, automatonAt, Describes}
 use Rattle.automaton.specs.Build.{Space, Counted, SideBuilt, BuiltAlone, BuiltPair}
 use Rattle.automaton.specs.Built.{treeLanguage, Built}
-use Rattle.automaton.specs.Program.{rowsBelow, rowsNeeded, rowsBefore, languageAt, nextNode, nextSide, turnOf, Standing, BuiltUpTo, Turn, Part, pairOf, PairReady, PairMade, RepeatReady, RepeatMade, AliasReady, AliasMade, constPart, partsOf, isPattern}
+use Rattle.automaton.specs.Program.{patternRows, lensRows, sideRows, rowsTaken, rowsBelow, rowsNeeded, rowsBefore, languageAt, nextNode, nextSide, turnOf, Standing, BuiltUpTo, Turn, Part, pairOf, PairReady, PairMade, RepeatReady, RepeatMade, AliasReady, AliasMade, constPart, partsOf, isPattern, OwnSide}
 use Rattle.automaton.proofs.Parts.{below-or-not, side-small}
 use Rattle.automaton.proofs.Frames.{size-kept, automaton-kept, other-described}
 
@@ -57,6 +57,20 @@ few-positions side t e =
     go source x y = x
     go sheet x y = y
 
+-- a side takes no more rows than it has positions
+taken-few : (side : SideOf) (t : Tree) → sideRows side t ≤ treePositions side t
+unfolding sideRows patternRows lensRows treePositions
+taken-few source (pattern r) = omega arith
+taken-few sheet (pattern r) = omega arith
+taken-few side (lens (copy r)) = omega arith
+taken-few side (lens (const r w d)) = omega arith
+taken-few side (lens (key r)) = omega arith
+taken-few side (lens (join l m)) = omega arith
+taken-few side (lens (union l m)) = omega arith
+taken-few side (lens (repeat l)) = omega arith
+taken-few side (lens (match n l)) = omega arith
+taken-few side broken = omega arith
+
 module _ {bytes : Text} {prepared : List ℕ} (all : AllSized bytes prepared) (k : ℕ) (inside : k < nodeCount bytes) where
   -- it is one of the 96 nodes
   pub a-node : 16 * k + 16 ≤ 1536
@@ -78,15 +92,34 @@ module _ {bytes : Text} {prepared : List ℕ} (all : AllSized bytes prepared) (k
         few-positions (sideOf side) (treeAt (trees bytes) k) (all .sized .each k inside .within),
       )
 
+  -- it has at most 128 rows on a side, and 256 positions on both
+  few-taken : (side : Side) → rowsTaken bytes k side ≤ 128
+  few-taken side =
+      omega (
+        arith,
+        taken-few (sideOf side) (treeAt (trees bytes) k),
+        few-positions (sideOf side) (treeAt (trees bytes) k) (all .sized .each k inside .within),
+      )
+
+  pub few-both : {r : Node} → NodeRead bytes k r → r .source + r .sheet ≤ 256
+  few-both read =
+      omega (
+        arith,
+        read .source-is,
+        read .sheet-is,
+        few-positions source (treeAt (trees bytes) k) (all .sized .each k inside .within),
+        few-positions sheet (treeAt (trees bytes) k) (all .sized .each k inside .within),
+      )
+
 -- ---- Rows
 
--- a side takes as many rows as it has positions
+-- the rows before the next side are those before this one, and those that this one takes
 rows-next :
     (bytes : Text) (k : ℕ) (side : Side)
-    → rowsBefore bytes (nextNode k side) (nextSide side) ≡ rowsBefore bytes k side + positions (languageAt bytes k side)
-unfolding rowsBefore rowsBelow sideOf
-rows-next bytes k Source = ap (λ (n : ℕ). rowsBelow bytes k + n) (positions-is source (treeAt (trees bytes) k))
-rows-next bytes k Sheet = rw (add-one k) (omega (arith, positions-is sheet (treeAt (trees bytes) k)))
+    → rowsBefore bytes (nextNode k side) (nextSide side) ≡ rowsBefore bytes k side + rowsTaken bytes k side
+unfolding rowsBefore rowsBelow
+rows-next bytes k Source = refl
+rows-next bytes k Sheet = rw (add-one k) (omega arith)
 
 -- a node's rows are among those of all
 rows-more : (bytes : Text) (k n : ℕ) → rowsBelow bytes k ≤ rowsBelow bytes (k + n)
@@ -99,7 +132,7 @@ unfolding rowsBefore rowsBelow
 rows-side bytes k Source = rw (add-one k) (omega arith)
 rows-side bytes k Sheet = omega arith
 
-rows-inside : (bytes : Text) (k : ℕ) (side : Side) → k < nodeCount bytes → rowsBefore bytes k side + positions (languageAt bytes k side) ≤ rowsNeeded bytes
+rows-inside : (bytes : Text) (k : ℕ) (side : Side) → k < nodeCount bytes → rowsBefore bytes k side + rowsTaken bytes k side ≤ rowsNeeded bytes
 unfolding rowsNeeded
 rows-inside bytes k side inside =
     let there : k + 1 + (nodeCount bytes - (k + 1)) ≡ nodeCount bytes = omega arith in
@@ -111,21 +144,61 @@ rows-small : {bytes : Text} {prepared : List ℕ} → AllSized bytes prepared �
 unfolding rowsBelow
 rows-small all zero h = omega arith
 rows-small {bytes} all (suc k) h =
-    let sized = all .sized .each k (omega arith) in
-    omega (
-      arith,
-      rows-small all k (omega arith),
-      few-positions source (treeAt (trees bytes) k) (sized .within),
-      few-positions sheet (treeAt (trees bytes) k) (sized .within),
-    )
+    omega (arith, rows-small all k (omega arith), few-taken all k (omega arith) Source, few-taken all k (omega arith) Sheet)
 
 pub rows-limit : {bytes : Text} {prepared : List ℕ} → AllSized bytes prepared → (k : ℕ) → k ≤ nodeCount bytes → rowsBelow bytes k ≤ 24576
 rows-limit {bytes} all k h = let right = right-of bytes (all .sized .sizes-right) in omega (arith, rows-small all k h)
 
 -- the rows of one more node
-pub rows-one-more : {bytes : Text} {k : ℕ} {r : Node} → NodeRead bytes k r → rowsBelow bytes (k + 1) ≡ rowsBelow bytes k + (r .source + r .sheet)
+pub rows-one-more : (bytes : Text) (k : ℕ) → rowsBelow bytes (k + 1) ≡ rowsBelow bytes k + (rowsTaken bytes k Source + rowsTaken bytes k Sheet)
 unfolding rowsBelow
-rows-one-more {k = k} read = rw (add-one k) (omega (arith, read .source-is, read .sheet-is))
+rows-one-more bytes k = rw (add-one k) refl
+
+-- the rows that a node of that kind takes, from the positions of its source side and those of both
+abbrev pub kindRows : Kind → ℕ → ℕ → ℕ
+kindRows (Word start len) once both = once
+kindRows (Range first last) once both = once
+kindRows (PatternJoin a b) once both = once
+kindRows (PatternUnion a b) once both = once
+kindRows (PatternRepeat a) once both = once
+kindRows (Copy a) once both = 0
+kindRows (Const a b c) once both = 0
+kindRows (Key a) once both = 0
+kindRows (LensJoin a b) once both = both
+kindRows (LensUnion a b) once both = both
+kindRows (LensRepeat a) once both = both
+kindRows (Match a) once both = 0
+
+module _ (bytes : Text) (k : ℕ) where
+  abbrev KindTakes : Kind → Type 0
+  KindTakes κ =
+      let t = treeAt (trees bytes) k in
+      kindRows κ (treePositions source t) (treePositions source t + treePositions sheet t) ≡ rowsTaken bytes k Source + rowsTaken bytes k Sheet
+
+  kind-takes : (κ : Kind) → Shows bytes k κ → KindTakes κ
+  unfolding Shows sideRows patternRows lensRows treePositions sideOf
+  kind-takes (Word start len) s = rw (s .tree-is) (omega arith)
+  kind-takes (Range first last) s = rw s (omega arith)
+  kind-takes (PatternJoin a b) s = rw (s .tree-is) (omega arith)
+  kind-takes (PatternUnion a b) s = rw (s .tree-is) (omega arith)
+  kind-takes (PatternRepeat a) s = rw (s .tree-is) (omega arith)
+  kind-takes (Copy a) s = rw (s .tree-is) refl
+  kind-takes (Const a b c) s = rw (s .tree-is) refl
+  kind-takes (Key a) s = rw (s .tree-is) refl
+  kind-takes (LensJoin a b) s = rw (s .tree-is) refl
+  kind-takes (LensUnion a b) s = rw (s .tree-is) refl
+  kind-takes (LensRepeat a) s = rw (s .tree-is) refl
+  kind-takes (Match a) s = rw (s .tree-is) refl
+
+  -- a node that was read takes the rows of its kind
+  pub node-takes :
+      {r : Node} (κ : Kind)
+      → NodeRead bytes k r
+      → r .kind ≡ κ
+      → kindRows κ (r .source) (r .source + r .sheet) ≡ rowsTaken bytes k Source + rowsTaken bytes k Sheet
+  node-takes κ read e =
+      let shows : Shows bytes k κ = subst (Shows bytes k) e (read .shows) in
+      rw (read .source-is, read .sheet-is) (kind-takes κ shows)
 
 -- ---- A turn
 
@@ -170,12 +243,12 @@ sized-kept built l all =
 
 module _ {bytes : Text} {k : ℕ} {side : Side} {row : ℕ} {before : List ℕ} (turn : Turn bytes k side row before) where
   -- there is room for a side's rows
-  space : (rows : ℕ) → rows ≡ positions (languageAt bytes k side) → Space k row rows before
+  space : (rows : ℕ) → rows ≡ rowsTaken bytes k side → Space k row rows before
   space rows e =
       record {
         a-node = a-node (turn .up-to .sized) k (turn .inside);
-        few = omega (arith, few-rows (turn .up-to .sized) k (turn .inside) side);
-        inside = omega (arith, turn .up-to .few, turn .up-to .room, rows-inside bytes k side (turn .inside));
+        few = omega (arith, few-taken (turn .up-to .sized) k (turn .inside) side);
+        inside = omega (arith, turn .up-to .rows-are, turn .up-to .room, rows-inside bytes k side (turn .inside));
       }
 
   -- a side before this one can be a part of it
@@ -189,15 +262,14 @@ module _ {bytes : Text} {k : ℕ} {side : Side} {row : ℕ} {before : List ℕ} 
       → SideBuilt k side start from rows before after
       → ((p : ℕ) → p < row → from ≤ p → p < from + rows → ⊥)
       → Describes (languageAt bytes k side) (automatonAt after k side) after
-      → row ≤ next
       → start + positions (languageAt bytes k side) ≤ next
-      → next ≤ row + positions (languageAt bytes k side)
+      → next ≡ row + rowsTaken bytes k side
       → BuiltUpTo bytes (nextNode k side) (nextSide side) next after
-  advance {after = after} next built apart described above covers few =
+  advance {after = after} next built apart described covers next-is =
       record {
         sized = sized-kept built here (turn .up-to .sized);
         room = omega (arith, built .same-length, turn .up-to .room);
-        few = omega (arith, turn .up-to .few, rows-next bytes k side);
+        rows-are = omega (arith, turn .up-to .rows-are, rows-next bytes k side);
         each =
             λ a other h.
             below-or-not
@@ -246,22 +318,31 @@ module _ {bytes : Text} {k : ℕ} {side : Side} {row : ℕ} {before : List ℕ} 
 pub record LettersShape (bytes : Text) (k : ℕ) (side : Side) (start len : ℕ) : Type 0 where
   pub inside : start + len ≤ poolLength bytes
   pub language-is : languageAt bytes k side ≡ word (take len (drop start (pool bytes)))
+  pub takes : rowsTaken bytes k side ≡ positions (languageAt bytes k side)
+
+-- it is a range
+pub record RangeShape (bytes : Text) (k : ℕ) (side : Side) (first last : ℕ) : Type 0 where
+  pub language-is : languageAt bytes k side ≡ range first last
+  pub takes : rowsTaken bytes k side ≡ positions (languageAt bytes k side)
 
 -- it is made of the same side of two lower nodes
 pub record PairShape (bytes : Text) (k : ℕ) (side : Side) (pair : Pair) (a b : ℕ) : Type 0 where
   pub left-lower : a < k
   pub right-lower : b < k
   pub language-is : languageAt bytes k side ≡ pairOf pair (languageAt bytes a side) (languageAt bytes b side)
+  pub takes : rowsTaken bytes k side ≡ positions (languageAt bytes k side)
 
 -- it is a repeat of the same side of a lower node
 pub record RepeatShape (bytes : Text) (k : ℕ) (side : Side) (a : ℕ) : Type 0 where
   pub lower : a < k
   pub language-is : languageAt bytes k side ≡ star (languageAt bytes a side)
+  pub takes : rowsTaken bytes k side ≡ positions (languageAt bytes k side)
 
 -- it is the same as an earlier side
 pub record SameShape (bytes : Text) (k : ℕ) (side : Side) (a : ℕ) (other : Side) : Type 0 where
   pub earlier : turnOf a other < turnOf k side
   pub language-is : languageAt bytes k side ≡ languageAt bytes a other
+  pub takes-none : rowsTaken bytes k side ≡ 0
 
 pair-positions : (pair : Pair) (r s : Pattern) → positions (pairOf pair r s) ≡ positions r + positions s
 unfolding pairOf positions
@@ -287,16 +368,18 @@ module _ {bytes : Text} {k : ℕ} {side : Side} {row : ℕ} {before : List ℕ} 
   counted-as e = rw e at (counted (turn .up-to .sized) k (turn .inside) side)
 
   -- a word or a range
-  module _ {r : Pattern} (e : languageAt bytes k side ≡ r) (rows : ℕ) (count : rows ≡ positions r) where
+  module _ {r : Pattern} (e : languageAt bytes k side ≡ r) (takes : rowsTaken bytes k side ≡ positions (languageAt bytes k side)) (rows : ℕ) (count : rows ≡ positions r) where
+    taken-alone : rows ≡ rowsTaken bytes k side
+    taken-alone = count ∙ ap positions (sym e) ∙ sym takes
+
     pub alone-ready : Space k row rows before
-    alone-ready = space turn rows (count ∙ ap positions (sym e))
+    alone-ready = space turn rows taken-alone
 
     pub alone-next : {after : List ℕ} → BuiltAlone r k side row rows before after → BuiltUpTo bytes (nextNode k side) (nextSide side) (row + rows) after
     alone-next made =
         advance turn (row + rows) (made .built) (λ p x y z. omega arith) (rw e (made .described (counted-as e)))
-        (omega arith)
         (omega (arith, ap positions e))
-        (omega (arith, ap positions e))
+        (omega (arith, taken-alone))
 
   -- two parts
   module _ {pair : Pair} {a b : ℕ} (shape : PairShape bytes k side pair a b) where
@@ -319,7 +402,7 @@ module _ {bytes : Text} {k : ℕ} {side : Side} {row : ℕ} {before : List ℕ} 
     pub pair-ready : PairReady k side row a b before
     pair-ready =
         record {
-          space = space turn _ pair-count;
+          space = space turn _ (pair-count ∙ sym (shape .takes));
           left = part turn a side (omega (arith, shape .left-lower));
           right = part turn b side (omega (arith, shape .right-lower));
         }
@@ -328,9 +411,8 @@ module _ {bytes : Text} {k : ℕ} {side : Side} {row : ℕ} {before : List ℕ} 
     pair-next {next} made =
         advance turn next (made .made .built) (λ p x y z. omega arith)
         (rw (shape .language-is) (made .made .described _ _ (left-is .described) (right-is .described) (counted-as (shape .language-is))))
-        (omega (arith, made .next-is))
         (omega (arith, made .next-is, pair-count))
-        (omega (arith, made .next-is, pair-count))
+        (omega (arith, made .next-is, pair-count, shape .takes))
 
   -- one part
   module _ {a : ℕ} (shape : RepeatShape bytes k side a) where
@@ -341,15 +423,14 @@ module _ {bytes : Text} {k : ℕ} {side : Side} {row : ℕ} {before : List ℕ} 
     part-count = part-is .described .count-is ∙ sym (ap positions (shape .language-is) ∙ star-positions (languageAt bytes a side))
 
     pub repeat-ready : RepeatReady k side row a before
-    repeat-ready = record { space = space turn _ part-count; part = part turn a side (omega (arith, shape .lower)) }
+    repeat-ready = record { space = space turn _ (part-count ∙ sym (shape .takes)); part = part turn a side (omega (arith, shape .lower)) }
 
     pub repeat-next : {next : ℕ} {after : List ℕ} → RepeatMade k side row a next before after → BuiltUpTo bytes (nextNode k side) (nextSide side) next after
     repeat-next {next} made =
         advance turn next (made .made .built) (λ p x y z. omega arith)
         (rw (shape .language-is) (made .made .described _ (part-is .described) (counted-as (shape .language-is))))
-        (omega (arith, made .next-is))
         (omega (arith, made .next-is, part-count))
-        (omega (arith, made .next-is, part-count))
+        (omega (arith, made .next-is, part-count, shape .takes))
 
   -- none of its own
   module _ {a : ℕ} {other : Side} (shape : SameShape bytes k side a other) where
@@ -365,48 +446,52 @@ module _ {bytes : Text} {k : ℕ} {side : Side} {row : ℕ} {before : List ℕ} 
         let was = turn .up-to .each a other (shape .earlier) in
         advance turn next (made .made .built) (λ p x y z. omega arith)
         (rw (shape .language-is) (made .made .described _ (was .described) (counted-as (shape .language-is))))
-        (omega (arith, made .next-is))
         (omega (arith, made .next-is, was .below .below, was .described .count-is, ap positions (shape .language-is)))
-        (omega (arith, made .next-is))
+        (omega (arith, made .next-is, shape .takes-none))
 
 -- ---- What a kind says of its node's side
 
 abbrev pub Shape : Text → ℕ → Side → Parts → Type 0
 Shape bytes k side (Letters start len) = LettersShape bytes k side start len
-Shape bytes k side (P.Range first last) = languageAt bytes k side ≡ range first last
+Shape bytes k side (P.Range first last) = RangeShape bytes k side first last
 Shape bytes k side (Two pair a b) = PairShape bytes k side pair a b
 Shape bytes k side (Repeat a) = RepeatShape bytes k side a
 Shape bytes k side (Same a) = SameShape bytes k side a side
 
 module _ (bytes : Text) (k : ℕ) where
   const-shape : (a b c : ℕ) (side : Side) → Shows bytes k (Const a b c) → SameShape bytes k side (constPart side a b) side
-  unfolding Shows treeLanguage sideOf language constLanguage
-  const-shape a b c Source s = record { earlier = omega (arith, s .lower); language-is = rw (s .tree-is, s .at-child) refl }
-  const-shape a b c Sheet s = record { earlier = omega (arith, s .sheet-lower); language-is = rw (s .tree-is, s .at-sheet) refl }
+  unfolding Shows treeLanguage sideOf language constLanguage sideRows lensRows
+  const-shape a b c Source s = record { earlier = omega (arith, s .lower); language-is = rw (s .tree-is, s .at-child) refl; takes-none = rw (s .tree-is) refl }
+  const-shape a b c Sheet s = record { earlier = omega (arith, s .sheet-lower); language-is = rw (s .tree-is, s .at-sheet) refl; takes-none = rw (s .tree-is) refl }
 
   module _ (side : Side) where
-    shape-of : (κ : Kind) → Shows bytes k κ → Shape bytes k side (partsOf κ side)
-    unfolding Shows treeLanguage language pairOf
-    shape-of (Word start len) s = record { inside = s .inside; language-is = rw (s .tree-is) refl }
-    shape-of (Range first last) s = rw s refl
-    shape-of (PatternJoin a b) s = record { left-lower = s .left-lower; right-lower = s .right-lower; language-is = rw (s .tree-is, s .at-left, s .at-right) refl }
-    shape-of (PatternUnion a b) s = record { left-lower = s .left-lower; right-lower = s .right-lower; language-is = rw (s .tree-is, s .at-left, s .at-right) refl }
-    shape-of (PatternRepeat a) s = record { lower = s .lower; language-is = rw (s .tree-is, s .at-child) refl }
-    shape-of (Copy a) s = record { earlier = omega (arith, s .lower); language-is = rw (s .tree-is, s .at-child) refl }
-    shape-of (Const a b c) s = const-shape a b c side s
-    shape-of (Key a) s = record { earlier = omega (arith, s .lower); language-is = rw (s .tree-is, s .at-child) refl }
-    shape-of (LensJoin a b) s = record { left-lower = s .left-lower; right-lower = s .right-lower; language-is = rw (s .tree-is, s .at-left, s .at-right) refl }
-    shape-of (LensUnion a b) s = record { left-lower = s .left-lower; right-lower = s .right-lower; language-is = rw (s .tree-is, s .at-left, s .at-right) refl }
-    shape-of (LensRepeat a) s = record { lower = s .lower; language-is = rw (s .tree-is, s .at-child) refl }
-    shape-of (Match a) s = record { earlier = omega (arith, s .lower); language-is = rw (s .tree-is, s .at-child) refl }
+    -- the source side of a pattern takes its positions
+    pattern-takes : {r : Pattern} → treeAt (trees bytes) k ≡ pattern r → side ≡ Source → rowsTaken bytes k side ≡ positions (languageAt bytes k side)
+    unfolding treeLanguage sideOf sideRows patternRows
+    pattern-takes e f = rw (f, e) refl
 
-    pub shape-is : (κ : Kind) (parts : Parts) → parts ≡ partsOf κ side → Shows bytes k κ → Shape bytes k side parts
-    shape-is κ parts e s = subst (λ (p : Parts). Shape bytes k side p) (sym e) (shape-of κ s)
+    shape-of : (κ : Kind) → Shows bytes k κ → OwnSide κ side → Shape bytes k side (partsOf κ side)
+    unfolding Shows treeLanguage language pairOf sideRows lensRows
+    shape-of (Word start len) s o = record { inside = s .inside; language-is = rw (s .tree-is) refl; takes = pattern-takes (s .tree-is) (o .own refl) }
+    shape-of (Range first last) s o = record { language-is = rw s refl; takes = pattern-takes s (o .own refl) }
+    shape-of (PatternJoin a b) s o = record { left-lower = s .left-lower; right-lower = s .right-lower; language-is = rw (s .tree-is, s .at-left, s .at-right) refl; takes = pattern-takes (s .tree-is) (o .own refl) }
+    shape-of (PatternUnion a b) s o = record { left-lower = s .left-lower; right-lower = s .right-lower; language-is = rw (s .tree-is, s .at-left, s .at-right) refl; takes = pattern-takes (s .tree-is) (o .own refl) }
+    shape-of (PatternRepeat a) s o = record { lower = s .lower; language-is = rw (s .tree-is, s .at-child) refl; takes = pattern-takes (s .tree-is) (o .own refl) }
+    shape-of (Copy a) s o = record { earlier = omega (arith, s .lower); language-is = rw (s .tree-is, s .at-child) refl; takes-none = rw (s .tree-is) refl }
+    shape-of (Const a b c) s o = const-shape a b c side s
+    shape-of (Key a) s o = record { earlier = omega (arith, s .lower); language-is = rw (s .tree-is, s .at-child) refl; takes-none = rw (s .tree-is) refl }
+    shape-of (LensJoin a b) s o = record { left-lower = s .left-lower; right-lower = s .right-lower; language-is = rw (s .tree-is, s .at-left, s .at-right) refl; takes = rw (s .tree-is) refl }
+    shape-of (LensUnion a b) s o = record { left-lower = s .left-lower; right-lower = s .right-lower; language-is = rw (s .tree-is, s .at-left, s .at-right) refl; takes = rw (s .tree-is) refl }
+    shape-of (LensRepeat a) s o = record { lower = s .lower; language-is = rw (s .tree-is, s .at-child) refl; takes = rw (s .tree-is) refl }
+    shape-of (Match a) s o = record { earlier = omega (arith, s .lower); language-is = rw (s .tree-is, s .at-child) refl; takes-none = rw (s .tree-is) refl }
+
+    pub shape-is : (κ : Kind) (parts : Parts) → parts ≡ partsOf κ side → Shows bytes k κ → OwnSide κ side → Shape bytes k side parts
+    shape-is κ parts e s o = subst (λ (p : Parts). Shape bytes k side p) (sym e) (shape-of κ s o)
 
   -- a pattern is the same on both sides
   one-language : {r : Pattern} → treeAt (trees bytes) k ≡ pattern r → SameShape bytes k Sheet k Source
-  unfolding treeLanguage
-  one-language e = record { earlier = omega arith; language-is = rw e refl }
+  unfolding treeLanguage sideOf sideRows patternRows
+  one-language e = record { earlier = omega arith; language-is = rw e refl; takes-none = rw e refl }
 
   pub pattern-shape : (κ : Kind) → Shows bytes k κ → isPattern κ ≡ true → SameShape bytes k Sheet k Source
   unfolding Shows
@@ -426,7 +511,8 @@ module _ (bytes : Text) (k : ℕ) where
 -- ---- All turns
 
 pub built-begins : {bytes : Text} {prepared : List ℕ} → AllSized bytes prepared → rowAt (rowsNeeded bytes) ≤ length prepared → BuiltUpTo bytes 0 Source 0 prepared
-built-begins all room = record { sized = all; room = room; few = omega arith; each = λ a other h. absurd (omega arith) }
+unfolding rowsBefore rowsBelow
+built-begins all room = record { sized = all; room = room; rows-are = refl; each = λ a other h. absurd (omega arith) }
 
 pub built-ends : {bytes : Text} {n row : ℕ} {prepared : List ℕ} → n ≡ nodeCount bytes → BuiltUpTo bytes n Source row prepared → Built bytes prepared
 unfolding rowsBefore rowsNeeded
@@ -441,7 +527,7 @@ built-ends {bytes} {n} {row} all-nodes up =
             room =
                 record {
                   few = omega (arith, it .described .count-is, few-rows (up .sized) k h side);
-                  inside = omega (arith, it .below .below, up .few, up .room, ap (rowsBelow bytes) all-nodes);
+                  inside = omega (arith, it .below .below, up .rows-are, up .room, ap (rowsBelow bytes) all-nodes);
                 };
           };
     }

@@ -6,8 +6,9 @@ use Prim.Native.Nat.{ℕ, zero, suc, _+_, _*_, _≤_, _<_}
 use lib.ListN.{length}
 use Rattle.semantics.specs.Text.{Text}
 use Rattle.semantics.specs.Pattern.{Pattern, concat, alt}
-use Rattle.semantics.specs.Lens.{source, sheet}
-use Rattle.semantics.specs.Table.{nodeCount, poolLength, sizesWrong, treeAt, trees, treePositions}
+use Rattle.semantics.specs.Lens.{Lens, copy, const, key, join, union, repeat, match, source, sheet, language}
+use Rattle.semantics.specs.Lens.{Side as SideOf}
+use Rattle.semantics.specs.Table.{nodeCount, poolLength, sizesWrong, Tree, pattern, lens, broken, treeAt, trees, positions}
 use Rattle.table.specs.declared.Kind.{Kind}
 use Rattle.table.specs.declared.Kind.the-variants.{Word, Range, PatternJoin, PatternUnion, PatternRepeat, Copy, Const, Key, LensJoin, LensUnion, LensRepeat, Match}
 use Rattle.table.specs.Rules.{AllSized}
@@ -24,10 +25,34 @@ use Rattle.automaton.specs.Built.{treeLanguage}
 
 -- ---- How many rows
 
--- those of the nodes below k: the positions of both sides
+-- the rows of a side: as many as it has positions. A pattern's sheet side takes none: it has those of its source side
+unfoldable pub patternRows : SideOf → Pattern → ℕ
+patternRows source r = positions r
+patternRows sheet r = 0
+
+-- a copy, const, key or match takes none: it has those of its children
+unfoldable pub lensRows : SideOf → Lens → ℕ
+lensRows side (copy r) = 0
+lensRows side (const r w d) = 0
+lensRows side (key r) = 0
+lensRows side (join l m) = positions (language side (join l m))
+lensRows side (union l m) = positions (language side (union l m))
+lensRows side (repeat l) = positions (language side (repeat l))
+lensRows side (match n l) = 0
+
+unfoldable pub sideRows : SideOf → Tree → ℕ
+sideRows side (pattern r) = patternRows side r
+sideRows side (lens l) = lensRows side l
+sideRows side broken = 0
+
+-- the rows that a side of node k takes
+abbrev pub rowsTaken : Text → ℕ → Side → ℕ
+rowsTaken bytes k side = sideRows (sideOf side) (treeAt (trees bytes) k)
+
+-- those of the nodes below k
 unfoldable pub rowsBelow : Text → ℕ → ℕ
 rowsBelow bytes zero = 0
-rowsBelow bytes (suc k) = rowsBelow bytes k + (treePositions source (treeAt (trees bytes) k) + treePositions sheet (treeAt (trees bytes) k))
+rowsBelow bytes (suc k) = rowsBelow bytes k + (rowsTaken bytes k Source + rowsTaken bytes k Sheet)
 
 -- those of all
 unfoldable pub rowsNeeded : Text → ℕ
@@ -36,7 +61,7 @@ rowsNeeded bytes = rowsBelow bytes (nodeCount bytes)
 -- those of the sides before one: the source side of a node comes first
 unfoldable pub rowsBefore : Text → ℕ → Side → ℕ
 rowsBefore bytes k Source = rowsBelow bytes k
-rowsBefore bytes k Sheet = rowsBelow bytes k + treePositions source (treeAt (trees bytes) k)
+rowsBefore bytes k Sheet = rowsBelow bytes k + rowsTaken bytes k Source
 
 -- ---- How far the build has come
 
@@ -63,10 +88,11 @@ pub record Standing (bytes : Text) (k : ℕ) (side : Side) (row : ℕ) (prepared
   pub below : Below (automatonAt prepared k side) row
 
 -- All sides before that of node k have their automata, in rows below `row`, and there is room for the others.
+-- So many rows they take, no more and no fewer.
 pub record BuiltUpTo (bytes : Text) (k : ℕ) (side : Side) (row : ℕ) (prepared : List ℕ) : Type 0 where
   pub sized : AllSized bytes prepared
   pub room : rowAt (rowsNeeded bytes) ≤ length prepared
-  pub few : row ≤ rowsBefore bytes k side
+  pub rows-are : row ≡ rowsBefore bytes k side
   pub each : (a : ℕ) (other : Side) → turnOf a other < turnOf k side → Standing bytes a other row prepared
 
 -- It is the turn of that side of node k.
@@ -155,3 +181,7 @@ isPattern (LensJoin a b) = false
 isPattern (LensUnion a b) = false
 isPattern (LensRepeat a) = false
 isPattern (Match a) = false
+
+-- It is not the sheet side of a pattern, which has the automaton of its source side.
+pub record OwnSide (kind : Kind) (side : Side) : Type 0 where
+  pub own : isPattern kind ≡ true → side ≡ Source

@@ -11,15 +11,15 @@ use table::Kind;
 use table::Table;
 use table::parts::node_count;
 ghost use mathlib.Core.Path.{_≡_};
-ghost use Prim.Native.Nat.{_+_, _≤_};
+ghost use Prim.Native.Nat.{_+_, _≤_, _<_};
 ghost use lib.ListN.{length, take, drop};
-ghost use Rattle.semantics.specs.Table.{pool};
+ghost use Rattle.semantics.specs.Table.{nodeCount, pool};
 ghost use Rattle.table.specs.Prepared.{Shows};
 ghost use Rattle.table.specs.Rules.{AllSized};
 ghost use Rattle.automaton.specs.Rows.{rowAt};
 ghost use Rattle.automaton.specs.Built.{Built};
-ghost use Rattle.automaton.specs.Program.{rowsNeeded, isPattern, constPart, partsOf, LettersInside, PairReady, PairMade, RepeatReady, RepeatMade, AliasReady, AliasMade, nextNode, nextSide, BuiltUpTo, Turn};
-ghost use Rattle.automaton.specs.declared.Side.the-variants.{Source};
+ghost use Rattle.automaton.specs.Program.{rowsTaken, rowsNeeded, isPattern, OwnSide, constPart, partsOf, LettersInside, PairReady, PairMade, RepeatReady, RepeatMade, AliasReady, AliasMade, nextNode, nextSide, BuiltUpTo, Turn};
+ghost use Rattle.automaton.specs.declared.Side.the-variants.{Source, Sheet};
 
 // The two ways to make a pattern of two.
 enum Pair {
@@ -36,7 +36,38 @@ enum Parts {
     Same(usize),
 }
 
-// How many rows the automata of all nodes take at most: the positions of both sides, summed over the nodes.
+// How many rows the automata of node k take. Both sides of a pattern have the same rows, so they count once. A copy,
+// const, key or match takes none: it has those of its children.
+fn rows_of(bytes: &[u8], prepared: &[u64], k: usize) -> usize
+    requires { ⌜ AllSized (now bytes) (now prepared) ⌝ }
+    requires { ⌜ k < nodeCount (now bytes) ⌝ }
+    ensures { λ r. ⌜ r ≡ rowsTaken (now (bytes .entry)) k Source + rowsTaken (now (bytes .entry)) k Sheet ⌝ }
+{
+    let node = Table::node(bytes, prepared, k);
+    let kind = node.kind;
+    let once = node.source;
+    let both = once + node.sheet;
+    match kind {
+        Kind::Word { start: _, len: _ } => once,
+        Kind::Range { first: _, last: _ } => once,
+        Kind::PatternJoin { left: _, right: _ } => once,
+        Kind::PatternUnion { left: _, right: _ } => once,
+        Kind::PatternRepeat { child: _ } => once,
+        Kind::Copy { pattern: _ } => 0,
+        Kind::Const {
+            pattern: _,
+            sheet: _,
+            default: _,
+        } => 0,
+        Kind::Key { pattern: _ } => 0,
+        Kind::LensJoin { left: _, right: _ } => both,
+        Kind::LensUnion { left: _, right: _ } => both,
+        Kind::LensRepeat { child: _ } => both,
+        Kind::Match { child: _ } => 0,
+    }
+}
+
+// How many rows the automata of all nodes take, no more and no fewer.
 pub fn rows_needed(bytes: &[u8], prepared: &[u64]) -> usize
     requires { ⌜ AllSized (now bytes) (now prepared) ⌝ }
     ensures { λ r. ⌜ (r ≡ rowsNeeded (now (bytes .entry))) × (r ≤ 24576) ⌝ }
@@ -45,8 +76,7 @@ pub fn rows_needed(bytes: &[u8], prepared: &[u64]) -> usize
     let mut rows = 0;
     let mut k = 0;
     while k < n {
-        let node = Table::node(bytes, prepared, k);
-        rows += node.source + node.sheet;
+        rows += rows_of(bytes, prepared, k);
         k += 1;
     }
     rows
@@ -157,6 +187,7 @@ fn build_side(
 ) -> usize
     requires { ⌜ Turn (now bytes) k side row (now prepared) ⌝ }
     requires { ⌜ Shows (now bytes) k kind ⌝ }
+    requires { ⌜ OwnSide kind side ⌝ }
     ensures { λ r. ⌜ BuiltUpTo (now (bytes .entry)) (nextNode k side) (nextSide side) r (now (prepared .exit)) ⌝ }
 {
     let parts = parts_of(kind, side);

@@ -1,5 +1,5 @@
 // A case's line: its name, then the text in quotes, `result` and the length of a longer text, or `refused`, number and node.
-use engine::Answer;
+use answers::Answer;
 use libc::STDOUT_FILENO;
 
 // Above this, a text's length stands for it.

@@ -9,12 +9,12 @@ use Rattle.semantics.specs.Lens.{Lens}
 use Rattle.semantics.specs.Table.{nodeCount}
 use Rattle.semantics.specs.Calls.{gives, refuses, program, withProgram, checkCall, lenscheckLine, bufferAfter}
 use Rattle.semantics.specs.Calls.{Answer as Outcome}
-use Rattle.engine.specs.declared.Answer.{Answer}
-use Rattle.engine.specs.declared.Answer.the-variants.{Result, Refusal}
-use Rattle.engine.specs.Answers.{answerFor}
+use Rattle.answers.specs.declared.Answer.{Answer}
+use Rattle.answers.specs.declared.Answer.the-variants.{Result, Refusal}
+use Rattle.answers.specs.Answers.{answerFor}
 use Rattle.engine.specs.Line.{refusedLine}
-use Rattle.engine.specs.Results.{GivesText}
-use Rattle.engine.proofs.Verdicts.{refused-line}
+use Rattle.answers.specs.Results.{GivesText}
+use Rattle.engine.proofs.Lines.{refused-line}
 use Rattle.commands.specs.Replies.{checkOutcome, printed, numberOf, answerNumber, Replies, Finishes}
 
 -- a result

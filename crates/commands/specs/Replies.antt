@@ -7,10 +7,10 @@ use lib.ListN.{length, drop, length-append}
 use Rattle.semantics.specs.Text.{Text}
 use Rattle.semantics.specs.Calls.{gives, refuses, program, withProgram, getCall, putCall, createCall, lenscheckLine}
 use Rattle.semantics.specs.Calls.{Answer as Outcome}
-use Rattle.engine.specs.declared.Answer.{Answer}
-use Rattle.engine.specs.declared.Answer.the-variants.{Result, Refusal}
+use Rattle.answers.specs.declared.Answer.{Answer}
+use Rattle.answers.specs.declared.Answer.the-variants.{Result, Refusal}
 use Rattle.engine.specs.Line.{refusedLine}
-use Rattle.engine.specs.Results.{GivesText}
+use Rattle.answers.specs.Results.{GivesText}
 use Rattle.commands.specs.declared.command.Command.{Command}
 use Rattle.commands.specs.declared.command.Command.the-variants.{Check, Get, Put, Create, Unknown}
 use Rattle.commands.specs.declared.replies.Reply.{Reply}

@@ -1,7 +1,7 @@
 // What each command prints on standard output, made at the start of a buffer.
 use crate::command::Command;
 use crate::line::put_refused;
-use engine::Answer;
+use answers::Answer;
 use engine::lenscheck_line;
 ghost use mathlib.Core.Path.{_≡_};
 ghost use Prim.Native.Nat.{_≤_};

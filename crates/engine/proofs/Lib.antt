@@ -1,5 +1,5 @@
 -- What the proofs of several functions cite.
-pub mod Verdicts
 pub mod Texts
-pub mod Giving
+pub mod Lines
 pub mod Sourcing
+pub mod Tries

@@ -2,8 +2,8 @@
 use mathlib.Core.Path.{_≡_, refl, sym, _∙_}
 use mathlib.Core.Bool.{Bool, true, false, _||_}
 use mathlib.Core.List.{List}
-use mathlib.Core.Option.{none, some}
-use Prim.Native.Nat.{ℕ, _-_, _≤_, _<_, min}
+use mathlib.Core.Option.{Option, none, some}
+use Prim.Native.Nat.{ℕ, _+_, _-_, _*_, _≤_, _<_}
 use native.Mathlib.Omega.{arith}
 use lib.Dec.{ltb}
 use lib.ListN.{length, take, drop}
@@ -11,24 +11,23 @@ use lib.Seq.{take-length}
 use borrow.Author.Tests.{lt-ltb, le-ltb, not-false}
 use Rattle.semantics.specs.Text.{Text}
 use Rattle.semantics.specs.Pattern.{In, matches}
-use Rattle.semantics.specs.Lens.{Lens, source, language, entries, put, create}
+use Rattle.semantics.specs.Lens.{Lens, source, language, entries, write, put, create}
 use Rattle.semantics.specs.Table.{nodeCount, treeAt, trees}
 use Rattle.semantics.specs.Calls.{gives, program, maxText, maxEntries, tooLong, notOf}
 use Rattle.laws.specs.Membership.{matches-in}
-use Rattle.lens.specs.Nodes.{sizes-are}
+use Rattle.lens.specs.declared.Wrote.{Wrote}
 use Rattle.books.specs.declared.Book.{Book}
 use Rattle.books.specs.declared.list.Listing.{Listing}
 use Rattle.books.specs.Listed.{Sized, unused, unused-none, fits-none}
 use Rattle.books.specs.Listing.{treeEntries, entries-of, ToList, StandsIn, Untaken, Lists, PutBehind}
 use Rattle.books.specs.Looking.{Dealt, over-more, unused-dealt, entries-fit-listed}
 use Rattle.writer.specs.declared.Done.{Done}
-use Rattle.writer.specs.Writing.{Lent, WritesNode}
+use Rattle.writer.specs.Writing.{Lent, WritesNode, padNeeded}
 use Rattle.writer.specs.Writing.{Ready as ToWrite}
-use Rattle.engine.specs.declared.Answer.{Answer}
-use Rattle.engine.specs.Answers.{Ready}
-use Rattle.engine.specs.Results.{Finishes, GivesMade}
+use Rattle.answers.specs.Answers.{Ready}
+use Rattle.answers.specs.Results.{Makes}
 use Rattle.engine.specs.Sources.{BookReady, ListsSource}
-use Rattle.engine.proofs.Giving.{root-at, root-node, too-long, not-too-long}
+use Rattle.answers.proofs.Giving.{root-at, root-node, too-long, not-too-long}
 
 -- ---- The empty book
 
@@ -92,17 +91,17 @@ module _ {bytes : Text} {prepared : List ℕ} (ready : Ready bytes prepared) {ro
           }
 
   -- the pad has room from the root down
-  pub root-lent : {new pad : List ℕ} → length new ≤ maxText → length pad ≡ 786624 → Lent root new pad
-  root-lent short room = record { new-short = short; pad-room = omega (arith, (sizes-are (ready .built .sized)) .few-nodes) }
+  pub root-lent : {new pad : List ℕ} → length new ≤ maxText → padNeeded bytes root ≤ length pad → Lent bytes root new pad
+  root-lent short room = record { new-short = short; pad-room = room }
 
   -- the book of the old source and a deck with its cards are what the root puts with
-  pub to-put : {old deck : Text} {b : Book} → BookReady bytes old b → Dealt bytes old b deck → length deck ≡ 1053696 → ToWrite bytes prepared root deck b
+  pub to-put : {old deck : Text} {b : Book} → BookReady bytes old b → Dealt bytes old b deck → 4096 + 4100 * b .count ≤ length deck → ToWrite bytes prepared root deck b
   to-put book dealt size =
       record {
         lens-node = root-node ready root-is;
         over = over-more (book .old-short) (book .over);
         cards-fit = dealt .cards-fit;
-        deck-size = omega (arith, book .over .fits .few);
+        deck-size = size;
       }
 
   -- an empty book needs no cards
@@ -115,36 +114,35 @@ module _ {bytes : Text} {prepared : List ℕ} (ready : Ready bytes prepared) {ro
         deck-size = omega (arith, empty .0);
       }
 
-  -- ---- What the root wrote is given
+  -- ---- What the root writes
 
-  module _
-      {new start result before after : Text} {b : Book} {deck : Text} {done : Done} {answer : Answer}
-      (room : length result ≡ min (length before) maxText)
-      (finish : Finishes (done .wrote) result before after answer)
-    where
-      -- with the old source's entries it is put
-      pub put-made :
-          {old : Text}
-          → BookReady bytes old b
-          → Dealt bytes old b deck
-          → WritesNode bytes root deck (some (take (length old) (drop 0 deck))) new b start result done
-          → GivesMade bytes (λ l. put l new old) before after answer
-      unfolding put
-      put-made {old} book dealt wrote =
-          record {
-            gives-made = λ l e.
-                let same = unused-dealt (trees bytes) old deck (book .over) (dealt .source-is) ∙ book .listed l e in
-                finish .finishes _ start room (rw (dealt .source-is, same) at (wrote .writes l (root-at ready root-is l e) .bytes-are));
-          }
+  pub root-makes :
+      {deck : Text} {old : Option Text} {new before after : Text} {b : Book} {done : Done}
+      → WritesNode bytes root deck old new b before after done
+      → Makes bytes (λ l. write l old new (unused (trees bytes) deck b) .text) before after (done .wrote)
+  root-makes wrote = record { makes = λ l e. wrote .writes l (root-at ready root-is l e) .bytes-are }
 
-      -- with no entries and no old source it is create
-      pub create-made : b .count ≡ 0 → WritesNode bytes root deck none new b start result done → GivesMade bytes (λ l. create l new) before after answer
-      unfolding create
-      create-made none-in wrote =
-          record {
-            gives-made = λ l e.
-                finish .finishes _ start room (rw (unused-none (trees bytes) deck b none-in) at (wrote .writes l (root-at ready root-is l e) .bytes-are));
-          }
+module _ (deck new : Text) {bytes before after : Text} {b : Book} {wrote : Wrote} where
+  -- with the old source's entries it is put
+  pub put-made :
+      {old : Text}
+      → BookReady bytes old b
+      → Dealt bytes old b deck
+      → Makes bytes (λ l. write l (some (take (length old) (drop 0 deck))) new (unused (trees bytes) deck b) .text) before after wrote
+      → Makes bytes (λ l. put l new old) before after wrote
+  unfolding put
+  put-made {old} book dealt made =
+      record {
+        makes = λ l e.
+            let same = unused-dealt (trees bytes) old deck (book .over) (dealt .source-is) ∙ book .listed l e in
+            rw (dealt .source-is, same) at (made .makes l e);
+      }
+
+  -- with no entries and no old source it is create
+  pub create-made :
+      (b .count ≡ 0) × Sized b → Makes bytes (λ l. write l none new (unused (trees bytes) deck b) .text) before after wrote → Makes bytes (λ l. create l new) before after wrote
+  unfolding create
+  create-made empty made = record { makes = λ l e. rw (unused-none (trees bytes) deck b (empty .0)) at (made .makes l e) }
 
 -- ---- The lengths of both texts, of which either may be too long
 

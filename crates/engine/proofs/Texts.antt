@@ -2,13 +2,13 @@
 use mathlib.Core.Path.{_≡_, refl, sym, ap, _∙_, subst}
 use mathlib.Core.Bool.{Bool, true, false}
 use mathlib.Core.List.{List, [], _∷_, _++_}
-use Prim.Native.Nat.{ℕ, suc, _+_, _/_, _%_, _≤_, _<_}
+use Prim.Native.Nat.{ℕ, suc, _+_, _-_, _/_, _%_, _≤_, _<_}
 use native.Mathlib.Omega.{arith}
-use native.Mathlib.Nat.{add-zero, zero-add}
+use native.Mathlib.Nat.{add-zero, zero-add, sub-zero}
 use native.Mathlib.Numerals.{add-one}
 use lib.Dec.{ltb}
 use lib.ListN.{length, take, drop, getD, set, length-append}
-use lib.Seq.{sets, sets-eq, take-suc, take-length}
+use lib.Seq.{sets, sets-eq, take-suc, take-length, take-append-seam}
 use borrow.Author.Tests.{lt-ltb, le-ltb, ltb-true, ltb-false}
 use Rattle.semantics.specs.Text.{Text}
 use Rattle.semantics.specs.Calls.{digits, decimal}
@@ -60,6 +60,12 @@ puts-start {t} {before} p h = (
   rw (zero-add (length t)) at (p .after-is ∙ sets-eq t before 0 (omega (arith, p .next-is))),
   omega (arith, p .next-is),
 )
+
+-- and its beginning, lent as the prover says it, is the text
+pub puts-front : {t : Text} {end : ℕ} {before after : List ℕ} → Puts t 0 end before after → end ≤ length before → take (end - 0) after ≡ t
+puts-front {t} {end} {before} p h =
+    let (after-is, end-is) = puts-start p h in
+    rw (sub-zero end, end-is, after-is) (take-append-seam t (drop (length t) before))
 
 -- ---- Numbers in decimal
 

@@ -13,10 +13,10 @@ use Rattle.semantics.specs.Calls.{gives, refuses, bufferAfter, program, getCall
 use Rattle.semantics.specs.Calls.{Answer as Outcome}
 use Rattle.laws.specs.Demand3.{OneRepeatedEntry, unedited, put-then-get, create-then-get, reordered}
 use Rattle.laws.specs.Shuffle.{selected, PartNumbers}
-use Rattle.engine.specs.declared.Answer.{Answer}
-use Rattle.engine.specs.declared.Answer.the-variants.{Result, Refusal}
-use Rattle.engine.specs.Answers.{answerFor}
-use Rattle.engine.specs.Results.{GivesText}
+use Rattle.answers.specs.declared.Answer.{Answer}
+use Rattle.answers.specs.declared.Answer.the-variants.{Result, Refusal}
+use Rattle.answers.specs.Answers.{answerFor}
+use Rattle.answers.specs.Results.{GivesText}
 
 -- The call answered a result, whose text is that.
 pub record Gave (after : Text) (answer : Answer) (text : Text) : Type 0 where

@@ -5,7 +5,8 @@ use Prim.Native.Nat.{ℕ, _+_}
 use lib.ListN.{length}
 use lib.Seq.{sets}
 use Rattle.semantics.specs.Text.{Text}
-use Rattle.semantics.specs.Calls.{field}
+use Rattle.semantics.specs.Calls.{field, program, withProgram, output, lenscheckLine}
+use Rattle.semantics.specs.Calls.{Answer as Outcome}
 
 -- A text is put at a place of a buffer, byte by byte, and the next place is behind it.
 pub record Puts (text : Text) (at next : ℕ) (before after : List ℕ) : Type 0 where
@@ -19,3 +20,7 @@ acceptedLine count sources sheets = (111 ∷ 107 ∷ []) ++ field count ++ field
 -- '`refused`, number, node'
 unfoldable pub refusedLine : ℕ → ℕ → Text
 refusedLine number node = (114 ∷ 101 ∷ 102 ∷ 117 ∷ 115 ∷ 101 ∷ 100 ∷ []) ++ field number ++ field node ++ 10 ∷ []
+
+-- The line of an accepted program as the text of a call: 16 if it is longer than the buffer, and another program's refusal comes through.
+unfoldable pub lineCall : Text → ℕ → Outcome Text
+lineCall bytes lent = withProgram (program bytes) (λ l. output lent (lenscheckLine bytes))

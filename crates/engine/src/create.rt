@@ -1,55 +1,35 @@
 // The call Create: a source from a sheet only.
-use crate::Answer;
-use crate::Checked;
-use crate::check_in;
-use crate::full_room;
-use crate::results::belongs_to_root;
-use crate::results::finish;
-use crate::results::no_pad;
-use crate::results::no_text;
-use crate::results::refuse;
-use crate::results::room_in;
-use crate::results::root_of;
-use crate::some_room;
+use crate::rooms::Call;
+use crate::rooms::Room;
+use crate::rooms::answer_in;
+use crate::writing::write_root;
+use answers::Answer;
+use answers::results::belongs_to_root;
+use answers::results::finish;
+use answers::results::no_text;
+use answers::results::refuse;
+use answers::results::room_in;
 use automaton::Side;
 use books::Book;
-use writer::write;
+use books::Old;
 ghost use mathlib.Core.Path.{_≡_};
 ghost use Prim.Native.Nat.{_≤_, min};
 ghost use lib.ListN.{length};
 ghost use Rattle.semantics.specs.Lens.{create};
 ghost use Rattle.semantics.specs.Calls.{createCall};
-ghost use Rattle.engine.specs.Answers.{Ready};
-ghost use Rattle.engine.specs.Results.{GivesText, GivesMade};
+ghost use Rattle.answers.specs.Answers.{Ready};
+ghost use Rattle.answers.specs.Results.{GivesText, GivesMade};
 
-// The call, with room first for most programs and then for every program.
+// The call.
 pub fn create(bytes: &[u8], sheet: &[u8], out: &mut [u8]) -> Answer
     ensures { λ r. ⌜ GivesText (createCall (now (bytes .entry)) (now (sheet .entry)) (length (now (out .entry)))) (now (out .entry)) (now (out .exit)) r ⌝ }
 {
-    let mut prepared = some_room();
-    let checked = check_in(bytes, &mut prepared);
-    match checked {
-        Checked::Accepted => create_with(bytes, &prepared, sheet, out),
-        Checked::Refused { number, node } => Answer::Refusal { number, node },
-        Checked::Small => create_large(bytes, sheet, out),
-    }
-}
-
-// The same with room for every program.
-fn create_large(bytes: &[u8], sheet: &[u8], out: &mut [u8]) -> Answer
-    ensures { λ r. ⌜ GivesText (createCall (now (bytes .entry)) (now (sheet .entry)) (length (now (out .entry)))) (now (out .entry)) (now (out .exit)) r ⌝ }
-{
-    let mut prepared = full_room();
-    let checked = check_in(bytes, &mut prepared);
-    match checked {
-        Checked::Accepted => create_with(bytes, &prepared, sheet, out),
-        Checked::Refused { number, node } => Answer::Refusal { number, node },
-        Checked::Small => Answer::Refusal { number: 0, node: 0 },
-    }
+    let none = &bytes[0..0];
+    answer_in(Room::Small, Call::Create, bytes, sheet, none, out)
 }
 
 // The source of a sheet, of a program that is accepted and prepared.
-fn create_with(bytes: &[u8], prepared: &[u64], sheet: &[u8], out: &mut [u8]) -> Answer
+pub fn create_with(bytes: &[u8], prepared: &[u64], sheet: &[u8], out: &mut [u8]) -> Answer
     requires { ⌜ Ready (now bytes) (now prepared) ⌝ }
     ensures { λ r. ⌜ GivesText (createCall (now (bytes .entry)) (now (sheet .entry)) (length (now (out .entry)))) (now (out .entry)) (now (out .exit)) r ⌝ }
 {
@@ -77,11 +57,9 @@ fn create_into(
     requires { ⌜ length (now result) ≡ min (length (now out)) 4096 ⌝ }
     ensures { λ r. ⌜ GivesMade (now (bytes .entry)) (λ l. create l (now (sheet .entry))) (now (out .entry)) (now (out .exit)) r ⌝ }
 {
-    let root = root_of(bytes);
     let deck = no_text();
     let book = Book::empty();
-    let mut pad = no_pad();
-    let done = write::create(bytes, prepared, root, sheet, &deck, book, &mut pad, result);
-    let wrote = done.wrote;
+    let old = Old::Nothing;
+    let wrote = write_root(false, bytes, prepared, sheet, old, &deck, book, result);
     finish(wrote, result, out)
 }

@@ -1,16 +1,15 @@
 // The call Get: a sheet from a source.
-use crate::Answer;
-use crate::Checked;
-use crate::check_in;
-use crate::full_room;
-use crate::results::belongs_to_root;
-use crate::results::finish;
-use crate::results::no_flags;
-use crate::results::no_text;
-use crate::results::refuse;
-use crate::results::room_in;
-use crate::results::root_of;
-use crate::some_room;
+use crate::rooms::Call;
+use crate::rooms::Room;
+use crate::rooms::answer_in;
+use answers::Answer;
+use answers::results::belongs_to_root;
+use answers::results::finish;
+use answers::results::no_flags;
+use answers::results::no_text;
+use answers::results::refuse;
+use answers::results::room_in;
+use answers::results::root_of;
 use automaton::Side;
 use lens::Mode;
 use lens::read::emit;
@@ -19,37 +18,19 @@ ghost use Prim.Native.Nat.{_≤_, min};
 ghost use lib.ListN.{length};
 ghost use Rattle.semantics.specs.Lens.{get};
 ghost use Rattle.semantics.specs.Calls.{getCall};
-ghost use Rattle.engine.specs.Answers.{Ready};
-ghost use Rattle.engine.specs.Results.{GivesText, GivesMade};
+ghost use Rattle.answers.specs.Answers.{Ready};
+ghost use Rattle.answers.specs.Results.{GivesText, GivesMade};
 
-// The call, with room first for most programs and then for every program.
+// The call.
 pub fn get(bytes: &[u8], source: &[u8], out: &mut [u8]) -> Answer
     ensures { λ r. ⌜ GivesText (getCall (now (bytes .entry)) (now (source .entry)) (length (now (out .entry)))) (now (out .entry)) (now (out .exit)) r ⌝ }
 {
-    let mut prepared = some_room();
-    let checked = check_in(bytes, &mut prepared);
-    match checked {
-        Checked::Accepted => get_with(bytes, &prepared, source, out),
-        Checked::Refused { number, node } => Answer::Refusal { number, node },
-        Checked::Small => get_large(bytes, source, out),
-    }
-}
-
-// The same with room for every program.
-fn get_large(bytes: &[u8], source: &[u8], out: &mut [u8]) -> Answer
-    ensures { λ r. ⌜ GivesText (getCall (now (bytes .entry)) (now (source .entry)) (length (now (out .entry)))) (now (out .entry)) (now (out .exit)) r ⌝ }
-{
-    let mut prepared = full_room();
-    let checked = check_in(bytes, &mut prepared);
-    match checked {
-        Checked::Accepted => get_with(bytes, &prepared, source, out),
-        Checked::Refused { number, node } => Answer::Refusal { number, node },
-        Checked::Small => Answer::Refusal { number: 0, node: 0 },
-    }
+    let none = &bytes[0..0];
+    answer_in(Room::Small, Call::Get, bytes, none, source, out)
 }
 
 // The sheet of a source, of a program that is accepted and prepared.
-fn get_with(bytes: &[u8], prepared: &[u64], source: &[u8], out: &mut [u8]) -> Answer
+pub fn get_with(bytes: &[u8], prepared: &[u64], source: &[u8], out: &mut [u8]) -> Answer
     requires { ⌜ Ready (now bytes) (now prepared) ⌝ }
     ensures { λ r. ⌜ GivesText (getCall (now (bytes .entry)) (now (source .entry)) (length (now (out .entry)))) (now (out .entry)) (now (out .exit)) r ⌝ }
 {

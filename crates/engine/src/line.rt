@@ -1,9 +1,16 @@
 // The line that `lenscheck` prints, put into a buffer part by part. Each function answers the place behind what it put.
+use answers::Answer;
+use answers::results::give;
+use table::Table;
+use table::parts::node_count;
+ghost use mathlib.Core.Path.{_≡_};
 ghost use mathlib.Core.List.{[], _∷_};
 ghost use Prim.Native.Nat.{_+_, _%_, _≤_, _<_};
 ghost use lib.ListN.{length};
 ghost use Rattle.semantics.specs.Calls.{decimal, field};
-ghost use Rattle.engine.specs.Line.{Puts, acceptedLine, refusedLine};
+ghost use Rattle.answers.specs.Answers.{Ready};
+ghost use Rattle.answers.specs.Results.{GivesText};
+ghost use Rattle.engine.specs.Line.{Puts, acceptedLine, refusedLine, lineCall};
 
 // A byte.
 fn put(out: &mut [u8], at: usize, byte: u8) -> usize
@@ -103,4 +110,25 @@ pub fn put_refused(out: &mut [u8], number: usize, node: usize) -> usize
     let second = put_field(out, first, number);
     let end = put_field(out, second, node);
     put(out, end, b'\n')
+}
+
+// Room for a line.
+fn no_line() -> [u8; 64]
+    ensures { λ r. ⌜ 64 ≡ length r ⌝ }
+{
+    [0u8; 64]
+}
+
+// The line of an accepted and prepared program, whose root is the last node.
+pub fn line_with(bytes: &[u8], prepared: &[u64], out: &mut [u8]) -> Answer
+    requires { ⌜ Ready (now bytes) (now prepared) ⌝ }
+    ensures { λ r. ⌜ GivesText (lineCall (now (bytes .entry)) (length (now (out .entry)))) (now (out .entry)) (now (out .exit)) r ⌝ }
+{
+    let count = node_count(bytes);
+    let root = Table::node(bytes, prepared, count - 1);
+    let sources = root.source;
+    let sheets = root.sheet;
+    let mut line = no_line();
+    let length = put_accepted(&mut line, count, sources, sheets);
+    give(&line[0..length], out)
 }

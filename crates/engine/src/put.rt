@@ -1,56 +1,37 @@
 // The call Put: a source from a sheet and an old source.
-use crate::Answer;
-use crate::Checked;
-use crate::check_in;
-use crate::full_room;
-use crate::results::belongs_to_root;
-use crate::results::finish;
-use crate::results::no_flags;
-use crate::results::no_pad;
-use crate::results::no_text;
-use crate::results::refuse;
-use crate::results::room_in;
-use crate::results::root_of;
-use crate::some_room;
+use crate::rooms::Call;
+use crate::rooms::Room;
+use crate::rooms::answer_in;
+use crate::writing::write_root;
+use answers::Answer;
+use answers::results::belongs_to_root;
+use answers::results::finish;
+use answers::results::no_flags;
+use answers::results::no_text;
+use answers::results::refuse;
+use answers::results::room_in;
+use answers::results::root_of;
 use automaton::Side;
 use books::Book;
+use books::Old;
+use lens::Wrote;
 use books::deck::fill_deck;
 use books::list::Listing;
 use books::list::list;
-use writer::write;
 ghost use mathlib.Core.Path.{_≡_};
-ghost use Prim.Native.Nat.{_≤_, min};
+ghost use Prim.Native.Nat.{_+_, _*_, _≤_, min};
 ghost use lib.ListN.{length};
 ghost use Rattle.semantics.specs.Lens.{put};
 ghost use Rattle.semantics.specs.Calls.{putCall};
-ghost use Rattle.engine.specs.Answers.{Ready};
-ghost use Rattle.engine.specs.Results.{GivesText, GivesMade};
+ghost use Rattle.answers.specs.Answers.{Ready};
+ghost use Rattle.answers.specs.Results.{GivesText, Makes, GivesMade};
 ghost use Rattle.engine.specs.Sources.{BookReady, ListsSource};
 
-// The call, with room first for most programs and then for every program.
+// The call.
 pub fn put(bytes: &[u8], sheet: &[u8], source: &[u8], out: &mut [u8]) -> Answer
     ensures { λ r. ⌜ GivesText (putCall (now (bytes .entry)) (now (sheet .entry)) (now (source .entry)) (length (now (out .entry)))) (now (out .entry)) (now (out .exit)) r ⌝ }
 {
-    let mut prepared = some_room();
-    let checked = check_in(bytes, &mut prepared);
-    match checked {
-        Checked::Accepted => put_with(bytes, &prepared, sheet, source, out),
-        Checked::Refused { number, node } => Answer::Refusal { number, node },
-        Checked::Small => put_large(bytes, sheet, source, out),
-    }
-}
-
-// The same with room for every program.
-fn put_large(bytes: &[u8], sheet: &[u8], source: &[u8], out: &mut [u8]) -> Answer
-    ensures { λ r. ⌜ GivesText (putCall (now (bytes .entry)) (now (sheet .entry)) (now (source .entry)) (length (now (out .entry)))) (now (out .entry)) (now (out .exit)) r ⌝ }
-{
-    let mut prepared = full_room();
-    let checked = check_in(bytes, &mut prepared);
-    match checked {
-        Checked::Accepted => put_with(bytes, &prepared, sheet, source, out),
-        Checked::Refused { number, node } => Answer::Refusal { number, node },
-        Checked::Small => Answer::Refusal { number: 0, node: 0 },
-    }
+    answer_in(Room::Small, Call::Put, bytes, sheet, source, out)
 }
 
 // The entries of an old source, in a book of their own.
@@ -66,7 +47,7 @@ fn entries_of(bytes: &[u8], prepared: &[u64], source: &[u8]) -> Listing
 }
 
 // The source of a sheet and an old source, of a program that is accepted and prepared.
-fn put_with(bytes: &[u8], prepared: &[u64], sheet: &[u8], source: &[u8], out: &mut [u8]) -> Answer
+pub fn put_with(bytes: &[u8], prepared: &[u64], sheet: &[u8], source: &[u8], out: &mut [u8]) -> Answer
     requires { ⌜ Ready (now bytes) (now prepared) ⌝ }
     ensures { λ r. ⌜ GivesText (putCall (now (bytes .entry)) (now (sheet .entry)) (now (source .entry)) (length (now (out .entry)))) (now (out .entry)) (now (out .exit)) r ⌝ }
 {
@@ -100,11 +81,99 @@ fn put_with(bytes: &[u8], prepared: &[u64], sheet: &[u8], source: &[u8], out: &m
     )
 }
 
-// Room for a deck of 256 entries.
-fn no_deck() -> [u8; 1053696]
+// A deck for 8 entries.
+fn small_deck() -> [u8; 36896]
+    ensures { λ r. ⌜ 36896 ≡ length r ⌝ }
+{
+    [0u8; 36896]
+}
+
+// A deck for 256 entries.
+fn full_deck() -> [u8; 1053696]
     ensures { λ r. ⌜ 1053696 ≡ length r ⌝ }
 {
     [0u8; 1053696]
+}
+
+// The source, written from a deck that is lent.
+fn write_from(
+    bytes: &[u8],
+    prepared: &[u64],
+    sheet: &[u8],
+    source: &[u8],
+    book: Book,
+    deck: &mut [u8],
+    result: &mut [u8],
+) -> Wrote
+    requires { ⌜ Ready (now bytes) (now prepared) ⌝ }
+    requires { ⌜ BookReady (now bytes) (now source) book ⌝ }
+    requires { ⌜ length (now sheet) ≤ 4096 ⌝ }
+    requires { ⌜ 4096 + 4100 * book .count ≤ length (now deck) ⌝ }
+    ensures { λ r. ⌜ Makes (now (bytes .entry)) (λ l. put l (now (sheet .entry)) (now (source .entry))) (now (result .entry)) (now (result .exit)) r ⌝ }
+{
+    fill_deck(bytes, prepared, source, book, deck);
+    let len = source.len();
+    let old = Old::At { start: 0, len };
+    write_root(false, bytes, prepared, sheet, old, deck, book, result)
+}
+
+fn from_small_deck(
+    bytes: &[u8],
+    prepared: &[u64],
+    sheet: &[u8],
+    source: &[u8],
+    book: Book,
+    result: &mut [u8],
+) -> Wrote
+    requires { ⌜ Ready (now bytes) (now prepared) ⌝ }
+    requires { ⌜ BookReady (now bytes) (now source) book ⌝ }
+    requires { ⌜ length (now sheet) ≤ 4096 ⌝ }
+    requires { ⌜ book .count ≤ 8 ⌝ }
+    ensures { λ r. ⌜ Makes (now (bytes .entry)) (λ l. put l (now (sheet .entry)) (now (source .entry))) (now (result .entry)) (now (result .exit)) r ⌝ }
+{
+    let mut deck = small_deck();
+    write_from(bytes, prepared, sheet, source, book, &mut deck, result)
+}
+
+fn from_full_deck(
+    bytes: &[u8],
+    prepared: &[u64],
+    sheet: &[u8],
+    source: &[u8],
+    book: Book,
+    result: &mut [u8],
+) -> Wrote
+    requires { ⌜ Ready (now bytes) (now prepared) ⌝ }
+    requires { ⌜ BookReady (now bytes) (now source) book ⌝ }
+    requires { ⌜ length (now sheet) ≤ 4096 ⌝ }
+    ensures { λ r. ⌜ Makes (now (bytes .entry)) (λ l. put l (now (sheet .entry)) (now (source .entry))) (now (result .entry)) (now (result .exit)) r ⌝ }
+{
+    let mut deck = full_deck();
+    write_from(bytes, prepared, sheet, source, book, &mut deck, result)
+}
+
+// The source, from a deck as large as the book needs. As `answer_in`, it calls itself for the large one, so that the two are never on the stack together.
+fn write_source(
+    large: bool,
+    bytes: &[u8],
+    prepared: &[u64],
+    sheet: &[u8],
+    source: &[u8],
+    book: Book,
+    result: &mut [u8],
+) -> Wrote
+    requires { ⌜ Ready (now bytes) (now prepared) ⌝ }
+    requires { ⌜ BookReady (now bytes) (now source) book ⌝ }
+    requires { ⌜ length (now sheet) ≤ 4096 ⌝ }
+    ensures { λ r. ⌜ Makes (now (bytes .entry)) (λ l. put l (now (sheet .entry)) (now (source .entry))) (now (result .entry)) (now (result .exit)) r ⌝ }
+{
+    if large {
+        return from_full_deck(bytes, prepared, sheet, source, book, result);
+    }
+    if book.count <= 8 {
+        return from_small_deck(bytes, prepared, sheet, source, book, result);
+    }
+    write_source(true, bytes, prepared, sheet, source, book, result)
 }
 
 // The source, made in a slice as long as a result may be. The book holds the old source's entries.
@@ -123,23 +192,6 @@ fn put_into(
     requires { ⌜ length (now result) ≡ min (length (now out)) 4096 ⌝ }
     ensures { λ r. ⌜ GivesMade (now (bytes .entry)) (λ l. put l (now (sheet .entry)) (now (source .entry))) (now (out .entry)) (now (out .exit)) r ⌝ }
 {
-    let root = root_of(bytes);
-    let mut deck = no_deck();
-    fill_deck(bytes, prepared, source, book, &mut deck);
-    let mut pad = no_pad();
-    let len = source.len();
-    let done = write::put(
-        bytes,
-        prepared,
-        root,
-        sheet,
-        0,
-        len,
-        &deck,
-        book,
-        &mut pad,
-        result,
-    );
-    let wrote = done.wrote;
+    let wrote = write_source(false, bytes, prepared, sheet, source, book, result);
     finish(wrote, result, out)
 }

@@ -1,18 +1,21 @@
 -- What the nodes below a node are given, of what it was given.
 use mathlib.Core.Path.{_≡_}
 use mathlib.Core.List.{List, _++_}
-use Prim.Native.Nat.{ℕ, _-_, _≤_, _<_}
+use Prim.Native.Nat.{ℕ, _-_, _≤_}
 use native.Mathlib.Nat.{le-refl}
 use native.Mathlib.Omega.{arith}
 use lib.ListN.{length, take, drop, length-take, length-drop}
 use Rattle.semantics.specs.Text.{Text}
-use Rattle.semantics.specs.Lens.{Written}
+use Rattle.semantics.specs.Lens.{repeat, Written}
+use Rattle.semantics.specs.Table.{trees, lens}
+use Rattle.table.specs.Prepared.{OneLens}
 use Rattle.lens.specs.Cutting.{rest-lent, part-length}
 use Rattle.lens.specs.Emitting.{LensNode}
 use Rattle.books.specs.declared.Book.{Book}
 use Rattle.books.specs.Looking.{BookOver, SameEntries, same-all, cards-fit-same}
 use Rattle.writer.specs.declared.Done.{Done}
 use Rattle.writer.specs.Writing.{Ready, Lent, Progress}
+use Rattle.writer.proofs.Repeats.{repeats-below, repeats-of-part}
 
 -- ---- A part of a list, as it is lent
 
@@ -54,23 +57,28 @@ ready-after ready known p = ready-left ready known (p .over) (p .same-entries)
 
 -- a part of the sheet, and the whole pad
 pub lent-below :
-    {node child : ℕ} {new new′ pad pad′ : List ℕ}
-    → Lent node new pad
+    {bytes : Text} {node child : ℕ} {new new′ pad pad′ : List ℕ}
+    → Lent bytes node new pad
     → child ≤ node
     → length new′ ≤ length new
     → length pad′ ≡ length pad
-    → Lent child new′ pad′
-lent-below lent lower shorter same =
-    record { new-short = omega (arith, lent .new-short); pad-room = omega (arith, lent .pad-room) }
+    → Lent bytes child new′ pad′
+lent-below {bytes} lent lower shorter same =
+    record { new-short = omega (arith, lent .new-short); pad-room = omega (arith, lent .pad-room, repeats-below bytes lower) }
 
--- a part of the sheet, and the pad behind the flags of a sheet and an old text
+-- a part of the sheet, and the pad behind the flags that a repeat keeps
 pub lent-behind :
-    {node child : ℕ} {new new′ pad pad′ : List ℕ} {free : ℕ}
-    → Lent node new pad
-    → child < node
+    {bytes : Text} {node child : ℕ} {new new′ pad pad′ : List ℕ} {free : ℕ}
+    → Lent bytes node new pad
+    → OneLens (trees bytes) node child (λ l. lens (repeat l))
     → length new′ ≤ length new
     → free ≤ 8194
     → length pad′ ≡ length pad - free
-    → Lent child new′ pad′
-lent-behind lent lower shorter few same =
-    record { new-short = omega (arith, lent .new-short); pad-room = omega (arith, lent .pad-room) }
+    → Lent bytes child new′ pad′
+lent-behind {bytes} lent one shorter few same =
+    record { new-short = omega (arith, lent .new-short); pad-room = omega (arith, lent .pad-room, repeats-of-part bytes one) }
+
+-- a repeat has room for its own flags, of a sheet and of an old text
+pub repeat-room :
+    {bytes : Text} {node child : ℕ} {new pad : List ℕ} → Lent bytes node new pad → OneLens (trees bytes) node child (λ l. lens (repeat l)) → 12291 ≤ length pad
+repeat-room {bytes} lent one = omega (arith, lent .pad-room, repeats-of-part bytes one)

@@ -1,5 +1,6 @@
 -- Laws for the writers.
-mod Stepping
+pub mod Stepping
+pub mod Repeats
 mod Below
 mod Behind
 mod ByKind

@@ -1,17 +1,18 @@
 -- What put and create owe, in terms of the definitions' `write`, and what they are given.
 use mathlib.Core.Path.{_≡_}
-use mathlib.Core.Bool.{cond}
+use mathlib.Core.Bool.{Bool, true, false, cond}
 use mathlib.Core.List.{List}
 use mathlib.Core.Option.{Option}
-use Prim.Native.Nat.{ℕ, _+_, _-_, _*_, _^_, _≤_, _<_}
+use Prim.Native.Nat.{ℕ, zero, suc, _+_, _-_, _*_, _^_, _≤_, _<_}
 use lib.Dec.{ltb}
 use lib.ListN.{length, take, drop}
 use Rattle.semantics.specs.Text.{Text, orElse, apply}
 use Rattle.semantics.specs.Pattern.{Pattern, word, matches}
-use Rattle.semantics.specs.Lens.{Lens, join, match, cutAt, Arm, putLeft, putRight, createLeft, createRight, armOf, Written, andThen, write}
-use Rattle.semantics.specs.Table.{trees, treeAt, pattern, lens}
+use Rattle.semantics.specs.Lens.{Lens, copy, const, key, join, union, repeat, match, cutAt, Arm, putLeft, putRight, createLeft, createRight, armOf, Written, andThen, write}
+use Rattle.semantics.specs.Table.{trees, treeAt, Tree, pattern, lens, broken}
 use Rattle.table.specs.declared.Kind.{Kind}
 use Rattle.table.specs.declared.Kind.the-variants.{Const}
+use Rattle.table.specs.Prepared.{Shows}
 use Rattle.automaton.specs.declared.Side.{Side}
 use Rattle.automaton.specs.declared.Side.the-variants.{Source, Sheet}
 use Rattle.automaton.specs.Rows.{automatonAt, Describes}
@@ -40,10 +41,36 @@ pub record Ready (bytes prepared : List ℕ) (node : ℕ) (deck : Text) (b : Boo
   pub cards-fit : CardsFit bytes deck b
   pub deck-size : 4096 + 4100 * b .count ≤ length deck
 
--- The sheet is no longer than a text may be, and the pad has room for the flags of a sheet and an old text at every node from here down.
-pub record Lent (node : ℕ) (new pad : List ℕ) : Type 0 where
+-- whether a node is a lens repeat
+unfoldable pub isRepeat : Tree → Bool
+isRepeat (pattern r) = false
+isRepeat (lens (copy r)) = false
+isRepeat (lens (const r w d)) = false
+isRepeat (lens (key r)) = false
+isRepeat (lens (join l m)) = false
+isRepeat (lens (union l m)) = false
+isRepeat (lens (repeat l)) = true
+isRepeat (lens (match n l)) = false
+isRepeat broken = false
+
+-- how many of the nodes below k are lens repeats
+unfoldable pub repeatsBelow : Text → ℕ → ℕ
+repeatsBelow bytes zero = 0
+repeatsBelow bytes (suc k) = repeatsBelow bytes k + cond (isRepeat (treeAt (trees bytes) k)) 1 0
+
+-- The bytes of pad that a node's writer needs: a share for each lens repeat up to it, the flags of a sheet and of an old text, 4,097 each; and the
+-- flags of one text for a cut.
+abbrev pub padNeeded : Text → ℕ → ℕ
+padNeeded bytes node = 8194 * repeatsBelow bytes (node + 1) + 4097
+
+-- The sheet is no longer than a text may be, and the pad has room for the writer of the node.
+pub record Lent (bytes : Text) (node : ℕ) (new pad : List ℕ) : Type 0 where
   pub new-short : length new ≤ 4096
-  pub pad-room : 8194 * (node + 1) ≤ length pad
+  pub pad-room : padNeeded bytes node ≤ length pad
+
+-- The answer tells whether a node of that kind is a lens repeat.
+pub record TellsRepeat (kind : Kind) (answer : Bool) : Type 0 where
+  pub tells : (bytes : Text) (k : ℕ) → Shows bytes k kind → answer ≡ isRepeat (treeAt (trees bytes) k)
 
 -- The old text stands in the old source.
 pub record OldInside (old : Old) : Type 0 where

@@ -3,6 +3,7 @@ use books::Book;
 use books::Old;
 use lens::Wrote;
 
+pub mod pads;
 pub mod steps;
 pub mod write;
 

@@ -1,5 +1,6 @@
 // A lens writes the source of a sheet, onto an old text or without one. The deck holds the old source and its entries' cards; the book goes from left to
-// right. Each repeat keeps its flags at the front of the pad, and lends the pad behind them to its parts.
+// right. Each repeat keeps its flags at the front of the pad, and lends the pad behind them to its parts. So the pad has a share for each lens repeat up
+// to the node, and one in which the others cut: see `pads`.
 use crate::Done;
 use crate::steps::behind;
 use crate::steps::choose;
@@ -41,7 +42,7 @@ pub fn put(
     out: &mut [u8],
 ) -> Done
     requires { ⌜ Ready (now bytes) (now prepared) node (now deck) book ⌝ }
-    requires { ⌜ Lent node (now new) (now pad) ⌝ }
+    requires { ⌜ Lent (now bytes) node (now new) (now pad) ⌝ }
     requires { ⌜ start + len ≤ 4096 ⌝ }
     ensures { λ r. ⌜ WritesNode (now (bytes .entry)) node (now (deck .entry)) (some (take len (drop start (now (deck .entry))))) (now (new .entry)) book (now (out .entry)) (now (out .exit)) r ⌝ }
 {
@@ -61,7 +62,7 @@ pub fn create(
     out: &mut [u8],
 ) -> Done
     requires { ⌜ Ready (now bytes) (now prepared) node (now deck) book ⌝ }
-    requires { ⌜ Lent node (now new) (now pad) ⌝ }
+    requires { ⌜ Lent (now bytes) node (now new) (now pad) ⌝ }
     ensures { λ r. ⌜ WritesNode (now (bytes .entry)) node (now (deck .entry)) none (now (new .entry)) book (now (out .entry)) (now (out .exit)) r ⌝ }
 {
     let old = Old::Nothing;
@@ -69,7 +70,7 @@ pub fn create(
 }
 
 // What a node's lens writes.
-fn write_node(
+pub fn write_node(
     bytes: &[u8],
     prepared: &[u64],
     node: usize,
@@ -81,7 +82,7 @@ fn write_node(
     out: &mut [u8],
 ) -> Done
     requires { ⌜ Ready (now bytes) (now prepared) node (now deck) book ⌝ }
-    requires { ⌜ Lent node (now new) (now pad) × OldInside old ⌝ }
+    requires { ⌜ Lent (now bytes) node (now new) (now pad) × OldInside old ⌝ }
     ensures { λ r. ⌜ WritesNode (now (bytes .entry)) node (now (deck .entry)) (oldText (now (deck .entry)) old) (now (new .entry)) book (now (out .entry)) (now (out .exit)) r ⌝ }
 {
     let read = Table::node(bytes, prepared, node);
@@ -120,7 +121,7 @@ fn write_behind(
     out: &mut [u8],
 ) -> Done
     requires { ⌜ Ready (now bytes) (now prepared) node (now deck) (done .book) ⌝ }
-    requires { ⌜ Lent node (now new) (now pad) × OldInside old ⌝ }
+    requires { ⌜ Lent (now bytes) node (now new) (now pad) × OldInside old ⌝ }
     requires { ⌜ WithinBuffer done (now out) ⌝ }
     ensures { λ r. ⌜ WritesBehind (now (bytes .entry)) node (now (deck .entry)) (oldText (now (deck .entry)) old) (now (new .entry)) done (now (out .entry)) (now (out .exit)) r ⌝ }
 {
@@ -153,7 +154,7 @@ fn write_join(
     out: &mut [u8],
 ) -> Done
     requires { ⌜ Ready (now bytes) (now prepared) left (now deck) book × Ready (now bytes) (now prepared) right (now deck) book ⌝ }
-    requires { ⌜ Lent left (now new) (now pad) × Lent right (now new) (now pad) × OldInside old ⌝ }
+    requires { ⌜ Lent (now bytes) left (now new) (now pad) × Lent (now bytes) right (now new) (now pad) × OldInside old ⌝ }
     ensures { λ r. ⌜ WritesJoin (now (bytes .entry)) left right (now (deck .entry)) (oldText (now (deck .entry)) old) (now (new .entry)) book (now (out .entry)) (now (out .exit)) r ⌝ }
 {
     let i = cut_of(prepared, left, right, Side::Sheet, new, pad);
@@ -180,7 +181,7 @@ fn write_parts(
     out: &mut [u8],
 ) -> Done
     requires { ⌜ Ready (now bytes) (now prepared) node (now deck) book × OneLens (trees (now bytes)) node child (λ l. lens (repeat l)) ⌝ }
-    requires { ⌜ Lent node (now new) (now pad) × OldInside old ⌝ }
+    requires { ⌜ Lent (now bytes) node (now new) (now pad) × OldInside old ⌝ }
     ensures { λ r. ⌜ WritesNode (now (bytes .entry)) node (now (deck .entry)) (oldText (now (deck .entry)) old) (now (new .entry)) book (now (out .entry)) (now (out .exit)) r ⌝ }
 {
     let span = span_of(old);
@@ -226,7 +227,7 @@ fn write_match(
     out: &mut [u8],
 ) -> Done
     requires { ⌜ Ready (now bytes) (now prepared) child (now deck) book ⌝ }
-    requires { ⌜ Lent child (now new) (now pad) ⌝ }
+    requires { ⌜ Lent (now bytes) child (now new) (now pad) ⌝ }
     ensures { λ r. ⌜ WritesMatch (now (bytes .entry)) child (now (deck .entry)) (now (new .entry)) book (now (out .entry)) (now (out .exit)) r ⌝ }
 {
     let mut card = no_card();

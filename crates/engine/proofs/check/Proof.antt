@@ -1,58 +1,35 @@
--- `engine::check` meets its contract, from what the check in a lent slice says. Assumes nothing.
+-- `engine::check` meets its contract. Assumes nothing.
 use borrow.Author.Needs.{needs}
-use denote.Ref.{now}
-use Rattle.engine.specs.Answers.{CheckedIs}
-use Rattle.engine.proofs.Verdicts.{told, check-refuses}
+use Rattle.engine.specs.Rooms.{Owed}
 use Rattle.engine.proofs.check.Statement.{statement}
 use Rattle.engine.proofs.check.Tie as tie
 
-some-room-requires : tie.Need-some-room-requires
-some-room-requires c κs = search needs
+sub-none : tie.Need-sub-none
+sub-none c = search needs
 
-slice-aggregate-check-in : tie.Need-slice-aggregate-check-in
-slice-aggregate-check-in c = search needs
+part-none-start : tie.Need-part-none-start
+part-none-start c = search needs
 
-check-in-requires : tie.Need-check-in-requires
-check-in-requires c κs = search needs
+part-none-end : tie.Need-part-none-end
+part-none-end c = search needs
 
-enum-told : tie.Need-enum-told
-enum-told c = search needs
+slice-aggregate-answer-in : tie.Need-slice-aggregate-answer-in
+slice-aggregate-answer-in c = search needs
 
-accepted-answer-requires : tie.Need-accepted-answer-requires
-unfolding CheckedIs
-accepted-answer-requires c κs = told _ _ (c .before .before .before .check-in .ensures) (c .enum-told .given .1) .accepted
-
-enum-known-checked : tie.Need-enum-known-checked
-enum-known-checked c = search needs
-
-enum-told-2 : tie.Need-enum-told-2
-enum-told-2 c = search needs
-
-check-large-requires : tie.Need-check-large-requires
-check-large-requires c κs = search needs
+answer-in-requires : tie.Need-answer-in-requires
+answer-in-requires c κs = search needs
 
 returns : tie.Need-returns
-returns c = search needs
-
-returns-2 : tie.Need-returns-2
-unfolding CheckedIs
-returns-2 c = check-refuses (now (c .before .before .before .before .before .before .before .before .args .bytes)) _ _ (told _ _ (c .before .before .before .before .check-in .ensures) (c .before .checked .given .1))
-
-returns-3 : tie.Need-returns-3
-returns-3 c = search needs
+unfolding Owed
+returns c = c .before .answer-in .ensures .owed .answer-is
 
 pub check-spec : {M : Type 1} → statement M
 check-spec =
     tie.close
     (tie.spec
-    some-room-requires
-    slice-aggregate-check-in
-    check-in-requires
-    enum-told
-    accepted-answer-requires
-    enum-known-checked
-    enum-told-2
-    check-large-requires
-    returns
-    returns-2
-    returns-3)
+    sub-none
+    part-none-start
+    part-none-end
+    slice-aggregate-answer-in
+    answer-in-requires
+    returns)

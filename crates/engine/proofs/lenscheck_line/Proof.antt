@@ -1,81 +1,65 @@
--- `engine::lenscheck_line` meets its contract: the line is put at the start of the buffer. Assumes nothing.
+-- `engine::lenscheck_line` meets its contract: a line for an accepted program, and one for a refusal. Assumes nothing.
 use borrow.Author.Needs.{needs}
 use native.Mathlib.Omega.{arith}
 use denote.Ref.{now}
-use Rattle.engine.specs.Answers.{CheckedIs}
+use Rattle.engine.specs.Rooms.{Owed}
 use Rattle.engine.proofs.Texts.{puts-as, puts-start}
-use Rattle.engine.proofs.Verdicts.{told, refusal-short, refused-line}
+use Rattle.engine.proofs.Lines.{line-result, line-refusal, refusal-short, refused-line}
 use Rattle.engine.proofs.lenscheck_line.Statement.{statement}
 use Rattle.engine.proofs.lenscheck_line.Tie as tie
 
-some-room-requires : tie.Need-some-room-requires
-some-room-requires c κs = search needs
+sub-none : tie.Need-sub-none
+sub-none c = search needs
 
-slice-aggregate-check-in : tie.Need-slice-aggregate-check-in
-slice-aggregate-check-in c = search needs
+part-none-start : tie.Need-part-none-start
+part-none-start c = search needs
 
-check-in-requires : tie.Need-check-in-requires
-check-in-requires c κs = search needs
+part-none-end : tie.Need-part-none-end
+part-none-end c = search needs
 
-enum-told : tie.Need-enum-told
-enum-told c = search needs
+answer-in-requires : tie.Need-answer-in-requires
+answer-in-requires c κs = search needs
 
-slice-aggregate-accepted-line : tie.Need-slice-aggregate-accepted-line
-slice-aggregate-accepted-line c = search needs
+enum-known-answer : tie.Need-enum-known-answer
+enum-known-answer c = search needs
 
-accepted-line-requires : tie.Need-accepted-line-requires
-unfolding CheckedIs
-accepted-line-requires c κs = (c .before .before .before .before .before .before .before .before .before .before .pre, told _ _ (c .before .before .before .before .before .check-in .ensures) (c .before .before .enum-told .given .1))
-
-enum-known-checked : tie.Need-enum-known-checked
-enum-known-checked c = search needs
+enum-known-answer-2 : tie.Need-enum-known-answer-2
+enum-known-answer-2 c = search needs
 
 put-refused-requires : tie.Need-put-refused-requires
-unfolding CheckedIs
-put-refused-requires c κs = (c .before .before .before .before .before .before .before .before .before .before .pre, refusal-short (now (c .before .before .before .before .before .before .before .before .before .before .args .bytes)) _ _ (omega (arith, c .before .before .before .before .before .before .before .before .before .shared-slice-known .given 0)) (told _ _ (c .before .before .before .before .before .check-in .ensures) (c .before .before .checked .given .1)))
-
-enum-told-2 : tie.Need-enum-told-2
-enum-told-2 c = search needs
-
-large-line-requires : tie.Need-large-line-requires
-large-line-requires c κs = search needs
+unfolding Owed
+put-refused-requires c κs = let (refuses, same) = line-refusal (now (c .before .before .before .before .before .before .before .before .before .before .before .args .bytes)) (c .before .before .before .before .before .before .before .before .before .before .before .pre) (c .before .before .before .before .before .before .answer-in .ensures .owed) (c .before .before .answer2 .given .1) in (omega (arith, c .before .before .before .before .before .before .before .before .before .before .before .pre, c .before .before .before .before .before .before .answer-in .kept .1 .1 .1 .1 .1 .0), refusal-short (now (c .before .before .before .before .before .before .before .before .before .before .before .args .bytes)) _ _ (omega (arith, c .before .before .before .before .before .before .before .before .before .before .shared-slice-known .given 0)) refuses)
 
 same-length : tie.Need-same-length
 same-length c = search needs
 
 returns : tie.Need-returns
-returns c = let done = puts-start (c .before .before .accepted-line .ensures .0) (omega (arith, c .before .before .accepted-line .ensures .1, c .before .before .before .before .before .before .before .before .before .before .before .before .before .pre)) in (done .0, (done .1, c .before .before .accepted-line .ensures .1))
+unfolding Owed
+returns c = line-result (now (c .before .before .before .before .before .before .before .before .before .before .args .bytes)) (c .before .before .before .before .before .before .before .before .before .before .pre) (c .before .before .before .before .before .answer-in .ensures .owed) (c .before .answer .given .1)
 
 same-length-2 : tie.Need-same-length-2
 same-length-2 c = search needs
 
 returns-2 : tie.Need-returns-2
-unfolding CheckedIs
-returns-2 c = let done = puts-start (puts-as (refused-line (now (c .before .before .before .before .before .before .before .before .before .before .before .before .before .args .bytes)) _ _ (told _ _ (c .before .before .before .before .before .before .before .before .check-in .ensures) (c .before .before .before .before .before .checked .given .1))) (c .before .before .put-refused .ensures .0)) (omega (arith, c .before .before .put-refused .ensures .1, c .before .before .before .before .before .before .before .before .before .before .before .before .before .pre)) in (done .0, (done .1, c .before .before .put-refused .ensures .1))
-
-same-length-3 : tie.Need-same-length-3
-same-length-3 c = search needs
-
-returns-3 : tie.Need-returns-3
-returns-3 c = let done = puts-start (c .before .before .large-line .ensures .0) (omega (arith, c .before .before .large-line .ensures .1, c .before .before .before .before .before .before .before .before .before .before .before .before .pre)) in (done .0, (done .1, c .before .before .large-line .ensures .1))
+unfolding Owed
+returns-2 c = 
+    let (refuses, same) = line-refusal (now (c .before .before .before .before .before .before .before .before .before .before .before .before .before .before .args .bytes)) (c .before .before .before .before .before .before .before .before .before .before .before .before .before .before .pre) (c .before .before .before .before .before .before .before .before .before .answer-in .ensures .owed) (c .before .before .before .before .before .answer2 .given .1) in
+    let put = puts-as (refused-line (now (c .before .before .before .before .before .before .before .before .before .before .before .before .before .before .args .bytes)) _ _ refuses) (c .before .before .put-refused .ensures .0) in
+    let (after, length) = puts-start (rw same at put) (omega (arith, c .before .before .put-refused .ensures .1, c .before .before .before .before .before .before .before .before .before .before .before .before .before .before .pre)) in
+    (after, (length, c .before .before .put-refused .ensures .1))
 
 pub lenscheck-line-spec : {M : Type 1} → statement M
 lenscheck-line-spec =
     tie.close
     (tie.spec
-    some-room-requires
-    slice-aggregate-check-in
-    check-in-requires
-    enum-told
-    slice-aggregate-accepted-line
-    accepted-line-requires
-    enum-known-checked
+    sub-none
+    part-none-start
+    part-none-end
+    answer-in-requires
+    enum-known-answer
+    enum-known-answer-2
     put-refused-requires
-    enum-told-2
-    large-line-requires
     same-length
     returns
     same-length-2
-    returns-2
-    same-length-3
-    returns-3)
+    returns-2)

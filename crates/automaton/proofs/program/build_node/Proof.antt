@@ -1,6 +1,7 @@
 -- `automaton::program::build_node` meets its contract. Assumes nothing.
 use denote.Ref.{now}
 use mathlib.Core.Path.{sym, _∙_}
+use mathlib.Core.Bool.{true≢false}
 use Rattle.automaton.specs.declared.Side.the-variants.{Sheet}
 use Rattle.automaton.specs.Program.{Turn}
 use Rattle.automaton.proofs.Turns.{pattern-shape, same-ready, same-next}
@@ -27,7 +28,7 @@ returns : tie.Need-returns
 returns c = let turn : Turn (now (c .before .before .before .before .before .before .before .before .before .before .before .before .before .before .args .bytes)) (c .before .before .before .before .before .before .before .before .before .before .before .before .before .before .args .k) Sheet (c .before .before .before .before .before .before .before .before .build-side .result) (c .before .before .before .before .before .before .before .before .build-side .last .1 .0) = record { inside = c .before .before .before .before .before .before .before .before .before .before .before .before .before .before .pre .inside; up-to = c .before .before .before .before .before .before .before .before .build-side .ensures } in same-next turn (pattern-shape (now (c .before .before .before .before .before .before .before .before .before .before .before .before .before .before .args .bytes)) (c .before .before .before .before .before .before .before .before .before .before .before .before .before .before .args .k) _ (c .before .before .before .before .before .before .before .before .before .before .node .ensures .shows) (sym (c .before .before .before .before .before .is-pattern .ensures) ∙ c .before .before .before .before .if1 .taken)) (c .before .before .same-as .ensures)
 
 build-side-requires-2 : tie.Need-build-side-requires-2
-build-side-requires-2 c κs = search needs
+build-side-requires-2 c κs = (record { inside = c .before .before .before .before .before .before .before .before .before .before .before .pre .inside; up-to = c .before .before .before .before .before .build-side .ensures }, (c .before .before .before .before .before .before .before .node .ensures .shows, record { own = λ e. absurd (true≢false (sym (c .before .before .is-pattern .ensures ∙ e) ∙ c .before .if1 .left)) }))
 
 same-length-2 : tie.Need-same-length-2
 same-length-2 c = search needs

@@ -24,14 +24,11 @@ loop-holds : tie.Need-loop-holds Inv-loop μ-loop
 unfolding rowsBelow
 loop-holds c = (omega arith, refl)
 
-node-requires : tie.Need-node-requires Inv-loop μ-loop
-node-requires c κs = (c .before .before .before .before .before .pre, omega (arith, c .before .before .node-count .ensures, c .loop-test .taken))
+rows-of-requires : tie.Need-rows-of-requires Inv-loop μ-loop
+rows-of-requires c κs = (c .before .before .before .before .before .pre, omega (arith, c .before .before .node-count .ensures, c .loop-test .taken))
 
 add-rows : tie.Need-add-rows Inv-loop μ-loop
-add-rows c = omega (arith, rows-one-more (c .before .node .ensures), rows-limit (c .before .before .before .before .before .before .before .pre) (c .before .before .before .loop .k + 1) (omega (arith, c .before .before .before .before .node-count .ensures, c .before .before .loop-test .taken)), c .before .before .before .loop .inv .1)
-
-add-rows-2 : tie.Need-add-rows-2 Inv-loop μ-loop
-add-rows-2 c = omega (arith, rows-one-more (c .before .node .ensures), rows-limit (c .before .before .before .before .before .before .before .pre) (c .before .before .before .loop .k + 1) (omega (arith, c .before .before .before .before .node-count .ensures, c .before .before .loop-test .taken)), c .before .before .before .loop .inv .1)
+add-rows c = omega (arith, rows-one-more (now (c .before .before .before .before .before .before .args .bytes)) (c .before .before .loop .k), rows-limit (c .before .before .before .before .before .before .pre) (c .before .before .loop .k + 1) (omega (arith, c .before .before .before .node-count .ensures, c .before .loop-test .taken)), c .before .before .loop .inv .1, c .rows-of .ensures)
 
 add-k : tie.Need-add-k Inv-loop μ-loop
 add-k c = search needs
@@ -40,7 +37,7 @@ loop-less : tie.Need-loop-less Inv-loop μ-loop
 loop-less c = search needs
 
 loop-again : tie.Need-loop-again Inv-loop μ-loop
-loop-again c = (omega arith, omega (arith, rows-one-more (c .before .node .ensures), c .before .before .before .loop .inv .1))
+loop-again c = (omega arith, omega (arith, rows-one-more (now (c .before .before .before .before .before .before .args .bytes)) (c .before .before .loop .k), c .before .before .loop .inv .1, c .rows-of .ensures))
 
 returns : tie.Need-returns Inv-loop μ-loop
 unfolding rowsNeeded
@@ -54,9 +51,8 @@ rows-needed-spec =
     μ-loop
     node-count-requires
     loop-holds
-    node-requires
+    rows-of-requires
     add-rows
-    add-rows-2
     add-k
     loop-less
     loop-again

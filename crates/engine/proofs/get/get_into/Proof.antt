@@ -4,7 +4,7 @@ use native.Mathlib.Omega.{arith}
 use denote.Ref.{now}
 use Rattle.semantics.specs.Lens.{get}
 use Rattle.lens.specs.Reading.{reading}
-use Rattle.engine.proofs.Giving.{root-at, root-node, counted}
+use Rattle.answers.proofs.Giving.{root-at, root-node, counted}
 use Rattle.engine.proofs.get.get_into.Statement.{statement}
 use Rattle.engine.proofs.get.get_into.Tie as tie
 

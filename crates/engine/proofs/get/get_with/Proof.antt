@@ -6,7 +6,7 @@ use mathlib.Core.Path.{_∙_}
 use lib.ListN.{length-take}
 use Rattle.semantics.specs.Calls.{getCall}
 use Rattle.automaton.specs.Rows.{sideOf}
-use Rattle.engine.proofs.Giving.{program-gives, refused, passed, too-long, not-too-long, not-of}
+use Rattle.answers.proofs.Giving.{program-gives, refused, passed, too-long, not-too-long, not-of}
 use Rattle.engine.proofs.get.get_with.Statement.{statement}
 use Rattle.engine.proofs.get.get_with.Tie as tie
 

@@ -1,13 +1,13 @@
 -- `engine::put::entries_of` meets its contract: the root lists into an empty book. Assumes nothing.
 use borrow.Author.Needs.{needs}
-use Rattle.engine.proofs.Giving.{root-node}
+use Rattle.answers.proofs.Giving.{root-node}
 use Rattle.engine.proofs.Sourcing.{to-list, lists-root}
 use Rattle.engine.proofs.put.entries_of.Statement.{statement}
 use Rattle.engine.proofs.put.entries_of.Tie as tie
 use Rattle.engine.proofs.put.entries_of.Reads as reads
 use Rattle.engine.proofs.put.entries_of.Lts as lts
-use Rattle.engine.proofs.results.no_flags.Reads as no-flags-reads
-use Rattle.engine.proofs.results.root_of.Reads as root-of-reads
+use Rattle.answers.proofs.results.no_flags.Reads as no-flags-reads
+use Rattle.answers.proofs.results.root_of.Reads as root-of-reads
 use Rattle.books.proofs.Book.empty.Reads as empty-reads
 use Rattle.books.proofs.list.list.Reads as list-reads
 

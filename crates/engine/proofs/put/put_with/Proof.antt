@@ -6,7 +6,7 @@ use mathlib.Core.Path.{sym, _∙_}
 use lib.ListN.{length-take}
 use Rattle.semantics.specs.Calls.{putCall}
 use Rattle.automaton.specs.Rows.{sideOf}
-use Rattle.engine.proofs.Giving.{program-gives, refused, passed, not-of}
+use Rattle.answers.proofs.Giving.{program-gives, refused, passed, not-of}
 use Rattle.engine.proofs.Sourcing.{first-long, second-long, neither-long}
 use Rattle.engine.proofs.put.put_with.Statement.{statement}
 use Rattle.engine.proofs.put.put_with.Tie as tie

@@ -12,7 +12,7 @@ use Rattle.books.specs.Looking.{oldText}
 use Rattle.writer.specs.Writing.{Lent}
 use Rattle.writer.proofs.Stepping.{inside-at, inside-none}
 use Rattle.writer.proofs.Behind.{progress-within, node-within, behind-full, behind-next, behind-within}
-use Rattle.writer.proofs.Below.{ready-left, ready-below, ready-after, lent-below, lent-behind, part-short, rest-size, rest-back}
+use Rattle.writer.proofs.Below.{ready-left, ready-below, ready-after, lent-below, lent-behind, part-short, rest-size, rest-back, repeat-room}
 use Rattle.writer.proofs.ByKind.{default-below, leaf-writes, join-writes, match-writes, halves-write, arm-chosen, looked-up-key, found-writes}
 use Rattle.writer.proofs.Parts.{Parting, span-inside, span-reaches, between-inside, parting-begins, parting-next, parting-ends}
 use borrow.Fn.Kinds.{In}
@@ -572,7 +572,7 @@ write-node-returns-5 t c =
 
 abbrev write-parts-Inv-loop : write-parts-lts.InvT-loop
 write-parts-Inv-loop bytes prepared node child new deck pad₀ out₀ start end text mid free done₀ o₀ p₀ pad out done o p =
-    Parting bytes child deck text new (done₀ .book) out₀ pad out done o p × (Lent node new pad × ((length pad ≡ length pad₀) × (length out ≡ length out₀)))
+    Parting bytes child deck text new (done₀ .book) out₀ pad out done o p × (Lent bytes node new pad × ((length pad ≡ length pad₀) × (length out ≡ length out₀)))
 
 abbrev write-parts-μ-loop : write-parts-lts.MeasureT-loop
 write-parts-μ-loop bytes prepared node child new deck pad₀ out₀ start end text mid free done₀ o₀ p₀ pad out done o p =
@@ -621,28 +621,28 @@ write-parts-flag-ends-requires : (t : ℕ) → write-parts-lts.Need-flag-ends-re
 write-parts-flag-ends-requires t c κs =
     let start = c .before .before .before .before .before .before .before .before .before in
     let lent = start .pre .1 .1 .0 in
-    (node-prepared (start .pre .1 .0 .0 .lens-node) Sheet, omega (arith, lent .new-short, lent .pad-room))
+    (node-prepared (start .pre .1 .0 .0 .lens-node) Sheet, omega (arith, lent .new-short, repeat-room lent (start .pre .1 .0 .1)))
 
 write-parts-sub-flag-ends : (t : ℕ) → write-parts-lts.Need-sub-flag-ends (write-parts-calls t) (write-parts-at t) write-parts.Post write-parts-Inv-loop write-parts-μ-loop
 write-parts-sub-flag-ends t c =
     let at-flag-ends = c .before .before in
     let start = at-flag-ends .before .before .before .before .before .before .before .before .before .before in
     let lent = start .pre .1 .1 .0 in
-    omega (arith, lent .new-short, lent .pad-room, at-flag-ends .flag-ends .kept .1 .1 .1 .1 .0)
+    omega (arith, lent .new-short, repeat-room lent (start .pre .1 .0 .1), at-flag-ends .flag-ends .kept .1 .1 .1 .1 .0)
 
 write-parts-part-flag-ends-start : (t : ℕ) → write-parts-lts.Need-part-flag-ends-start (write-parts-calls t) (write-parts-at t) write-parts.Post write-parts-Inv-loop write-parts-μ-loop
 write-parts-part-flag-ends-start t c =
     let at-flag-ends = c .before .before in
     let start = at-flag-ends .before .before .before .before .before .before .before .before .before .before in
     let lent = start .pre .1 .1 .0 in
-    omega (arith, lent .new-short, lent .pad-room, at-flag-ends .flag-ends .kept .1 .1 .1 .1 .0)
+    omega (arith, lent .new-short, repeat-room lent (start .pre .1 .0 .1), at-flag-ends .flag-ends .kept .1 .1 .1 .1 .0)
 
 write-parts-part-flag-ends-end : (t : ℕ) → write-parts-lts.Need-part-flag-ends-end (write-parts-calls t) (write-parts-at t) write-parts.Post write-parts-Inv-loop write-parts-μ-loop
 write-parts-part-flag-ends-end t c =
     let at-flag-ends = c .before .before in
     let start = at-flag-ends .before .before .before .before .before .before .before .before .before .before in
     let lent = start .pre .1 .1 .0 in
-    omega (arith, lent .new-short, lent .pad-room, at-flag-ends .flag-ends .kept .1 .1 .1 .1 .0)
+    omega (arith, lent .new-short, repeat-room lent (start .pre .1 .0 .1), at-flag-ends .flag-ends .kept .1 .1 .1 .1 .0)
 
 write-parts-flag-ends-requires-2 : (t : ℕ) → write-parts-lts.Need-flag-ends-requires-2 (write-parts-calls t) (write-parts-at t) write-parts.Post write-parts-Inv-loop write-parts-μ-loop
 write-parts-flag-ends-requires-2 t c κs =
@@ -651,7 +651,7 @@ write-parts-flag-ends-requires-2 t c κs =
     let start = at-span-of .before .before .before .before .before .before .before in
     let lent = start .pre .1 .1 .0 in
     let reaches = span-reaches (start .args .deck .now) (start .pre .1 .1 .1) (at-span-of .span-of .ensures) in
-    (node-prepared (start .pre .1 .0 .0 .lens-node) Source, omega (arith, lent .new-short, lent .pad-room, at-flag-ends .flag-ends .kept .1 .1 .1 .1 .0, reaches, rest-size (at-flag-ends .flag-ends .last .1 .1 .1 .1 .0) (length (start .args .new .now) + 1)))
+    (node-prepared (start .pre .1 .0 .0 .lens-node) Source, omega (arith, lent .new-short, repeat-room lent (start .pre .1 .0 .1), at-flag-ends .flag-ends .kept .1 .1 .1 .1 .0, reaches, rest-size (at-flag-ends .flag-ends .last .1 .1 .1 .1 .0) (length (start .args .new .now) + 1)))
 
 write-parts-loop-holds : (t : ℕ) → write-parts-lts.Need-loop-holds (write-parts-calls t) (write-parts-at t) write-parts.Post write-parts-Inv-loop write-parts-μ-loop
 write-parts-loop-holds t c =
@@ -660,7 +660,7 @@ write-parts-loop-holds t c =
     let start = at-flag-ends .before .before .before .before .before .before .before .before .before .before in
     let (ready, one) = start .pre .1 .0 in
     let lent = start .pre .1 .1 .0 in
-    let room : length (start .args .new .now) + 1 ≤ length (at-flag-ends .flag-ends .last .1 .1 .1 .1 .0) = omega (arith, lent .new-short, lent .pad-room, at-flag-ends .flag-ends .kept .1 .1 .1 .1 .0) in
+    let room : length (start .args .new .now) + 1 ≤ length (at-flag-ends .flag-ends .last .1 .1 .1 .1 .0) = omega (arith, lent .new-short, repeat-room lent (start .pre .1 .0 .1), at-flag-ends .flag-ends .kept .1 .1 .1 .1 .0) in
     let same-pad = rest-back (at-flag-ends .flag-ends .last .1 .1 .1 .1 .0) (at-flag-ends2 .flag-ends2 .last .1 .1 .1 .1 .0) (length (start .args .new .now) + 1) room (at-flag-ends2 .flag-ends2 .kept .1 .1 .1 .1 .0) ∙ at-flag-ends .flag-ends .kept .1 .1 .1 .1 .0 in
     let parting = parting-begins (start .args .out .now) (ready .lens-node) one (ready .over) (at-flag-ends .flag-ends .ensures) (at-flag-ends2 .flag-ends2 .ensures) room in
     (parting, (lent-below lent (le-refl _) (le-refl _) same-pad, (refl, refl)))
@@ -671,7 +671,7 @@ write-parts-part-end-requires t c κs =
     let start = at-loop .before .before .before .before .before .before .before .before .before .before .before .before .before .before .before .before .before in
     let child = child-below (start .pre .1 .0 .0 .lens-node) (start .pre .1 .0 .1) in
     let (parting, (lent, lengths)) = at-loop .loop .inv in
-    (node-prepared child Sheet, (parting .o-within, omega (arith, lent .new-short, lent .pad-room)))
+    (node-prepared child Sheet, (parting .o-within, omega (arith, lent .new-short, repeat-room lent (start .pre .1 .0 .1))))
 
 write-parts-sub-part-end : (t : ℕ) → write-parts-lts.Need-sub-part-end (write-parts-calls t) (write-parts-at t) write-parts.Post write-parts-Inv-loop write-parts-μ-loop
 write-parts-sub-part-end t c =
@@ -699,7 +699,7 @@ write-parts-part-end-requires-2 t c κs =
     let child = child-below (start .pre .1 .0 .0 .lens-node) (start .pre .1 .0 .1) in
     let (parting, (lent, lengths)) = at-loop .loop .inv in
     let reaches = span-reaches (start .args .deck .now) (start .pre .1 .1 .1) (at-span-of .span-of .ensures) in
-    (node-prepared child Source, (parting .p-within, omega (arith, lent .new-short, lent .pad-room, reaches, rest-size (at-loop .loop .pad) (length (start .args .new .now) + 1))))
+    (node-prepared child Source, (parting .p-within, omega (arith, lent .new-short, repeat-room lent (start .pre .1 .0 .1), reaches, rest-size (at-loop .loop .pad) (length (start .args .new .now) + 1))))
 
 write-parts-sub-piece : (t : ℕ) → write-parts-lts.Need-sub-piece (write-parts-calls t) (write-parts-at t) write-parts.Post write-parts-Inv-loop write-parts-μ-loop
 write-parts-sub-piece t c =
@@ -742,7 +742,7 @@ write-parts-sub-rest t c =
     let start = at-span-of .before .before .before .before .before .before .before in
     let lent = at-loop .loop .inv .1 .0 in
     let reaches = span-reaches (start .args .deck .now) (start .pre .1 .1 .1) (at-span-of .span-of .ensures) in
-    omega (arith, lent .new-short, lent .pad-room, reaches)
+    omega (arith, lent .new-short, repeat-room lent (start .pre .1 .0 .1), reaches)
 
 write-parts-part-rest-start : (t : ℕ) → write-parts-lts.Need-part-rest-start (write-parts-calls t) (write-parts-at t) write-parts.Post write-parts-Inv-loop write-parts-μ-loop
 write-parts-part-rest-start t c =
@@ -751,7 +751,7 @@ write-parts-part-rest-start t c =
     let start = at-span-of .before .before .before .before .before .before .before in
     let lent = at-loop .loop .inv .1 .0 in
     let reaches = span-reaches (start .args .deck .now) (start .pre .1 .1 .1) (at-span-of .span-of .ensures) in
-    omega (arith, lent .new-short, lent .pad-room, reaches)
+    omega (arith, lent .new-short, repeat-room lent (start .pre .1 .0 .1), reaches)
 
 write-parts-part-rest-end : (t : ℕ) → write-parts-lts.Need-part-rest-end (write-parts-calls t) (write-parts-at t) write-parts.Post write-parts-Inv-loop write-parts-μ-loop
 write-parts-part-rest-end t c =
@@ -760,7 +760,7 @@ write-parts-part-rest-end t c =
     let start = at-span-of .before .before .before .before .before .before .before in
     let lent = at-loop .loop .inv .1 .0 in
     let reaches = span-reaches (start .args .deck .now) (start .pre .1 .1 .1) (at-span-of .span-of .ensures) in
-    omega (arith, lent .new-short, lent .pad-room, reaches)
+    omega (arith, lent .new-short, repeat-room lent (start .pre .1 .0 .1), reaches)
 
 write-parts-write-behind-requires : (t : ℕ) → write-parts-lts.Need-write-behind-requires (write-parts-calls t) (write-parts-at t) write-parts.Post write-parts-Inv-loop write-parts-μ-loop
 write-parts-write-behind-requires t c κs =
@@ -777,7 +777,7 @@ write-parts-write-behind-requires t c κs =
     let reaches = span-reaches (start .args .deck .now) (start .pre .1 .1 .1) (at-span-of .span-of .ensures) in
     let short = part-short (at-part-end .part-end .result - at-loop .loop .o) (at-loop .loop .o) (start .args .new .now) in
     let inside = between-inside (at-span-of .span-of .result .start + at-loop .loop .p) (at-span-of .span-of .result .start + at-part-end2 .part-end2 .result) (omega (arith, at-part-end2 .part-end2 .ensures .within, reaches)) in
-    (omega (arith, start .pre .0), (ready-after ready child progress, ((lent-behind lent (one .lower) short (omega (arith, lent .new-short, reaches)) (rest-size (at-loop .loop .pad) _), rw (at-old-between .old-between .ensures) inside), progress-within progress)))
+    (omega (arith, start .pre .0), (ready-after ready child progress, ((lent-behind lent one short (omega (arith, lent .new-short, reaches)) (rest-size (at-loop .loop .pad) _), rw (at-old-between .old-between .ensures) inside), progress-within progress)))
 
 write-parts-loop-less : (t : ℕ) → write-parts-lts.Need-loop-less (write-parts-calls t) (write-parts-at t) write-parts.Post write-parts-Inv-loop write-parts-μ-loop
 write-parts-loop-less t c =
@@ -800,7 +800,7 @@ write-parts-loop-again t c =
     let reaches = span-reaches (start .args .deck .now) (start .pre .1 .1 .1) (at-span-of .span-of .ensures) in
     let span = at-span-of .span-of .result in
     let text = take (span .end - span .start) (drop (span .start) (start .args .deck .now)) in
-    let room : length (start .args .new .now) + 1 + length text + 1 ≤ length (at-loop .loop .pad) = omega (arith, lent .new-short, lent .pad-room, reaches) in
+    let room : length (start .args .new .now) + 1 + length text + 1 ≤ length (at-loop .loop .pad) = omega (arith, lent .new-short, repeat-room lent (start .pre .1 .0 .1), reaches) in
     let same-pad = rest-back (at-loop .loop .pad) (at-write-behind .write-behind .last .1 .1 .1 .1 .1 .1 .1 .0) _ room (at-write-behind .write-behind .kept .1 .1 .1 .1 .1 .1 .1 .0) in
     let wrote = rw (at-old-between .old-between .ensures) at (at-write-behind .write-behind .ensures) in
     let parting = parting-next (span .start) (span .end) child (omega (arith, span-inside (start .pre .1 .1 .1) (at-span-of .span-of .ensures), start .pre .1 .0 .0 .deck-size)) (at-loop .loop .inv .0) (at-loop-test .loop-test .taken) (at-part-end .part-end .ensures) (at-part-end2 .part-end2 .ensures) wrote _ room in
@@ -813,7 +813,7 @@ write-parts-same-length t c =
     let at-flag-ends = at-flag-ends2 .before .before .before .before in
     let start = at-flag-ends .before .before .before .before .before .before .before .before .before .before in
     let lent = start .pre .1 .1 .0 in
-    let room : length (start .args .new .now) + 1 ≤ length (at-flag-ends .flag-ends .last .1 .1 .1 .1 .0) = omega (arith, lent .new-short, lent .pad-room, at-flag-ends .flag-ends .kept .1 .1 .1 .1 .0) in
+    let room : length (start .args .new .now) + 1 ≤ length (at-flag-ends .flag-ends .last .1 .1 .1 .1 .0) = omega (arith, lent .new-short, repeat-room lent (start .pre .1 .0 .1), at-flag-ends .flag-ends .kept .1 .1 .1 .1 .0) in
     let same-pad = rest-back (at-flag-ends .flag-ends .last .1 .1 .1 .1 .0) (at-flag-ends2 .flag-ends2 .last .1 .1 .1 .1 .0) (length (start .args .new .now) + 1) room (at-flag-ends2 .flag-ends2 .kept .1 .1 .1 .1 .0) ∙ at-flag-ends .flag-ends .kept .1 .1 .1 .1 .0 in
     at-loop .loop .inv .1 .1 .0 ∙ same-pad
 

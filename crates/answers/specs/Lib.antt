@@ -1,0 +1,3 @@
+-- What a call answers, in terms of the definitions of the calls.
+pub mod Answers
+pub mod Results

@@ -1,0 +1,46 @@
+-- What the calls that give a text have in common: the text is made in a slice of the call's own, and then copied out.
+use mathlib.Core.Path.{_≡_}
+use mathlib.Core.Bool.{Bool}
+use Prim.Native.Nat.{ℕ, _≤_, min}
+use lib.ListN.{length}
+use Rattle.semantics.specs.Text.{Text}
+use Rattle.semantics.specs.Pattern.{matches}
+use Rattle.semantics.specs.Lens.{Lens, language}
+use Rattle.semantics.specs.Calls.{gives, program, maxText, output, bufferAfter}
+use Rattle.semantics.specs.Calls.{Answer as Outcome}
+use Rattle.automaton.specs.declared.Side.{Side}
+use Rattle.automaton.specs.Rows.{sideOf}
+use Rattle.lens.specs.declared.Wrote.{Wrote}
+use Rattle.lens.specs.declared.Wrote.the-variants.{Count}
+use Rattle.lens.specs.Overlay.{Writes}
+use Rattle.answers.specs.declared.Answer.{Answer}
+use Rattle.answers.specs.Answers.{answerFor}
+
+-- The answer and the buffer afterwards are those of the outcome.
+pub record GivesText (outcome : Outcome Text) (before after : Text) (answer : Answer) : Type 0 where
+  pub answer-is : answer ≡ answerFor length outcome
+  pub buffer-is : after ≡ bufferAfter outcome before
+
+-- The bytes that were counted are in the slice.
+pub record Counted (wrote : Wrote) (result : Text) : Type 0 where
+  pub within : (n : ℕ) → wrote ≡ Count n → n ≤ length result
+
+-- Whatever text was written into the slice, a slice as long as a result may be, it is given or refused as document 01 says.
+pub record Finishes (wrote : Wrote) (result before after : Text) (answer : Answer) : Type 0 where
+  pub finishes :
+      (text start : Text)
+      → length result ≡ min (length before) maxText
+      → Writes text start result wrote
+      → GivesText (output (length before) text) before after answer
+
+-- It tells whether the text belongs to the root's language on that side.
+pub record Decides (bytes : Text) (side : Side) (text : Text) (answer : Bool) : Type 0 where
+  pub decides : (l : Lens) → program bytes ≡ gives l → answer ≡ matches (language (sideOf side) l) text
+
+-- What the root makes is written into a slice.
+pub record Makes (bytes : Text) (make : Lens → Text) (before after : Text) (wrote : Wrote) : Type 0 where
+  pub makes : (l : Lens) → program bytes ≡ gives l → Writes (make l) before after wrote
+
+-- What the root makes is given, or refused for its length.
+pub record GivesMade (bytes : Text) (make : Lens → Text) (before after : Text) (answer : Answer) : Type 0 where
+  pub gives-made : (l : Lens) → program bytes ≡ gives l → GivesText (output (length before) (make l)) before after answer

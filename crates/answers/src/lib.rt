@@ -1,0 +1,61 @@
+// What every call does: it checks the program in a lent slice, asks the root's languages, and answers a result with its length, or a refusal.
+use automaton::program::build_all;
+use automaton::program::rows_needed;
+use table::Table;
+use table::TableAnswer;
+use typing::round::TypingAnswer;
+use typing::round::second_round;
+ghost use mathlib.Core.Path.{_≡_};
+ghost use mathlib.Core.Option.{none};
+ghost use Prim.Native.Nat.{_≤_};
+ghost use lib.ListN.{length};
+ghost use Rattle.semantics.specs.Table.{firstThatHolds};
+ghost use Rattle.table.specs.Prepared.{tableLines};
+ghost use Rattle.table.specs.Rules.{AllSized};
+ghost use Rattle.answers.specs.Answers.{CheckedIs};
+
+pub mod results;
+
+// A result with its length, or a refusal with its number and node.
+pub enum Answer {
+    Result { length: usize },
+    Refusal { number: usize, node: usize },
+}
+
+// What checking a program in a lent slice came to.
+pub enum Checked {
+    Accepted,
+    Refused { number: usize, node: usize },
+    // the slice has no room for the program's automata
+    Small,
+}
+
+// Checks a program, and prepares it in the slice that is lent.
+pub fn check_in(bytes: &[u8], prepared: &mut [u64]) -> Checked
+    requires { ⌜ 1536 ≤ length (now prepared) ⌝ }
+    ensures { λ r. ⌜ CheckedIs (now (bytes .entry)) r (now (prepared .exit)) ⌝ }
+{
+    let read = Table::read(bytes, prepared);
+    match read {
+        TableAnswer::Refused { number, node } => Checked::Refused { number, node },
+        TableAnswer::Ready(_) => build_in(bytes, prepared),
+    }
+}
+
+// The automata and the second round, of a table whose first round passed.
+fn build_in(bytes: &[u8], prepared: &mut [u64]) -> Checked
+    requires { ⌜ AllSized (now bytes) (now prepared) ⌝ }
+    requires { ⌜ firstThatHolds (tableLines (now bytes)) ≡ none ⌝ }
+    ensures { λ r. ⌜ CheckedIs (now (bytes .entry)) r (now (prepared .exit)) ⌝ }
+{
+    let rows = rows_needed(bytes, prepared);
+    if prepared.len() < 1536 + 6 * rows {
+        return Checked::Small;
+    }
+    build_all(bytes, prepared);
+    let typed = second_round(bytes, prepared);
+    match typed {
+        TypingAnswer::Typed => Checked::Accepted,
+        TypingAnswer::Refused { number, node } => Checked::Refused { number, node },
+    }
+}

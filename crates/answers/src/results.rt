@@ -1,0 +1,88 @@
+// What the calls that give a text have in common: the root's languages, the room for a result, and the copy into the output buffer.
+use crate::Answer;
+use automaton::Side;
+use automaton::automaton_of;
+use language::belongs;
+use lens::Wrote;
+use lens::texts::write_text;
+use table::parts::node_count;
+ghost use mathlib.Core.Path.{_≡_};
+ghost use Prim.Native.Nat.{_-_, min};
+ghost use lib.ListN.{length};
+ghost use Rattle.semantics.specs.Table.{nodeCount};
+ghost use Rattle.semantics.specs.Calls.{output};
+ghost use Rattle.answers.specs.declared.Answer.the-variants.{Refusal};
+ghost use Rattle.answers.specs.Answers.{IsAccepted, Ready};
+ghost use Rattle.answers.specs.Results.{GivesText, Counted, Finishes, Decides};
+
+// The root is the last node.
+pub fn root_of(bytes: &[u8]) -> usize
+    requires { ⌜ IsAccepted (now bytes) ⌝ }
+    ensures { λ r. ⌜ r ≡ nodeCount (now (bytes .entry)) - 1 ⌝ }
+{
+    node_count(bytes) - 1
+}
+
+// Whether a text belongs to the root's language on a side.
+pub fn belongs_to_root(bytes: &[u8], prepared: &[u64], side: Side, text: &[u8]) -> bool
+    requires { ⌜ Ready (now bytes) (now prepared) ⌝ }
+    ensures { λ r. ⌜ Decides (now (bytes .entry)) side (now (text .entry)) r ⌝ }
+{
+    let root = root_of(bytes);
+    let a = automaton_of(prepared, root, side);
+    belongs(prepared, a, text)
+}
+
+// How long a result may be: no longer than the buffer that is lent, and no longer than 4,096.
+pub fn room_in(lent: usize) -> usize
+    ensures { λ r. ⌜ r ≡ min lent 4096 ⌝ }
+{
+    if lent < 4096 { lent } else { 4096 }
+}
+
+// Room for a result of the call's own.
+pub fn no_text() -> [u8; 4096]
+    ensures { λ r. ⌜ 4096 ≡ length r ⌝ }
+{
+    [0u8; 4096]
+}
+
+// Room for the flags of a text.
+pub fn no_flags() -> [u8; 4097]
+    ensures { λ r. ⌜ 4097 ≡ length r ⌝ }
+{
+    [0u8; 4097]
+}
+
+// A refusal that concerns no node: that of a text, of its entries or of a result.
+pub fn refuse(number: usize) -> Answer
+    ensures { λ r. ⌜ r ≡ Refusal number 0 ⌝ }
+{
+    Answer::Refusal { number, node: 0 }
+}
+
+// A result that had room is copied to the start of the output buffer; one that had not leaves it as it is.
+pub fn finish(wrote: Wrote, result: &[u8], out: &mut [u8]) -> Answer
+    requires { ⌜ Counted wrote (now result) ⌝ }
+    ensures { λ r. ⌜ Finishes wrote (now (result .entry)) (now (out .entry)) (now (out .exit)) r ⌝ }
+{
+    match wrote {
+        Wrote::Full => refuse(16),
+        Wrote::Count(length) => {
+            write_text(&result[0..length], out);
+            Answer::Result { length }
+        }
+    }
+}
+
+// A text is copied to the start of the output buffer if it may be so long; if not, the buffer stays as it is.
+pub fn give(text: &[u8], out: &mut [u8]) -> Answer
+    ensures { λ r. ⌜ GivesText (output (length (now (out .entry))) (now (text .entry))) (now (out .entry)) (now (out .exit)) r ⌝ }
+{
+    let length = text.len();
+    if room_in(out.len()) < length {
+        return refuse(16);
+    }
+    write_text(text, out);
+    Answer::Result { length }
+}

@@ -1,0 +1,53 @@
+-- What each call owes, and what came of it in a room.
+use mathlib.Core.Path.{_≡_}
+use Prim.Native.Nat.{ℕ}
+use lib.ListN.{length}
+use Rattle.semantics.specs.Text.{Text}
+use Rattle.semantics.specs.Calls.{checkCall, getCall, putCall, createCall}
+use Rattle.answers.specs.declared.Answer.{Answer}
+use Rattle.answers.specs.Answers.{answerFor, TooSmall}
+use Rattle.answers.specs.Results.{GivesText}
+use Rattle.engine.specs.declared.rooms.Call.{Call}
+use Rattle.engine.specs.declared.rooms.Call.the-variants.{Check, Get, Put, Create, Line}
+use Rattle.engine.specs.declared.rooms.Room.{Room}
+use Rattle.engine.specs.declared.rooms.Room.the-variants.{Small, Middle, Full}
+use Rattle.engine.specs.declared.rooms.Tried.{Tried}
+use Rattle.engine.specs.declared.rooms.Tried.the-variants.{Done}
+use Rattle.engine.specs.declared.rooms.Tried.the-variants as T
+use Rattle.engine.specs.Line.{lineCall}
+
+-- Check answers, and changes no buffer.
+pub record Checks (bytes before after : Text) (answer : Answer) : Type 0 where
+  pub answer-is : answer ≡ answerFor (λ (n : ℕ). n) (checkCall bytes)
+  pub buffer-is : after ≡ before
+
+-- the answer, and the whole buffer afterwards, for the bytes that are handed over
+unfoldable pub Owed : Call → Text → Text → Text → Text → Text → Answer → Type 0
+Owed Check bytes sheet source before after answer = Checks bytes before after answer
+Owed Get bytes sheet source before after answer = GivesText (getCall bytes source (length before)) before after answer
+Owed Put bytes sheet source before after answer = GivesText (putCall bytes sheet source (length before)) before after answer
+Owed Create bytes sheet source before after answer = GivesText (createCall bytes sheet (length before)) before after answer
+Owed Line bytes sheet source before after answer = GivesText (lineCall bytes (length before)) before after answer
+
+-- The call answers so, and leaves the buffer so.
+pub record Owes (call : Call) (bytes sheet source before after : Text) (answer : Answer) : Type 0 where
+  pub owed : Owed call bytes sheet source before after answer
+
+-- The program does not fit a room of that size, and nothing was changed.
+pub record NoRoom (bytes : Text) (size : ℕ) (before after : Text) : Type 0 where
+  pub too-small : TooSmall bytes size
+  pub unchanged : after ≡ before
+
+unfoldable pub TriedIs : ℕ → Call → Text → Text → Text → Text → Text → Tried → Type 0
+TriedIs size call bytes sheet source before after (Done answer) = Owes call bytes sheet source before after answer
+TriedIs size call bytes sheet source before after T.Small = NoRoom bytes size before after
+
+-- That came of the call in a room of that size.
+pub record Tries (size : ℕ) (call : Call) (bytes sheet source before after : Text) (tried : Tried) : Type 0 where
+  pub tried-is : TriedIs size call bytes sheet source before after tried
+
+-- how many rooms are larger
+abbrev pub larger : Room → ℕ
+larger Small = 2
+larger Middle = 1
+larger Full = 0

@@ -1,0 +1,159 @@
+// The one way into the rooms. A call is tried in a small one and, where its program does not fit, in the next: so it takes the stack that its program
+// needs. What is added for a call is an arm of `answer_with`.
+use crate::create::create_with;
+use crate::get::get_with;
+use crate::line::line_with;
+use crate::put::put_with;
+use answers::Answer;
+use answers::Checked;
+use answers::check_in;
+use table::parts::node_count;
+ghost use mathlib.Core.Path.{_≡_};
+ghost use Prim.Native.Nat.{_≤_};
+ghost use lib.ListN.{length};
+ghost use Rattle.answers.specs.Answers.{Ready};
+ghost use Rattle.engine.specs.Rooms.{Owes, Tries};
+
+// What is asked of an accepted program.
+pub enum Call {
+    Check,
+    Get,
+    Put,
+    Create,
+    // the line that `lenscheck` prints
+    Line,
+}
+
+// The rooms, by the rows that the automata of a program may take: 128, 2,048, and as many as any program has.
+pub enum Room {
+    Small,
+    Middle,
+    Full,
+}
+
+// What came of a call in a room: its answer, or that the program does not fit.
+enum Tried {
+    Done(Answer),
+    Small,
+}
+
+fn small_room() -> [u64; 2304]
+    ensures { λ r. ⌜ 2304 ≡ length r ⌝ }
+{
+    [0u64; 2304]
+}
+
+fn middle_room() -> [u64; 13824]
+    ensures { λ r. ⌜ 13824 ≡ length r ⌝ }
+{
+    [0u64; 13824]
+}
+
+// 96 nodes with 128 positions on each side.
+fn full_room() -> [u64; 148992]
+    ensures { λ r. ⌜ 148992 ≡ length r ⌝ }
+{
+    [0u64; 148992]
+}
+
+// What a call does with an accepted and prepared program.
+fn answer_with(
+    call: Call,
+    bytes: &[u8],
+    prepared: &[u64],
+    sheet: &[u8],
+    source: &[u8],
+    out: &mut [u8],
+) -> Answer
+    requires { ⌜ Ready (now bytes) (now prepared) ⌝ }
+    ensures { λ r. ⌜ Owes call (now (bytes .entry)) (now (sheet .entry)) (now (source .entry)) (now (out .entry)) (now (out .exit)) r ⌝ }
+{
+    match call {
+        Call::Check => {
+            let length = node_count(bytes);
+            Answer::Result { length }
+        }
+        Call::Get => get_with(bytes, prepared, source, out),
+        Call::Put => put_with(bytes, prepared, sheet, source, out),
+        Call::Create => create_with(bytes, prepared, sheet, out),
+        Call::Line => line_with(bytes, prepared, out),
+    }
+}
+
+// A call in the slice that is lent for its program. A program that is refused is refused to every call.
+fn try_in(
+    call: Call,
+    bytes: &[u8],
+    prepared: &mut [u64],
+    sheet: &[u8],
+    source: &[u8],
+    out: &mut [u8],
+) -> Tried
+    requires { ⌜ 1536 ≤ length (now prepared) ⌝ }
+    ensures { λ r. ⌜ Tries (length (now (prepared .entry))) call (now (bytes .entry)) (now (sheet .entry)) (now (source .entry)) (now (out .entry)) (now (out .exit)) r ⌝ }
+{
+    let checked = check_in(bytes, prepared);
+    match checked {
+        Checked::Accepted => Tried::Done(answer_with(call, bytes, prepared, sheet, source, out)),
+        Checked::Refused { number, node } => Tried::Done(Answer::Refusal { number, node }),
+        Checked::Small => Tried::Small,
+    }
+}
+
+fn try_small(call: Call, bytes: &[u8], sheet: &[u8], source: &[u8], out: &mut [u8]) -> Tried
+    ensures { λ r. ⌜ Tries 2304 call (now (bytes .entry)) (now (sheet .entry)) (now (source .entry)) (now (out .entry)) (now (out .exit)) r ⌝ }
+{
+    let mut prepared = small_room();
+    try_in(call, bytes, &mut prepared, sheet, source, out)
+}
+
+fn try_middle(call: Call, bytes: &[u8], sheet: &[u8], source: &[u8], out: &mut [u8]) -> Tried
+    ensures { λ r. ⌜ Tries 13824 call (now (bytes .entry)) (now (sheet .entry)) (now (source .entry)) (now (out .entry)) (now (out .exit)) r ⌝ }
+{
+    let mut prepared = middle_room();
+    try_in(call, bytes, &mut prepared, sheet, source, out)
+}
+
+fn try_full(call: Call, bytes: &[u8], sheet: &[u8], source: &[u8], out: &mut [u8]) -> Tried
+    ensures { λ r. ⌜ Tries 148992 call (now (bytes .entry)) (now (sheet .entry)) (now (source .entry)) (now (out .entry)) (now (out .exit)) r ⌝ }
+{
+    let mut prepared = full_room();
+    try_in(call, bytes, &mut prepared, sheet, source, out)
+}
+
+// A call in a room, or in a larger one. It calls itself for the next room: the compiler puts no array of a room into the frame of such a function, so
+// that the rooms never lie on the stack together.
+pub fn answer_in(
+    room: Room,
+    call: Call,
+    bytes: &[u8],
+    sheet: &[u8],
+    source: &[u8],
+    out: &mut [u8],
+) -> Answer
+    ensures { λ r. ⌜ Owes call (now (bytes .entry)) (now (sheet .entry)) (now (source .entry)) (now (out .entry)) (now (out .exit)) r ⌝ }
+{
+    match room {
+        Room::Small => {
+            let tried = try_small(call, bytes, sheet, source, out);
+            match tried {
+                Tried::Done(answer) => answer,
+                Tried::Small => answer_in(Room::Middle, call, bytes, sheet, source, out),
+            }
+        }
+        Room::Middle => {
+            let tried = try_middle(call, bytes, sheet, source, out);
+            match tried {
+                Tried::Done(answer) => answer,
+                Tried::Small => answer_in(Room::Full, call, bytes, sheet, source, out),
+            }
+        }
+        Room::Full => {
+            let tried = try_full(call, bytes, sheet, source, out);
+            match tried {
+                Tried::Done(answer) => answer,
+                Tried::Small => Answer::Refusal { number: 0, node: 0 },
+            }
+        }
+    }
+}

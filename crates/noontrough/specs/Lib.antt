@@ -1,0 +1,2 @@
+-- What other languages link.
+pub mod Exports
