@@ -13,7 +13,7 @@ use lib.Bits.{bitAnd, bitOr, bitXor, and-shr, and-mod, or-shr, or-mod, xor-shr, 
 use lib.Dec.{ltb, leb, eqb, eqb·zero-suc, eqb·suc-zero, eqb·suc-suc}
 use lib.Pow.{shl-exact, shl-shr, shr-lt, shr-shr, field, mod-mod-pow, pow-add, pow-mono}
 use Rattle.positions.specs.declared.Set.{Set}
-use Rattle.positions.specs.Positions.{bit, holds, Empty, Shared, holdsMoved, Moved, FirstFrom}
+use Rattle.positions.specs.Positions.{bit, holds, Empty, Only, Removed, Less, Shared, holdsMoved, Moved, FirstFrom}
 
 -- ---- Truth values
 
@@ -26,6 +26,13 @@ or-false false y e = (refl, e)
 or-false-right : (x : Bool) → (x || false) ≡ x
 or-false-right true = refl
 or-false-right false = refl
+
+-- Two tests may change places.
+and-comm : (x y : Bool) → (x && y) ≡ (y && x)
+and-comm true true = refl
+and-comm true false = refl
+and-comm false true = refl
+and-comm false false = refl
 
 -- Where both are true, each is.
 and-true : (x y : Bool) → (x && y) ≡ true → (x ≡ true) × (y ≡ true)
@@ -193,7 +200,7 @@ and-digits false false = refl
 abbrev pub cleared : ℕ → ℕ → ℕ
 cleared a b = bitXor (bitOr a b) b
 
-cleared-digits : (x y : Bool) → eqb (cleared (cond x 1 0) (cond y 1 0)) 1 ≡ (not y && x)
+cleared-digits : (x y : Bool) → eqb (cleared (cond x 1 0) (cond y 1 0)) 1 ≡ (x && not y)
 cleared-digits true true = refl
 cleared-digits true false = refl
 cleared-digits false true = refl
@@ -210,15 +217,19 @@ holds-or = holds-op bitOr _||_ or-shr or-mod or-digits refl
 pub holds-and : (s t : Set) (q : ℕ) → holds (each bitAnd s t) q ≡ (holds s q && holds t q)
 holds-and = holds-op bitAnd _&&_ and-shr and-mod and-digits refl
 
-pub holds-cleared : (s t : Set) (q : ℕ) → holds (each cleared s t) q ≡ (not (holds t q) && holds s q)
+pub holds-cleared : (s t : Set) (q : ℕ) → holds (each cleared s t) q ≡ (holds s q && not (holds t q))
 holds-cleared =
     holds-op
     cleared
-    (λ x y. not y && x)
+    (λ x y. x && not y)
     (λ a b k. xor-shr (bitOr a b) b k ∙ ap (λ n. bitXor n (b / 2 ^ k)) (or-shr a b k))
     (λ a b k. xor-mod (bitOr a b) b k ∙ ap (λ n. bitXor n (b % 2 ^ k)) (or-mod a b k))
     cleared-digits
     refl
+
+-- Less one position.
+pub less-one : (s one r : Set) (p : ℕ) → Only p one → Less s one r → Removed s p r
+less-one s one r p only less q = less q ∙ ap (λ (b : Bool). holds s q && not b) (only q) ∙ and-comm (holds s q) (not (eqb q p))
 
 -- ---- A set moved up by n
 

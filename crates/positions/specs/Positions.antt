@@ -29,6 +29,10 @@ Added s p r = (q : ℕ) → holds r q ≡ (eqb q p || holds s q)
 abbrev pub Removed : Set → ℕ → Set → Type 0
 Removed s p r = (q : ℕ) → holds r q ≡ (not (eqb q p) && holds s q)
 
+-- r holds what s holds and t does not.
+abbrev pub Less : Set → Set → Set → Type 0
+Less s t r = (q : ℕ) → holds r q ≡ (holds s q && not (holds t q))
+
 -- r holds what s or t holds.
 abbrev pub Joined : Set → Set → Set → Type 0
 Joined s t r = (q : ℕ) → holds r q ≡ (holds s q || holds t q)

@@ -4,7 +4,7 @@ ghost use mathlib.Core.Bool.{true};
 ghost use mathlib.Core.Logic.{_↔_};
 ghost use Prim.Native.Nat.{_≤_, _<_};
 ghost use lib.Count.{trailingZeros};
-ghost use Rattle.positions.specs.Positions.{holds, Empty, Only, Added, Removed, Joined, Met, Shared, Moved, FirstFrom};
+ghost use Rattle.positions.specs.Positions.{holds, Empty, Only, Added, Removed, Less, Joined, Met, Shared, Moved, FirstFrom};
 
 // Positions 0 to 63 are the bits of low, 64 to 127 those of high.
 pub struct Set {
@@ -83,15 +83,21 @@ impl Set {
         Set::only(p).union(self)
     }
 
-    // The set without p: it is added, so that flipping it takes it away.
+    // The set without p.
     pub fn without(self, p: usize) -> Set
         requires { ⌜ p < 128 ⌝ }
         ensures { λ r. ⌜ Removed self p r ⌝ }
     {
-        let one = Set::only(p);
+        self.minus(Set::only(p))
+    }
+
+    // What this one holds and the other does not: that is added, so that flipping it takes it away.
+    pub fn minus(self, other: Set) -> Set
+        ensures { λ r. ⌜ Less self other r ⌝ }
+    {
         Set {
-            low: (self.low | one.low) ^ one.low,
-            high: (self.high | one.high) ^ one.high,
+            low: (self.low | other.low) ^ other.low,
+            high: (self.high | other.high) ^ other.high,
         }
     }
 

@@ -1,5 +1,5 @@
 pub mod Cells
-pub mod Sweeps
+pub mod Spreads
 pub mod Walked
 pub mod Faults
 pub mod Turns

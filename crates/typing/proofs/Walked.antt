@@ -40,7 +40,7 @@ use Rattle.typing.specs.Stages.{
   StagedBy,
 }
 use Rattle.typing.proofs.Cells.{any-iff, gathered-iff}
-use Rattle.typing.proofs.Sweeps.{reached-within}
+use Rattle.typing.proofs.Spreads.{reached-within}
 
 -- ---- A common byte
 
@@ -259,7 +259,7 @@ module _ {r s : Pattern} {a b : Automaton} {prepared : List ℕ} (d : Describes 
       λ h.
           let (x, l, u) = gathered-iff gathered y .0 h in
           let (last, here) = and-both _ _ u in
-          let (from, i, t, v, w) = reached-walk (filled .sound x y here) in
+          let (from, i, t, v, w) = reached-walk (filled .sound x y l here) in
           record { from = from; is-marked = i; text = t; end = some x; to-end = v; is-final = sym (d .last-is x) ∙ last; beside = w },
       λ g. back (g .text) (g .from) (g .end) (g .is-marked) (g .to-end) (g .is-final) (g .beside),
     )
@@ -311,7 +311,7 @@ stage-law {prepared} {a} {b} {m} {begun} {at} {cells} {start} inside next filled
                 λ y h.
                 let (x, l, u) = gathered-iff gathered y .0 h in
                 let (last, here) = and-both (holds (a .last) x) (held cells x y) u in
-                reached-within (filled .sound x y here) .1;
+                reached-within (filled .sound x y l here) .1;
           };
       staged = staged;
     }

@@ -72,12 +72,10 @@ pub record Meets (prepared : List ℕ) (a b : Automaton) (xs ys : Set) (x y : �
   pub in-right : holds ys y ≡ true
   pub share : shareIn prepared (a .start + x) (b .start + y) ≡ true
 
--- The shares of an automaton whose rows start at `start`: before row `to`, row x holds the positions of b that share a byte with position x. The
--- others hold nothing yet.
+-- The shares of an automaton whose rows start at `start`: before row `to`, row x holds the positions of b that share a byte with position x.
 pub record Shares (prepared : List ℕ) (start : ℕ) (b : Automaton) (to : ℕ) (shares : List ℕ) : Type 0 where
   pub size : length shares ≡ 256
   pub row-is : (x : ℕ) → x < to → Gathered (b .count) (bySharing prepared (start + x) (b .start)) (rowOf shares x)
-  pub rest : (x y : ℕ) → to ≤ x → held shares x y ≡ false
 
 -- Positions x of the first set and y of the second that are a pair of the shares.
 pub record Joins (shares : List ℕ) (xs ys : Set) (x y : ℕ) : Type 0 where
@@ -85,19 +83,26 @@ pub record Joins (shares : List ℕ) (xs ys : Set) (x y : ℕ) : Type 0 where
   pub in-right : holds ys y ≡ true
   pub share : held shares x y ≡ true
 
--- Rows have gained pairs. Those that did are due, beside those that were; where one has become due, the sum of the cells has grown.
+-- each pair in row x of the first cells is one of the second cells
+abbrev pub RowIn : ℕ → List ℕ → List ℕ → Type 0
+RowIn x cells others = (y : ℕ) → held cells x y ≡ true → held others x y ≡ true
+
+-- Rows have gained pairs. Those that did are due, beside those that were; a row that has become due is one before `to`, and has gained a pair.
 pub record Noted (to : ℕ) (before after : List ℕ) (due due′ : Set) : Type 0 where
   pub still : (x : ℕ) → holds due x ≡ true → holds due′ x ≡ true
   pub same : (x y : ℕ) → holds due′ x ≡ false → held after x y ≡ held before x y
-  pub rises : total before ≤ total after
-  pub grows : (x : ℕ) → holds due′ x ≡ true → (holds due x ≡ true) ⊎ ((x < to) × (total before < total after))
+  pub gained : (x : ℕ) → holds due′ x ≡ true → (holds due x ≡ true) ⊎ ((x < to) × ¬ RowIn x after before)
 
 -- The rows from `from` to before `to` have gained the pairs that the shares join.
 pub record Poured (shares : List ℕ) (xs ys : Set) (from to : ℕ) (before after : List ℕ) (due due′ : Set) : Type 0 where
   pub noted : Noted to before after due due′
-  pub keeps : (x y : ℕ) → held before x y ≡ true → held after x y ≡ true
+  pub keeps : (x : ℕ) → RowIn x before after
   pub only : (x y : ℕ) → held after x y ≡ true → (held before x y ≡ true) ⊎ ((x < to) × Joins shares xs ys x y)
   pub all : (x y : ℕ) → from ≤ x → x < to → Joins shares xs ys x y → held after x y ≡ true
+
+-- Row x has gained the positions of ys that share a byte with x. That is what pouring does at x, whatever else is poured.
+abbrev pub PouredAt : List ℕ → Set → ℕ → List ℕ → List ℕ → Set → Set → Type 0
+PouredAt shares ys x before after due due′ = (xs : Set) → holds xs x ≡ true → Poured shares xs ys x (x + 1) before after due due′
 
 -- one common byte leads from the pair (x, y) to the pair (i, j)
 abbrev pub Onward : List ℕ → Automaton → Automaton → ℕ → ℕ → ℕ → ℕ → Type 0
@@ -108,37 +113,42 @@ pub data Reached (prepared : List ℕ) (a b : Automaton) (begun : Set) : ℕ →
   begins : {x y : ℕ} → Meets prepared a b begun (b .first) x y → Reached prepared a b begun x y
   goes : {x y i j : ℕ} → Reached prepared a b begun x y → Onward prepared a b x y i j → Reached prepared a b begun i j
 
--- Only reached pairs are set.
+-- Only reached pairs are set in the rows of the first automaton.
 abbrev pub Sound : List ℕ → Automaton → Automaton → Set → List ℕ → Type 0
-Sound prepared a b begun cells = (x y : ℕ) → held cells x y ≡ true → Reached prepared a b begun x y
+Sound prepared a b begun cells = (x y : ℕ) → x < a .count → held cells x y ≡ true → Reached prepared a b begun x y
 
 -- No pair is lost, and none is set that is not reached.
 pub record Led (prepared : List ℕ) (a b : Automaton) (before after : List ℕ) : Type 0 where
-  pub keeps : (x y : ℕ) → held before x y ≡ true → held after x y ≡ true
+  pub keeps : (x : ℕ) → RowIn x before after
   pub sound : (begun : Set) → Sound prepared a b begun before → Sound prepared a b begun after
 
--- The rows that are not due are settled: one common byte leads from their pairs to pairs that are set.
-pub record Settled (prepared : List ℕ) (a b : Automaton) (due : Set) (cells : List ℕ) : Type 0 where
+-- `led` has the pairs that have been led on: one common byte leads from these to pairs that are set. Of a row that is not due they are all pairs that
+-- are set, and of a row that is due they are not.
+pub record Settled (prepared : List ℕ) (a b : Automaton) (due : Set) (led cells : List ℕ) : Type 0 where
+  pub below : (x : ℕ) → holds due x ≡ true → x < a .count
+  pub inside : (x : ℕ) → x < a .count → RowIn x led cells
   pub onward :
-      (x y i j : ℕ) → holds due x ≡ false → y < b .count → held cells x y ≡ true → Onward prepared a b x y i j
-      → held cells i j ≡ true
+      (x y i j : ℕ) → x < a .count → y < b .count → held led x y ≡ true → Onward prepared a b x y i j → held cells i j ≡ true
+  pub caught-up : (x : ℕ) → x < a .count → holds due x ≡ false → RowIn x cells led
+  pub waiting : (x : ℕ) → holds due x ≡ true → ¬ RowIn x cells led
 
--- The pairs of the due rows from `from` to before `to` have been led on by one byte. A row that is due now was so and is none of those, or the
--- sum of the cells has grown.
-pub record Swept (prepared : List ℕ) (a b : Automaton) (from to : ℕ) (before after : List ℕ) (due due′ : Set) : Type 0 where
-  pub led : Led prepared a b before after
-  pub settles : Settled prepared a b due before → Settled prepared a b due′ after
-  pub rises : total before ≤ total after
-  pub grows :
-      (x : ℕ) → holds due′ x ≡ true
-      → ((holds due x ≡ true) × (from ≤ x → to ≤ x)) ⊎ ((x < a .count) × (total before < total after))
+-- The pairs of row x that had not been led on have been. If there was one, the sum of the pairs led on has grown.
+pub record Spread (prepared : List ℕ) (a b : Automaton) (x : ℕ) (led led′ before after : List ℕ) (due due′ : Set) : Type 0 where
+  pub leads : Led prepared a b before after
+  pub settles : Settled prepared a b due led before → Settled prepared a b due′ led′ after
+  pub grows : ¬ RowIn x before led → total led < total led′
 
--- No pair is set.
-pub record Blank (cells : List ℕ) : Type 0 where
+-- x is due; where it is 128 or more, no position is.
+pub record NextDue (due : Set) (x : ℕ) : Type 0 where
+  pub is-due : x < 128 → holds due x ≡ true
+  pub none-due : 128 ≤ x → Empty due
+
+-- No pair is set in the first n rows.
+pub record Blank (n : ℕ) (cells : List ℕ) : Type 0 where
   pub size : length cells ≡ 256
-  pub none-held : (x y : ℕ) → held cells x y ≡ false
+  pub none-held : (x y : ℕ) → x < n → held cells x y ≡ false
 
--- Exactly the reached pairs are set.
+-- Exactly the reached pairs are set in the rows of the first automaton.
 pub record Filled (prepared : List ℕ) (a b : Automaton) (begun : Set) (cells : List ℕ) : Type 0 where
   pub sound : Sound prepared a b begun cells
   pub complete : (x y : ℕ) → Reached prepared a b begun x y → held cells x y ≡ true

@@ -1,5 +1,5 @@
 // Pairs of positions of two automata, and those that one text reaches. They stand in cells: a row for each position of the first, with the set of
-// the second's positions.
+// the second's positions. Each is led on once by one byte: `led` has those that were.
 use automaton::Automaton;
 use positions::Set;
 ghost use mathlib.Core.Path.{_≡_};
@@ -10,7 +10,7 @@ ghost use lib.Dec.{eqb};
 ghost use lib.ListN.{length, set, getD};
 ghost use Rattle.positions.specs.Positions.{holds};
 ghost use Rattle.automaton.specs.Rows.{rowAt, Room};
-ghost use Rattle.typing.specs.Stages.{Gathered, byFollow, bySharing, byRow, rowOf, Change, Gained, Shares, Poured, Swept, Blank, Filled};
+ghost use Rattle.typing.specs.Stages.{Gathered, byFollow, bySharing, byRow, rowOf, Change, Gained, Shares, Poured, PouredAt, Spread, NextDue, Blank, Filled};
 
 // A set, joined with another if a test is true.
 pub fn joined_if(set: Set, other: Set, test: bool) -> Set
@@ -41,9 +41,10 @@ pub fn followers(prepared: &[u64], a: Automaton, set: Set) -> Set
     let start = a.start;
     let count = a.count;
     let mut out = Set::empty();
-    for p in 0..count {
-        let next = automaton::follow(prepared, start + p);
-        out = joined_if(out, next, set.has(p));
+    let mut p = set.first_from(0);
+    while p < count {
+        out = automaton::follow(prepared, start + p).union(out);
+        p = set.first_from(p + 1);
     }
     out
 }
@@ -65,9 +66,20 @@ fn sharing(prepared: &[u64], row: usize, b: Automaton) -> Set
 
 // Cells with no pair set.
 pub fn blank() -> [u64; 256]
-    ensures { λ r. ⌜ Blank r ⌝ }
+    ensures { λ r. ⌜ Blank 128 r ⌝ }
 {
     [0u64; 256]
+}
+
+// The first count rows lose their pairs. The others are not asked for, and clearing them too would be most of the work of a small program.
+fn clear(cells: &mut [u64], count: usize)
+    requires { ⌜ (count ≤ 128) × (length (now cells) ≡ 256) ⌝ }
+    ensures { λ _. ⌜ Blank count (now (cells .exit)) ⌝ }
+{
+    let words = 2 * count;
+    for i in 0..words {
+        cells[i] = 0;
+    }
 }
 
 // Row x of the cells: the positions of the second automaton that make a pair with position x of the first.
@@ -118,42 +130,46 @@ fn gain(cells: &mut [u64], x: usize, set: Set) -> bool
 // All pairs of positions that share a byte. No other function compares bytes, so that a pair is compared once a stage.
 fn share_rows(prepared: &[u64], a: Automaton, b: Automaton, shares: &mut [u64])
     requires { ⌜ (Room a (now prepared)) × (Room b (now prepared)) ⌝ }
-    requires { ⌜ Blank (now shares) ⌝ }
+    requires { ⌜ length (now shares) ≡ 256 ⌝ }
     ensures { λ _. ⌜ Shares (now (prepared .entry)) (a .start) b (a .count) (now (shares .exit)) ⌝ }
 {
     let start = a.start;
     let count = a.count;
     for x in 0..count {
         let found = sharing(prepared, start + x, b);
-        gain(shares, x, found);
+        shares[2 * x] = found.low;
+        shares[2 * x + 1] = found.high;
     }
 }
 
-// If x is in xs, its row gains the positions of ys that share a byte with it. The rows that are due, with x if it changed.
-fn pour_at(shares: &[u64], xs: Set, ys: Set, x: usize, due: Set, cells: &mut [u64]) -> Set
+// Row x gains the positions of ys that share a byte with x. The rows that are due, with x if it gained one.
+fn pour_at(shares: &[u64], ys: Set, x: usize, due: Set, cells: &mut [u64]) -> Set
     requires { ⌜ (x < 128) × (length (now shares) ≡ 256) × (length (now cells) ≡ 256) ⌝ }
-    ensures { λ r. ⌜ Poured (now (shares .entry)) xs ys x (x + 1) (now (cells .entry)) (now (cells .exit)) due r ⌝ }
+    ensures { λ r. ⌜ PouredAt (now (shares .entry)) ys x (now (cells .entry)) (now (cells .exit)) due r ⌝ }
 {
-    if !xs.has(x) {
+    let found = ys.intersect(row(shares, x)).minus(row(&*cells, x));
+    if found.is_empty() {
         return due;
     }
-    let found = ys.intersect(row(shares, x));
-    with_if(due, x, gain(cells, x, found))
+    gain(cells, x, found);
+    due.with(x)
 }
 
-// The rows of xs gain the positions of ys that share a byte with theirs. The rows that are due, with those that changed.
+// The rows of xs gain the positions of ys that share a byte with theirs. The rows that are due, with those that gained one.
 fn pour(count: usize, shares: &[u64], xs: Set, ys: Set, due: Set, cells: &mut [u64]) -> Set
     requires { ⌜ (count ≤ 128) × (length (now shares) ≡ 256) × (length (now cells) ≡ 256) ⌝ }
     ensures { λ r. ⌜ Poured (now (shares .entry)) xs ys 0 count (now (cells .entry)) (now (cells .exit)) due r ⌝ }
 {
     let mut now_due = due;
-    for x in 0..count {
-        now_due = pour_at(shares, xs, ys, x, now_due, cells);
+    let mut x = xs.first_from(0);
+    while x < count {
+        now_due = pour_at(shares, ys, x, now_due, cells);
+        x = xs.first_from(x + 1);
     }
     now_due
 }
 
-// If row x is due, its pairs are led on by one byte. The rows that are due then.
+// The pairs of row x that have not been led on are led on by one byte. The rows that are due then.
 fn spread(
     prepared: &[u64],
     a: Automaton,
@@ -161,62 +177,63 @@ fn spread(
     shares: &[u64],
     x: usize,
     due: Set,
+    led: &mut [u64],
     cells: &mut [u64],
 ) -> Set
     requires { ⌜ (Room a (now prepared)) × (Room b (now prepared)) ⌝ }
     requires { ⌜ Shares (now prepared) (a .start) b (a .count) (now shares) ⌝ }
-    requires { ⌜ (x < a .count) × (length (now cells) ≡ 256) ⌝ }
-    ensures { λ r. ⌜ Swept (now (prepared .entry)) a b x (x + 1) (now (cells .entry)) (now (cells .exit)) due r ⌝ }
+    requires { ⌜ (x < a .count) × (length (now led) ≡ 256) × (length (now cells) ≡ 256) ⌝ }
+    ensures { λ r. ⌜ Spread (now (prepared .entry)) a b x (now (led .entry)) (now (led .exit)) (now (cells .entry)) (now (cells .exit)) due r ⌝ }
 {
-    if !due.has(x) {
-        return due;
-    }
     let start = a.start;
     let count = a.count;
+    let fresh = row(&*cells, x).minus(row(&*led, x));
+    gain(led, x, fresh);
     let xs = automaton::follow(prepared, start + x);
-    let ys = followers(prepared, b, row(&*cells, x));
+    let ys = followers(prepared, b, fresh);
     pour(count, shares, xs, ys, due.without(x), cells)
 }
 
-// The pairs of each row that is due are led on by one byte. The rows that are due then.
-fn sweep(
-    prepared: &[u64],
-    a: Automaton,
-    b: Automaton,
-    shares: &[u64],
-    due: Set,
-    cells: &mut [u64],
-) -> Set
-    requires { ⌜ (Room a (now prepared)) × (Room b (now prepared)) ⌝ }
-    requires { ⌜ Shares (now prepared) (a .start) b (a .count) (now shares) ⌝ }
-    requires { ⌜ length (now cells) ≡ 256 ⌝ }
-    ensures { λ r. ⌜ Swept (now (prepared .entry)) a b 0 (a .count) (now (cells .entry)) (now (cells .exit)) due r ⌝ }
+// The first due row from x on, else the first of all; 128 or more if none is due.
+fn next_due(due: Set, x: usize) -> usize
+    ensures { λ r. ⌜ NextDue due r ⌝ }
 {
-    let count = a.count;
-    let mut now_due = due;
-    for x in 0..count {
-        now_due = spread(prepared, a, b, shares, x, now_due, cells);
+    let next = due.first_from(x);
+    if next < 128 {
+        return next;
     }
-    now_due
+    due.first_from(0)
 }
 
 // All pairs that are reached from positions of the first and the start of the second; where none has begun there are none, and no bytes are compared.
-// The work grows as the cube of the positions: a row is led on only after it gained a pair, so at most as often as there are pairs, each time with
-// some set operations for each position of the two automata; and every sweep but the last adds a pair, and asks each row once whether it is due.
-pub fn fill(prepared: &[u64], a: Automaton, b: Automaton, begun: Set, cells: &mut [u64])
+// The work grows at most as the cube of the positions: a pair is led on once, when it goes from cells to led. A row is visited only if it has a pair
+// that was not led on, so at most as often as there are pairs, each time with a set operation for each position of the two automata at most.
+// The arrays are lent, so that a question makes them once, and what they hold at first does not matter.
+pub fn fill(
+    prepared: &[u64],
+    a: Automaton,
+    b: Automaton,
+    begun: Set,
+    shares: &mut [u64],
+    led: &mut [u64],
+    cells: &mut [u64],
+)
     requires { ⌜ (Room a (now prepared)) × (Room b (now prepared)) ⌝ }
-    requires { ⌜ Blank (now cells) ⌝ }
+    requires { ⌜ (length (now shares) ≡ 256) × (length (now led) ≡ 256) × (length (now cells) ≡ 256) ⌝ }
     ensures { λ _. ⌜ Filled (now (prepared .entry)) a b begun (now (cells .exit)) ⌝ }
 {
+    let count = a.count;
+    clear(cells, count);
     if begun.is_empty() {
         return;
     }
-    let mut shares = blank();
-    share_rows(prepared, a, b, &mut shares);
-    let count = a.count;
+    clear(led, count);
+    share_rows(prepared, a, b, shares);
     let first = b.first;
-    let mut due = pour(count, &shares, begun, first, Set::empty(), cells);
-    while !due.is_empty() {
-        due = sweep(prepared, a, b, &shares, due, cells);
+    let mut due = pour(count, &*shares, begun, first, Set::empty(), cells);
+    let mut x = due.first_from(0);
+    while x < count {
+        due = spread(prepared, a, b, &*shares, x, due, led, cells);
+        x = next_due(due, x);
     }
 }

@@ -5,6 +5,7 @@ use positions::Set;
 ghost use mathlib.Core.Path.{_≡_};
 ghost use mathlib.Core.Bool.{true};
 ghost use mathlib.Core.Logic.{_↔_};
+ghost use lib.ListN.{length};
 ghost use Rattle.semantics.specs.Pattern.{Pattern};
 ghost use Rattle.semantics.specs.Ambiguity.{Overlap, TwoCuts};
 ghost use Rattle.automaton.specs.Rows.{Room, Describes};
@@ -38,17 +39,25 @@ fn some_final(a: Automaton, marked: Marked) -> bool
 }
 
 // The states to which some text leads the second automaton from its start, and the first from a marked state to a final one.
-fn stage(prepared: &[u64], a: Automaton, b: Automaton, marked: Marked) -> Marked
+fn stage(
+    prepared: &[u64],
+    a: Automaton,
+    b: Automaton,
+    marked: Marked,
+    shares: &mut [u64],
+    led: &mut [u64],
+    cells: &mut [u64],
+) -> Marked
     requires { ⌜ (Room a (now prepared)) × (Room b (now prepared)) ⌝ }
     requires { ⌜ Within a marked ⌝ }
+    requires { ⌜ (length (now shares) ≡ 256) × (length (now led) ≡ 256) × (length (now cells) ≡ 256) ⌝ }
     ensures { λ r. ⌜ StagedBy (now (prepared .entry)) a b marked r ⌝ }
 {
     let count = a.count;
     let last = a.last;
     let begun = next(prepared, a, marked);
-    let mut cells = pairs::blank();
-    pairs::fill(prepared, a, b, begun, &mut cells);
-    let at = pairs::rows(&cells, count, last);
+    pairs::fill(prepared, a, b, begun, shares, led, cells);
+    let at = pairs::rows(&*cells, count, last);
     let start = some_final(a, marked);
     Marked {
         start: start,
@@ -73,7 +82,10 @@ pub fn overlap(prepared: &[u64], a: Automaton, b: Automaton) -> bool
     requires { ⌜ Room b (now prepared) ⌝ }
     ensures { λ res. ⌜ ((r s : Pattern) → Describes r a (now (prepared .entry)) → Describes s b (now (prepared .entry)) → (res ≡ true) ↔ Overlap r s) ⌝ }
 {
-    let both = stage(prepared, a, b, begin());
+    let mut shares = pairs::blank();
+    let mut led = pairs::blank();
+    let mut cells = pairs::blank();
+    let both = stage(prepared, a, b, begin(), &mut shares, &mut led, &mut cells);
     some_final(b, both)
 }
 
@@ -83,8 +95,11 @@ pub fn two_cuts(prepared: &[u64], a: Automaton, b: Automaton) -> bool
     requires { ⌜ Room b (now prepared) ⌝ }
     ensures { λ res. ⌜ ((r s : Pattern) → Describes r a (now (prepared .entry)) → Describes s b (now (prepared .entry)) → (res ≡ true) ↔ TwoCuts r s) ⌝ }
 {
-    let first = stage(prepared, a, a, begin());
-    let second = stage(prepared, a, b, first);
+    let mut shares = pairs::blank();
+    let mut led = pairs::blank();
+    let mut cells = pairs::blank();
+    let first = stage(prepared, a, a, begin(), &mut shares, &mut led, &mut cells);
+    let second = stage(prepared, a, b, first, &mut shares, &mut led, &mut cells);
     let at = second.at;
     let third = stage(
         prepared,
@@ -94,6 +109,9 @@ pub fn two_cuts(prepared: &[u64], a: Automaton, b: Automaton) -> bool
             start: false,
             at: at,
         },
+        &mut shares,
+        &mut led,
+        &mut cells,
     );
     some_final(b, third)
 }

@@ -1,67 +1,73 @@
--- `typing::pairs::fill` meets its contract. Assumes nothing.
-use borrow.Author.Needs.{needs}
+-- `typing::pairs::fill` meets its contract. The loop's invariant: the pairs that have been led on are settled, and x is due, or no row is. Assumes nothing.
 use mathlib.Core.Path.{_≡_}
-use borrow.Author.Tests.{not-true, not-false}
+use Prim.Native.Nat.{_-_, _*_, _^_}
+use native.Mathlib.Omega.{arith}
+use borrow.Author.Needs.{needs}
 use lib.ListN.{length}
-use Rattle.laws.specs.Basics.{not-both}
-use Rattle.typing.specs.Stages.{Led, Settled}
-use Rattle.typing.proofs.Sweeps.{Below, ahead, below-first, below-swept, sweep-less, settled-first, led-none, led-more, filled, filled-none}
+use Rattle.typing.specs.Stages.{total, Led, Settled, NextDue}
+use Rattle.typing.proofs.Spreads.{next-first, settled-first, led-none, led-more, filled, filled-none, none-left, spread-less}
 use Rattle.typing.proofs.pairs.fill.Statement.{statement}
 use Rattle.typing.proofs.pairs.fill.Tie as tie
 
 abbrev Inv-loop : tie.InvT-loop
-Inv-loop prepared a b cells₀ shares count due₀ cells due = (length cells ≡ 256) × Led prepared a b cells₀ cells × Settled prepared a b due cells × Below (a .count) due
+Inv-loop prepared a b shares led₀ cells₀ count due₀ x₀ led cells due x = (length led ≡ 256) × (length cells ≡ 256) × Led prepared a b cells₀ cells × Settled prepared a b due led cells × NextDue due x
 
 abbrev μ-loop : tie.MeasureT-loop
-μ-loop prepared a b cells₀ shares count due₀ cells due = ahead (a .count) due cells
+μ-loop prepared a b shares led₀ cells₀ count due₀ x₀ led cells due x = 256 * 2 ^ 64 - total led
+
+clear-requires : tie.Need-clear-requires Inv-loop μ-loop
+clear-requires c κs = (c .before .before .before .before .before .pre .0 .0 .few, c .before .before .before .before .before .pre .1 .2)
 
 is-empty-requires : tie.Need-is-empty-requires Inv-loop μ-loop
 is-empty-requires c κs = search needs
 
+same-length : tie.Need-same-length Inv-loop μ-loop
+same-length c = search needs
+
 returns : tie.Need-returns Inv-loop μ-loop
-returns c = filled-none (c .before .before .before .before .pre .1) (c .before .is-empty .ensures .0 (c .if1 .taken))
+returns c = filled-none (c .before .before .before .before .clear .ensures) (c .before .is-empty .ensures .0 (c .if1 .taken))
 
-blank-requires : tie.Need-blank-requires Inv-loop μ-loop
-blank-requires c κs = search needs
-
-slice-aggregate-share-rows : tie.Need-slice-aggregate-share-rows Inv-loop μ-loop
-slice-aggregate-share-rows c = search needs
+clear-requires-2 : tie.Need-clear-requires-2 Inv-loop μ-loop
+clear-requires-2 c κs = (c .before .before .before .before .before .before .before .before .before .before .before .pre .0 .0 .few, c .before .before .before .before .before .before .before .before .before .before .before .pre .1 .1)
 
 share-rows-requires : tie.Need-share-rows-requires Inv-loop μ-loop
-share-rows-requires c κs = search needs
-
-slice-aggregate-pour : tie.Need-slice-aggregate-pour Inv-loop μ-loop
-slice-aggregate-pour c = search needs
+share-rows-requires c κs = (c .before .before .before .before .before .before .before .before .before .before .before .before .before .before .before .pre .0, c .before .before .before .before .before .before .before .before .before .before .before .before .before .before .before .pre .1 .0)
 
 empty-requires : tie.Need-empty-requires Inv-loop μ-loop
 empty-requires c κs = search needs
 
 pour-requires : tie.Need-pour-requires Inv-loop μ-loop
-pour-requires c κs = search needs
+pour-requires c κs = (c .before .before .before .before .before .before .before .before .before .before .before .before .before .before .before .before .before .before .before .before .before .before .pre .0 .0 .few, c .before .before .before .before .before .before .share-rows .ensures .size, c .before .before .before .before .before .before .before .before .before .before .before .before .before .before .before .before .clear .ensures .size)
+
+first-from-requires : tie.Need-first-from-requires Inv-loop μ-loop
+first-from-requires c κs = search needs
 
 loop-holds : tie.Need-loop-holds Inv-loop μ-loop
-loop-holds c = (search needs, led-none, settled-first (c .before .before .before .before .before .before .before .before .before .before .before .before .before .before .before .pre .1) (c .before .before .pour .ensures), below-first (c .before .before .before .before .empty .ensures) (c .before .before .pour .ensures))
+loop-holds c = (search needs, search needs, led-none, settled-first (c .before .before .before .before .before .before .before .before .before .before .before .before .before .before .clear2 .ensures) (c .before .before .before .before .before .before .before .before .before .before .before .before .before .before .before .before .before .before .before .before .clear .ensures) (c .before .before .before .before .before .empty .ensures) (c .before .before .before .pour .ensures), next-first (c .first-from .ensures))
 
-is-empty-requires-2 : tie.Need-is-empty-requires-2 Inv-loop μ-loop
-is-empty-requires-2 c κs = search needs
+spread-requires : tie.Need-spread-requires Inv-loop μ-loop
+spread-requires c κs = (c .before .before .before .before .before .before .before .before .before .before .before .before .before .before .before .before .before .before .before .before .before .before .before .before .before .before .before .before .before .before .before .pre .0, (c .before .before .before .before .before .before .before .before .before .before .before .before .before .before .before .share-rows .ensures, (omega arith, c .before .before .before .before .loop .inv .0, c .before .before .before .before .loop .inv .1)))
 
-slice-aggregate-sweep : tie.Need-slice-aggregate-sweep Inv-loop μ-loop
-slice-aggregate-sweep c = search needs
-
-sweep-requires : tie.Need-sweep-requires Inv-loop μ-loop
-sweep-requires c κs = search needs
+next-due-requires : tie.Need-next-due-requires Inv-loop μ-loop
+next-due-requires c κs = search needs
 
 loop-less : tie.Need-loop-less Inv-loop μ-loop
-loop-less c = sweep-less (c .before .before .sweep .ensures) (c .before .before .before .before .before .before .before .loop .inv .3) (λ e. not-both (c .before .before .before .before .before .before .is-empty2 .ensures .1 e) (not-true _ (c .before .before .before .before .before .if2 .taken))) (search needs) (λ i. c .slice-known3 .given i .fits)
+loop-less c = spread-less (c .before .before .before .before .before .before .before .before .before .before .loop .inv .3) (c .before .before .before .before .before .before .before .before .before .before .loop .inv .4) (omega (arith, c .before .before .before .before .before .before .before .before .before .before .before .before .before .before .before .before .before .before .before .before .before .before .before .before .before .before .before .before .before .before .before .before .before .before .before .before .before .pre .0 .0 .few)) (c .before .before .before .before .before .spread .ensures) (search needs) (λ i. c .before .before .before .slice-known8 .given i .fits)
 
 loop-again : tie.Need-loop-again Inv-loop μ-loop
-loop-again c = (search needs, led-more (c .before .before .before .before .before .before .before .loop .inv .1) (c .before .before .sweep .ensures .led), c .before .before .sweep .ensures .settles (c .before .before .before .before .before .before .before .loop .inv .2), below-swept (c .before .before .sweep .ensures) (c .before .before .before .before .before .before .before .loop .inv .3))
+loop-again c = (search needs, search needs, led-more (c .before .before .before .before .before .before .before .before .before .before .loop .inv .2) (c .before .before .before .before .before .spread .ensures .leads), c .before .before .before .before .before .spread .ensures .settles (c .before .before .before .before .before .before .before .before .before .before .loop .inv .3), c .next-due .ensures)
 
-same-length : tie.Need-same-length Inv-loop μ-loop
-same-length c = search needs
+same-length-2 : tie.Need-same-length-2 Inv-loop μ-loop
+same-length-2 c = search needs
+
+same-length-3 : tie.Need-same-length-3 Inv-loop μ-loop
+same-length-3 c = search needs
+
+same-length-4 : tie.Need-same-length-4 Inv-loop μ-loop
+same-length-4 c = search needs
 
 returns-2 : tie.Need-returns-2 Inv-loop μ-loop
-returns-2 c = filled (c .before .before .before .before .before .before .before .before .before .before .before .share-rows .ensures) (c .before .before .before .before .before .before .before .before .before .before .before .before .before .before .before .before .before .before .pre .1) (c .before .before .before .before .before .pour .ensures) (c .before .before .loop .inv .1) (c .before .before .loop .inv .2) (c .before .is-empty2 .ensures .0 (not-false _ (c .if2 .left)))
+returns-2 c = filled (c .before .before .before .before .before .before .before .before .before .before .before .before .share-rows .ensures) (c .before .before .before .before .before .before .before .before .before .before .before .before .before .before .before .before .before .before .before .before .before .before .clear .ensures) (c .before .before .before .before .before .pour .ensures) (c .before .loop .inv .2) (c .before .loop .inv .3) (none-left (c .before .loop .inv .3) (c .before .loop .inv .4) (omega arith))
 
 pub fill-spec : {M : Type 1} → statement M
 fill-spec =
@@ -69,19 +75,21 @@ fill-spec =
     (tie.spec
     Inv-loop
     μ-loop
+    clear-requires
     is-empty-requires
+    same-length
     returns
-    blank-requires
-    slice-aggregate-share-rows
+    clear-requires-2
     share-rows-requires
-    slice-aggregate-pour
     empty-requires
     pour-requires
+    first-from-requires
     loop-holds
-    is-empty-requires-2
-    slice-aggregate-sweep
-    sweep-requires
+    spread-requires
+    next-due-requires
     loop-less
     loop-again
-    same-length
+    same-length-2
+    same-length-3
+    same-length-4
     returns-2)

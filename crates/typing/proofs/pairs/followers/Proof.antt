@@ -1,18 +1,18 @@
--- `typing::pairs::followers` meets its contract. Assumes nothing.
-use borrow.Author.Needs.{needs}
-use mathlib.Core.Path.{_≡_, _∙_, ap₂}
-use mathlib.Core.Bool.{Bool, _&&_, _||_}
-use Prim.Native.Nat.{_≤_, _-_}
+-- `typing::pairs::followers` meets its contract. The loop's invariant: p is in the set, or past it, and what the positions below p give is gathered. Assumes nothing.
+use mathlib.Core.Path.{_≡_, sym, _∙_, ap₂}
+use mathlib.Core.Bool.{Bool, true, _&&_, _||_}
+use Prim.Native.Nat.{_-_, _<_, min}
 use native.Mathlib.Omega.{arith}
+use borrow.Author.Needs.{needs}
 use Rattle.positions.specs.declared.Set.{Set}
 use Rattle.positions.specs.Positions.{holds}
 use Rattle.typing.specs.Stages.{Gathered, byFollow}
-use Rattle.typing.proofs.Cells.{gathered-none, gathered-more}
+use Rattle.typing.proofs.Cells.{gathered-first, gathered-next}
 use Rattle.typing.proofs.pairs.followers.Statement.{statement}
 use Rattle.typing.proofs.pairs.followers.Tie as tie
 
 abbrev Inv-loop : tie.InvT-loop
-Inv-loop prepared set start count out₀ p₀ out p = (p ≤ count) × Gathered p (byFollow prepared start set) out
+Inv-loop prepared set start count out₀ p₀ out p = (p < 128 → holds set p ≡ true) × Gathered (min p count) (byFollow prepared start set) out
 
 abbrev μ-loop : tie.MeasureT-loop
 μ-loop prepared set start count out₀ p₀ out p = count - p
@@ -20,8 +20,11 @@ abbrev μ-loop : tie.MeasureT-loop
 empty-requires : tie.Need-empty-requires Inv-loop μ-loop
 empty-requires c κs = search needs
 
+first-from-requires : tie.Need-first-from-requires Inv-loop μ-loop
+first-from-requires c κs = search needs
+
 loop-holds : tie.Need-loop-holds Inv-loop μ-loop
-loop-holds c = (search needs, gathered-none (c .empty .ensures))
+loop-holds c = (c .first-from .ensures .held, gathered-first (λ p q e. rw e) (c .before .before .before .args .a .count) (c .before .empty .ensures) (c .first-from .ensures))
 
 add-follow : tie.Need-add-follow Inv-loop μ-loop
 add-follow c = search needs
@@ -29,28 +32,33 @@ add-follow c = search needs
 follow-requires : tie.Need-follow-requires Inv-loop μ-loop
 follow-requires c κs = search needs
 
-has-requires : tie.Need-has-requires Inv-loop μ-loop
-has-requires c κs = search needs
+union-requires : tie.Need-union-requires Inv-loop μ-loop
+union-requires c κs = search needs
 
-joined-if-requires : tie.Need-joined-if-requires Inv-loop μ-loop
-joined-if-requires c κs = search needs
+add-first-from : tie.Need-add-first-from Inv-loop μ-loop
+add-first-from c = omega (arith, c .before .before .before .before .before .before .before .pre .few)
 
-add-p : tie.Need-add-p Inv-loop μ-loop
-add-p c = search needs
+first-from-requires-2 : tie.Need-first-from-requires-2 Inv-loop μ-loop
+first-from-requires-2 c κs = search needs
 
 loop-less : tie.Need-loop-less Inv-loop μ-loop
-loop-less c = search needs
+loop-less c = omega (arith, c .first-from2 .ensures .from)
 
 loop-again : tie.Need-loop-again Inv-loop μ-loop
-loop-again c = (
-  search needs,
-  gathered-more
-      (c .before .before .before .before .loop .inv .1)
-      (λ q. c .joined-if .ensures q ∙ ap₂ (λ (t : Bool) (f : Set). t && holds f q || holds (c .before .before .before .before .loop .out) q) (c .before .has .ensures) (c .before .before .follow .ensures)),
-)
+loop-again c =
+    let there = c .before .before .before .before .loop .inv .0 (omega (arith, c .before .before .before .before .before .before .before .before .pre .few)) in (
+      c .first-from2 .ensures .held,
+      gathered-next
+          (λ p q e. rw e)
+          (c .before .before .before .before .before .before .before .before .args .a .count)
+          (omega arith)
+          (c .before .before .before .before .loop .inv .1)
+          (λ q. c .before .union .ensures q ∙ ap₂ (λ (t : Bool) (f : Set). t && holds f q || holds (c .before .before .before .before .loop .out) q) (sym there) (c .before .before .follow .ensures))
+          (c .first-from2 .ensures),
+    )
 
 returns : tie.Need-returns Inv-loop μ-loop
-returns c = let all : c .before .loop .p ≡ c .before .before .before .before .args .a .count = omega arith in rw all at (c .before .loop .inv .1)
+returns c = let all : min (c .before .loop .p) (c .before .before .before .before .before .args .a .count) ≡ c .before .before .before .before .before .args .a .count = omega arith in rw all at (c .before .loop .inv .1)
 
 pub followers-spec : {M : Type 1} → statement M
 followers-spec =
@@ -59,12 +67,13 @@ followers-spec =
     Inv-loop
     μ-loop
     empty-requires
+    first-from-requires
     loop-holds
     add-follow
     follow-requires
-    has-requires
-    joined-if-requires
-    add-p
+    union-requires
+    add-first-from
+    first-from-requires-2
     loop-less
     loop-again
     returns)

@@ -23,7 +23,7 @@ same-length : tie.Need-same-length
 same-length c = search needs
 
 returns : tie.Need-returns
-returns c = gained (c .before .before .before .before .before .before .before .before .before .pre) (c .before .before .before .before .before .before .gain-word .ensures .0) (c .before .before .gain-word2 .ensures .0) (search needs) (c .before .before .before .before .before .before .gain-word .ensures .1) (c .before .before .gain-word2 .ensures .1)
+returns c = gained (c .before .before .before .before .before .before .before .before .before .pre) (c .before .before .before .before .before .before .gain-word .ensures .0) (c .before .before .gain-word2 .ensures .0) (c .before .before .before .before .before .before .gain-word .ensures .1) (c .before .before .gain-word2 .ensures .1)
 
 pub gain-spec : {M : Type 1} → statement M
 gain-spec =

@@ -1,10 +1,11 @@
 -- `typing::pairs::share_rows` meets its contract. Assumes nothing.
-use borrow.Author.Needs.{needs}
 use mathlib.Core.Path.{_≡_}
 use Prim.Native.Nat.{_≤_, _-_}
 use native.Mathlib.Omega.{arith}
+use borrow.Author.Needs.{needs}
+use lib.ListN.{length-set}
 use Rattle.typing.specs.Stages.{Shares}
-use Rattle.typing.proofs.Sweeps.{shares-none, shares-more}
+use Rattle.typing.proofs.Spreads.{shares-none, shares-more}
 use Rattle.typing.proofs.pairs.share_rows.Statement.{statement}
 use Rattle.typing.proofs.pairs.share_rows.Tie as tie
 
@@ -23,8 +24,26 @@ add-sharing c = search needs
 sharing-requires : tie.Need-sharing-requires Inv-loop μ-loop
 sharing-requires c κs = search needs
 
-gain-requires : tie.Need-gain-requires Inv-loop μ-loop
-gain-requires c κs = search needs
+mul-shares : tie.Need-mul-shares Inv-loop μ-loop
+mul-shares c = search needs
+
+mul-shares-2 : tie.Need-mul-shares-2 Inv-loop μ-loop
+mul-shares-2 c = search needs
+
+slice-write-shares : tie.Need-slice-write-shares Inv-loop μ-loop
+slice-write-shares c = search needs
+
+mul-shares-3 : tie.Need-mul-shares-3 Inv-loop μ-loop
+mul-shares-3 c = search needs
+
+add-shares : tie.Need-add-shares Inv-loop μ-loop
+add-shares c = search needs
+
+mul-shares-4 : tie.Need-mul-shares-4 Inv-loop μ-loop
+mul-shares-4 c = search needs
+
+slice-write-shares-2 : tie.Need-slice-write-shares-2 Inv-loop μ-loop
+slice-write-shares-2 c = simp length-set (omega (arith, c .before .before .loop .inv .1 .size))
 
 add-x : tie.Need-add-x Inv-loop μ-loop
 add-x c = search needs
@@ -33,7 +52,7 @@ loop-less : tie.Need-loop-less Inv-loop μ-loop
 loop-less c = search needs
 
 loop-again : tie.Need-loop-again Inv-loop μ-loop
-loop-again c = (search needs, shares-more (c .before .before .before .before .before .before .loop .inv .1) (c .before .before .before .before .sharing .ensures) (c .before .before .gain .ensures) (search needs))
+loop-again c = (search needs, shares-more (c .before .before .loop .inv .1) (omega (arith, c .before .before .before .before .before .pre .0 .0 .few)) (c .sharing .ensures))
 
 same-length : tie.Need-same-length Inv-loop μ-loop
 same-length c = search needs
@@ -42,4 +61,23 @@ returns : tie.Need-returns Inv-loop μ-loop
 returns c = let all : c .before .loop .x ≡ c .before .before .before .before .args .a .count = omega arith in rw all at (c .before .loop .inv .1)
 
 pub share-rows-spec : {M : Type 1} → statement M
-share-rows-spec = tie.close (tie.spec Inv-loop μ-loop loop-holds add-sharing sharing-requires gain-requires add-x loop-less loop-again same-length returns)
+share-rows-spec =
+    tie.close
+    (tie.spec
+    Inv-loop
+    μ-loop
+    loop-holds
+    add-sharing
+    sharing-requires
+    mul-shares
+    mul-shares-2
+    slice-write-shares
+    mul-shares-3
+    add-shares
+    mul-shares-4
+    slice-write-shares-2
+    add-x
+    loop-less
+    loop-again
+    same-length
+    returns)

@@ -1,40 +1,69 @@
 -- `typing::pairs::spread` meets its contract. Assumes nothing.
-use mathlib.Core.Path.{_∙_, sym}
-use borrow.Author.Tests.{not-true}
+use native.Mathlib.Omega.{arith}
 use borrow.Author.Needs.{needs}
-use Rattle.typing.proofs.Sweeps.{swept-skip, swept-row}
+use Rattle.typing.proofs.Spreads.{spread-row}
 use Rattle.typing.proofs.pairs.spread.Statement.{statement}
 use Rattle.typing.proofs.pairs.spread.Tie as tie
 
-has-requires : tie.Need-has-requires
-has-requires c κs = search needs
+row-requires : tie.Need-row-requires
+row-requires c κs = omega (arith, c .before .before .before .before .before .pre .0 .0 .few, c .before .before .before .before .before .pre .1 .1)
 
-returns : tie.Need-returns
-returns c = swept-skip (sym (c .before .has .ensures) ∙ not-true _ (c .if1 .taken))
+row-requires-2 : tie.Need-row-requires-2
+row-requires-2 c κs = omega (arith, c .before .before .before .before .before .before .before .pre .0 .0 .few, c .before .before .before .before .before .before .before .pre .1 .1)
+
+minus-requires : tie.Need-minus-requires
+minus-requires c κs = search needs
+
+gain-requires : tie.Need-gain-requires
+gain-requires c κs = omega (arith, c .before .before .before .before .before .before .before .before .before .before .pre .0 .0 .few, c .before .before .before .before .before .before .before .before .before .before .pre .1 .1)
 
 add-follow : tie.Need-add-follow
 add-follow c = search needs
 
 follow-requires : tie.Need-follow-requires
-follow-requires c κs = search needs
-
-row-requires : tie.Need-row-requires
-row-requires c κs = search needs
+follow-requires c κs = omega (arith, c .before .before .before .before .before .before .before .before .before .before .before .before .before .pre .0 .0 .inside, c .before .before .before .before .before .before .before .before .before .before .before .before .before .pre .1 .1)
 
 followers-requires : tie.Need-followers-requires
-followers-requires c κs = search needs
+followers-requires c κs = c .before .before .before .before .before .before .before .before .before .before .before .before .before .before .pre .0 .1
 
 without-requires : tie.Need-without-requires
-without-requires c κs = search needs
+without-requires c κs = omega (arith, c .before .before .before .before .before .before .before .before .before .before .before .before .before .before .before .pre .0 .0 .few, c .before .before .before .before .before .before .before .before .before .before .before .before .before .before .before .pre .1 .1 .0)
 
 pour-requires : tie.Need-pour-requires
-pour-requires c κs = search needs
+pour-requires c κs = (c .before .before .before .before .before .before .before .before .before .before .before .before .before .before .before .before .before .pre .0 .0 .few, c .before .before .before .before .before .before .before .before .before .before .before .before .before .before .before .before .before .pre .1 .0 .size, c .before .before .before .before .before .before .before .before .before .before .before .before .before .before .before .before .before .pre .1 .1 .2)
 
 same-length : tie.Need-same-length
 same-length c = search needs
 
-returns-2 : tie.Need-returns-2
-returns-2 c = swept-row (c .before .before .before .before .before .before .before .before .before .before .before .before .before .before .pre .1 .0) (c .before .before .before .before .without .ensures) (rw (c .before .before .before .before .before .before .row .ensures) at (c .before .before .before .before .before .followers .ensures)) (rw (c .before .before .before .before .before .before .before .before .follow .ensures) at (c .before .before .pour .ensures))
+same-length-2 : tie.Need-same-length-2
+same-length-2 c = search needs
+
+returns : tie.Need-returns
+returns c =
+    spread-row
+    (record {
+      row-below = c .before .before .before .before .before .before .before .before .before .before .before .before .before .before .before .before .before .before .before .before .pre .1 .1 .0;
+      shares-are = c .before .before .before .before .before .before .before .before .before .before .before .before .before .before .before .before .before .before .before .before .pre .1 .0;
+      less = rw (c .before .before .before .before .before .before .before .before .before .before .before .before .before .before .row .ensures, c .before .before .before .before .before .before .before .before .before .before .before .before .row2 .ensures) at (c .before .before .before .before .before .before .before .before .before .before .before .minus .ensures);
+      gain = c .before .before .before .before .before .before .before .before .before .gain .ensures;
+      gathered = c .before .before .before .before .before .followers .ensures;
+      removed = c .before .before .before .before .without .ensures;
+      poured = rw (c .before .before .before .before .before .before .follow .ensures) at (c .before .before .pour .ensures);
+    })
 
 pub spread-spec : {M : Type 1} → statement M
-spread-spec = tie.close (tie.spec has-requires returns add-follow follow-requires row-requires followers-requires without-requires pour-requires same-length returns-2)
+spread-spec =
+    tie.close
+    (tie.spec
+    row-requires
+    row-requires-2
+    minus-requires
+    gain-requires
+    add-follow
+    follow-requires
+    followers-requires
+    without-requires
+    pour-requires
+    same-length
+    same-length-2
+    returns)

@@ -5,19 +5,10 @@ use Rattle.typing.proofs.questions.stage.Statement.{statement}
 use Rattle.typing.proofs.questions.stage.Tie as tie
 
 next-requires : tie.Need-next-requires
-next-requires c κs = search needs
-
-blank-requires : tie.Need-blank-requires
-blank-requires c κs = search needs
-
-slice-aggregate-fill : tie.Need-slice-aggregate-fill
-slice-aggregate-fill c = search needs
+next-requires c κs = c .before .before .before .before .before .pre .0 .0
 
 fill-requires : tie.Need-fill-requires
-fill-requires c κs = search needs
-
-slice-aggregate-rows : tie.Need-slice-aggregate-rows
-slice-aggregate-rows c = search needs
+fill-requires c κs = (c .before .before .before .before .before .before .before .before .before .pre .0, c .before .before .before .before .before .before .before .before .before .pre .1 .1)
 
 rows-requires : tie.Need-rows-requires
 rows-requires c κs = search needs
@@ -25,18 +16,27 @@ rows-requires c κs = search needs
 some-final-requires : tie.Need-some-final-requires
 some-final-requires c κs = search needs
 
+same-length : tie.Need-same-length
+same-length c = search needs
+
+same-length-2 : tie.Need-same-length-2
+same-length-2 c = search needs
+
+same-length-3 : tie.Need-same-length-3
+same-length-3 c = search needs
+
 returns : tie.Need-returns
-returns c = stage-law (c .before .before .before .before .before .before .before .before .before .before .pre .1) (c .before .before .before .before .before .before .before .next .ensures) (c .before .before .before .before .fill .ensures) (c .before .rows .ensures) (c .some-final .ensures)
+returns c = stage-law (c .before .before .before .before .before .before .before .before .before .before .before .before .before .before .before .before .before .before .before .pre .1 .0) (c .before .before .before .before .before .before .before .before .before .before .before .before .before .next .ensures) (c .before .before .before .before .before .before .before .before .before .fill .ensures) (c .before .rows .ensures) (c .some-final .ensures)
 
 pub stage-spec : {M : Type 1} → statement M
 stage-spec =
     tie.close
     (tie.spec
     next-requires
-    blank-requires
-    slice-aggregate-fill
     fill-requires
-    slice-aggregate-rows
     rows-requires
     some-final-requires
+    same-length
+    same-length-2
+    same-length-3
     returns)
