@@ -12,9 +12,9 @@ use Rattle.semantics.specs.Calls.{Answer as Outcome}
 use Rattle.answers.specs.declared.Answer.{Answer}
 use Rattle.answers.specs.declared.Answer.the-variants.{Result, Refusal}
 use Rattle.answers.specs.Answers.{answerFor}
-use Rattle.engine.specs.Line.{refusedLine}
+use Rattle.calls.specs.Line.{refusedLine}
 use Rattle.answers.specs.Results.{GivesText}
-use Rattle.engine.proofs.Lines.{refused-line}
+use Rattle.calls.proofs.Lines.{refused-line}
 use Rattle.commands.specs.Replies.{checkOutcome, printed, numberOf, answerNumber, Replies, Finishes}
 
 -- a result

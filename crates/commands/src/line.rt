@@ -5,7 +5,7 @@ ghost use mathlib.Core.List.{_++_};
 ghost use Prim.Native.Nat.{_+_, _≤_};
 ghost use lib.ListN.{length, drop};
 ghost use Rattle.semantics.specs.Calls.{field};
-ghost use Rattle.engine.specs.Line.{Puts, refusedLine};
+ghost use Rattle.calls.specs.Line.{Puts, refusedLine};
 
 fn put_text(text: &[u8], at: usize, out: &mut [u8]) -> usize
     requires { ⌜ at + length (now text) ≤ length (now out) ⌝ }

@@ -3,63 +3,13 @@ use crate::rooms::Call;
 use crate::rooms::Room;
 use crate::rooms::answer_in;
 use answers::Answer;
-use answers::results::belongs_to_root;
-use answers::results::finish;
-use answers::results::no_flags;
-use answers::results::no_text;
-use answers::results::refuse;
-use answers::results::room_in;
-use answers::results::root_of;
-use automaton::Side;
-use lens::Mode;
-use lens::read::emit;
-ghost use mathlib.Core.Path.{_≡_};
-ghost use Prim.Native.Nat.{_≤_, min};
 ghost use lib.ListN.{length};
-ghost use Rattle.semantics.specs.Lens.{get};
 ghost use Rattle.semantics.specs.Calls.{getCall};
-ghost use Rattle.answers.specs.Answers.{Ready};
-ghost use Rattle.answers.specs.Results.{GivesText, GivesMade};
+ghost use Rattle.answers.specs.Results.{GivesText};
 
-// The call.
 pub fn get(bytes: &[u8], source: &[u8], out: &mut [u8]) -> Answer
     ensures { λ r. ⌜ GivesText (getCall (now (bytes .entry)) (now (source .entry)) (length (now (out .entry)))) (now (out .entry)) (now (out .exit)) r ⌝ }
 {
     let none = &bytes[0..0];
     answer_in(Room::Small, Call::Get, bytes, none, source, out)
-}
-
-// The sheet of a source, of a program that is accepted and prepared.
-pub fn get_with(bytes: &[u8], prepared: &[u64], source: &[u8], out: &mut [u8]) -> Answer
-    requires { ⌜ Ready (now bytes) (now prepared) ⌝ }
-    ensures { λ r. ⌜ GivesText (getCall (now (bytes .entry)) (now (source .entry)) (length (now (out .entry)))) (now (out .entry)) (now (out .exit)) r ⌝ }
-{
-    if 4096 < source.len() {
-        return refuse(12);
-    }
-    if !belongs_to_root(bytes, prepared, Side::Source, source) {
-        return refuse(13);
-    }
-    let mut result = no_text();
-    let room = room_in(out.len());
-    get_into(bytes, prepared, source, &mut result[0..room], out)
-}
-
-// The sheet, made in a slice as long as a result may be.
-fn get_into(
-    bytes: &[u8],
-    prepared: &[u64],
-    source: &[u8],
-    result: &mut [u8],
-    out: &mut [u8],
-) -> Answer
-    requires { ⌜ Ready (now bytes) (now prepared) ⌝ }
-    requires { ⌜ length (now source) ≤ 4096 ⌝ }
-    requires { ⌜ length (now result) ≡ min (length (now out)) 4096 ⌝ }
-    ensures { λ r. ⌜ GivesMade (now (bytes .entry)) (λ l. get l (now (source .entry))) (now (out .entry)) (now (out .exit)) r ⌝ }
-{
-    let mut flags = no_flags();
-    let root = root_of(bytes);
-    let wrote = emit(bytes, prepared, root, Mode::Get, source, &mut flags, result);
-    finish(wrote, result, out)
 }

@@ -1,6 +1,6 @@
 // The calls of the sheet engine. Each checks the program itself.
 use answers::Answer;
-use line::put_refused;
+use calls::line::put_refused;
 use rooms::Call;
 use rooms::Room;
 use rooms::answer_in;
@@ -13,10 +13,8 @@ ghost use Rattle.answers.specs.Answers.{answerFor};
 
 pub mod create;
 pub mod get;
-mod line;
 pub mod put;
 mod rooms;
-mod writing;
 
 // The call Check.
 pub fn check(bytes: &[u8]) -> Answer

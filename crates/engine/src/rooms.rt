@@ -1,12 +1,12 @@
 // The one way into the rooms. A call is tried in a small one and, where its program does not fit, in the next: so it takes the stack that its program
 // needs. What is added for a call is an arm of `answer_with`.
-use crate::create::create_with;
-use crate::get::get_with;
-use crate::line::line_with;
-use crate::put::put_with;
 use answers::Answer;
 use answers::Checked;
 use answers::check_in;
+use calls::create::create_with;
+use calls::get::get_with;
+use calls::line::line_with;
+use calls::put::put_with;
 use table::parts::node_count;
 ghost use mathlib.Core.Path.{_≡_};
 ghost use Prim.Native.Nat.{_≤_};

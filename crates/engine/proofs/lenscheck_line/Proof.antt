@@ -3,8 +3,8 @@ use borrow.Author.Needs.{needs}
 use native.Mathlib.Omega.{arith}
 use denote.Ref.{now}
 use Rattle.engine.specs.Rooms.{Owed}
-use Rattle.engine.proofs.Texts.{puts-as, puts-start}
-use Rattle.engine.proofs.Lines.{line-result, line-refusal, refusal-short, refused-line}
+use Rattle.calls.proofs.Texts.{puts-as, puts-start}
+use Rattle.calls.proofs.Lines.{line-result, line-refusal, refusal-short, refused-line}
 use Rattle.engine.proofs.lenscheck_line.Statement.{statement}
 use Rattle.engine.proofs.lenscheck_line.Tie as tie
 
@@ -42,7 +42,7 @@ same-length-2 c = search needs
 
 returns-2 : tie.Need-returns-2
 unfolding Owed
-returns-2 c = 
+returns-2 c =
     let (refuses, same) = line-refusal (now (c .before .before .before .before .before .before .before .before .before .before .before .before .before .before .args .bytes)) (c .before .before .before .before .before .before .before .before .before .before .before .before .before .before .pre) (c .before .before .before .before .before .before .before .before .before .answer-in .ensures .owed) (c .before .before .before .before .before .answer2 .given .1) in
     let put = puts-as (refused-line (now (c .before .before .before .before .before .before .before .before .before .before .before .before .before .before .args .bytes)) _ _ refuses) (c .before .before .put-refused .ensures .0) in
     let (after, length) = puts-start (rw same at put) (omega (arith, c .before .before .put-refused .ensures .1, c .before .before .before .before .before .before .before .before .before .before .before .before .before .before .pre)) in

@@ -3,7 +3,7 @@ use borrow.Author.Needs.{needs}
 use native.Mathlib.Omega.{arith}
 use lib.ListN.{length-take}
 use Rattle.semantics.specs.Calls.{field}
-use Rattle.engine.proofs.Texts.{puts-then, puts-as}
+use Rattle.calls.proofs.Texts.{puts-then, puts-as}
 use Rattle.commands.proofs.Lines.{few-digits, decimal-lent}
 use Rattle.commands.proofs.line.put_field.Statement.{statement}
 use Rattle.commands.proofs.line.put_field.Tie as tie

@@ -1,8 +1,8 @@
 -- `commands::line::put_refused` meets its contract: each part stands behind the one before. Assumes nothing.
 use borrow.Author.Needs.{needs}
 use native.Mathlib.Omega.{arith}
-use Rattle.engine.specs.Line.{refusedLine}
-use Rattle.engine.proofs.Texts.{puts-then, puts-start}
+use Rattle.calls.specs.Line.{refusedLine}
+use Rattle.calls.proofs.Texts.{puts-then, puts-start}
 use Rattle.commands.proofs.line.put_refused.Statement.{statement}
 use Rattle.commands.proofs.line.put_refused.Tie as tie
 

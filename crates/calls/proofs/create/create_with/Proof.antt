@@ -1,0 +1,71 @@
+-- `calls::create::create_with` meets its contract, test by test. Assumes nothing.
+use borrow.Author.Needs.{needs}
+use native.Mathlib.Omega.{arith}
+use denote.Ref.{now}
+use mathlib.Core.Path.{_∙_}
+use lib.ListN.{length-take}
+use Rattle.semantics.specs.Calls.{createCall}
+use Rattle.automaton.specs.Rows.{sideOf}
+use Rattle.answers.proofs.Giving.{program-gives, refused, passed, too-long, not-too-long, not-of}
+use Rattle.calls.proofs.create.create_with.Statement.{statement}
+use Rattle.calls.proofs.create.create_with.Tie as tie
+
+refuse-requires : tie.Need-refuse-requires
+refuse-requires c κs = search needs
+
+returns : tie.Need-returns
+unfolding createCall
+returns c = program-gives _ (c .before .before .before .before .before .before .pre .accepted) (refused 12 _ (c .refuse .ensures) (too-long (now (c .before .before .before .before .before .before .args .sheet)) (c .before .if1 .taken)))
+
+belongs-to-root-requires : tie.Need-belongs-to-root-requires
+belongs-to-root-requires c κs = search needs
+
+refuse-requires-2 : tie.Need-refuse-requires-2
+refuse-requires-2 c κs = search needs
+
+returns-2 : tie.Need-returns-2
+unfolding createCall sideOf
+returns-2 c = program-gives _ (c .before .before .before .before .before .before .before .before .pre .accepted) (passed 12 (not-too-long (now (c .before .before .before .before .before .before .before .before .args .sheet)) (c .before .before .before .if1 .left)) (refused 14 _ (c .refuse2 .ensures) (not-of (c .before .before .before .before .before .before .before .before .pre .accepted) (c .before .before .belongs-to-root .ensures) ∙ c .before .if2 .taken)))
+
+no-text-requires : tie.Need-no-text-requires
+no-text-requires c κs = search needs
+
+room-in-requires : tie.Need-room-in-requires
+room-in-requires c κs = search needs
+
+sub-create-into : tie.Need-sub-create-into
+sub-create-into c = search needs
+
+part-result-start : tie.Need-part-result-start
+part-result-start c = search needs
+
+part-result-end : tie.Need-part-result-end
+part-result-end c = search needs
+
+create-into-requires : tie.Need-create-into-requires
+create-into-requires c κs = (c .before .before .before .before .before .before .before .before .before .before .before .pre, (c .before .before .before .before .before .before .if1 .left, simp length-take (omega (arith, c .before .before .before .no-text .ensures, c .before .before .room-in .ensures))))
+
+same-length : tie.Need-same-length
+same-length c = search needs
+
+returns-3 : tie.Need-returns-3
+unfolding createCall sideOf
+returns-3 c = program-gives _ (c .before .before .before .before .before .before .before .before .before .before .before .before .before .before .before .pre .accepted) (passed 12 (not-too-long (now (c .before .before .before .before .before .before .before .before .before .before .before .before .before .before .before .args .sheet)) (c .before .before .before .before .before .before .before .before .before .before .if1 .left)) (passed 14 (not-of (c .before .before .before .before .before .before .before .before .before .before .before .before .before .before .before .pre .accepted) (c .before .before .before .before .before .before .before .before .before .belongs-to-root .ensures) ∙ c .before .before .before .before .before .before .before .before .if2 .left) (c .before .before .before .create-into .ensures .gives-made (c .before .before .before .before .before .before .before .before .before .before .before .before .before .before .before .pre .accepted .root) (c .before .before .before .before .before .before .before .before .before .before .before .before .before .before .before .pre .accepted .gives-root))))
+
+pub create-with-spec : {M : Type 1} → statement M
+create-with-spec =
+    tie.close
+    (tie.spec
+    refuse-requires
+    returns
+    belongs-to-root-requires
+    refuse-requires-2
+    returns-2
+    no-text-requires
+    room-in-requires
+    sub-create-into
+    part-result-start
+    part-result-end
+    create-into-requires
+    same-length
+    returns-3)

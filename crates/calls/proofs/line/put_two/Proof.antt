@@ -1,0 +1,43 @@
+-- `calls::line::put_two` meets its contract: one digit, or the tens and then the last. Assumes nothing.
+use borrow.Author.Needs.{needs}
+use native.Mathlib.Omega.{arith}
+use mathlib.Core.Path.{sym}
+use Rattle.calls.proofs.Texts.{puts-then, puts-as, decimal-one, decimal-two}
+use Rattle.calls.proofs.line.put_two.Statement.{statement}
+use Rattle.calls.proofs.line.put_two.Tie as tie
+
+put-digit-requires : tie.Need-put-digit-requires
+put-digit-requires c κs = search needs
+
+same-length : tie.Need-same-length
+same-length c = search needs
+
+returns : tie.Need-returns
+returns c = (puts-as (sym (decimal-one (c .before .before .before .before .before .before .args .number) (c .before .before .before .before .if1 .taken))) (c .before .before .put-digit .ensures), omega (arith, c .before .before .put-digit .ensures .next-is))
+
+put-digit-requires-2 : tie.Need-put-digit-requires-2
+put-digit-requires-2 c κs = search needs
+
+put-digit-requires-3 : tie.Need-put-digit-requires-3
+put-digit-requires-3 c κs = search needs
+
+same-length-2 : tie.Need-same-length-2
+same-length-2 c = search needs
+
+returns-2 : tie.Need-returns-2
+returns-2 c =
+    let first = c .before .before .before .before .before .before .put-digit2 .ensures in
+    let last = c .before .before .put-digit3 .ensures in
+    (puts-as (sym (decimal-two (c .before .before .before .before .before .before .before .before .before .before .args .number) (c .before .before .before .before .before .before .before .before .if1 .left) (c .before .before .before .before .before .before .before .before .before .before .pre .0))) (puts-then first last), omega (arith, first .next-is, last .next-is))
+
+pub put-two-spec : {M : Type 1} → statement M
+put-two-spec =
+    tie.close
+    (tie.spec
+    put-digit-requires
+    same-length
+    returns
+    put-digit-requires-2
+    put-digit-requires-3
+    same-length-2
+    returns-2)

@@ -1,0 +1,3 @@
+-- What the calls make of an accepted program.
+pub mod Line
+pub mod Sources
