@@ -21,8 +21,9 @@
  *          of `out`.
  * Memory   Nothing is kept: when a call returns, the caller may reuse or free
  *          every slice. The program is checked anew on each call.
- * Stack    At most NOONTROUGH_STACK_BYTES bytes. This is more than the threads of
- *          some systems and languages are given; a call that finds less may end
+ * Stack    At most NOONTROUGH_STACK_BYTES bytes, and check and get at most
+ *          NOONTROUGH_READ_STACK_BYTES. This is more than the threads of some
+ *          systems and languages are given; a call that finds too little may end
  *          the process.
  * Threads  The engine has no state of its own. Calls may run at the same time,
  *          also on the same table and texts, as long as no other thread writes
@@ -45,11 +46,19 @@ extern "C" {
 /* The most entries that the old source of a put may have. */
 #define NOONTROUGH_MAX_ENTRIES 256
 
-/* The stack that a call needs: at most 6 MiB. On x86-64, 3.7 MB were measured
- * for a put of 256 entries with a flat program, and 4.6 MB with joins nested as
- * deep as 96 nodes allow, the most of all programs tried; get and check took at
- * most 1.3 MB. The bound is measured, not proved (docs/PERFORMANCE.md). */
-#define NOONTROUGH_STACK_BYTES (6 * 1024 * 1024)
+/* The stack that any call of any program keeps to: 5.25 MiB. A call takes what
+ * its program needs. For a program like that of examples/k, check, get and
+ * create take under 96 KiB, and a put with up to 8 old entries about 1.2 MB. A
+ * put with more entries or of a large program, and a create of a large program,
+ * can need more than the 2 MiB that a default thread of Rust has: start a thread
+ * with this much stack for them. The bound is measured on x86-64, not proved
+ * (docs/PERFORMANCE.md); the tests of bindings/rust fail if a call of the
+ * programs that take most passes it. */
+#define NOONTROUGH_STACK_BYTES (5376 * 1024)
+
+/* The stack that check and get of any program keep to: 1.25 MiB. So they run in
+ * a default thread of Rust. Measured and tested in the same way, not proved. */
+#define NOONTROUGH_READ_STACK_BYTES (1280 * 1024)
 
 /*
  * The refusals. They are tried in this order: the program (1 to 11), the texts

@@ -17,6 +17,14 @@ const SEED: u64 = 1;
 const ENTRIES: usize = 256;
 /// Repeats that fill a dense program up to 96 nodes.
 const DENSE_MOST: usize = 78;
+/// The slowest tables known for check: dense joins and repeats in 96 nodes, and tables that need many turns, found by hill
+/// climbing.
+const SLOW: [(&str, &[u8]); 4] = [
+    ("d126", include_bytes!("tables/d126.table")),
+    ("g4", include_bytes!("tables/g4.table")),
+    ("lr1", include_bytes!("tables/lr1.table")),
+    ("slowA", include_bytes!("tables/slowA.table")),
+];
 /// Calls that one of two makes before it is the other's turn, and turns at most.
 const CALLS: usize = 10;
 const TURNS: usize = 20;
@@ -50,6 +58,11 @@ fn bench() {
     for repeats in [1, DENSE_MOST] {
         let table = dense_program(repeats);
         check(&table, &format!("check, {} nodes", table[0]));
+    }
+
+    heading("Check of the slowest tables known", "Reference");
+    for (name, table) in SLOW {
+        check(table, &format!("check, {name}"));
     }
 
     heading("Get by length of the source, program K", "Reference");

@@ -17,13 +17,41 @@
 //! assert_eq!(put(&table, b"av", b"AV", &mut out), Answer::Refusal { number: 14, node: 0 });
 //! ```
 //!
-//! A call needs up to [`STACK_BYTES`] of stack, which a thread of
-//! `std::thread` with its usual 2 MiB may not have; see there.
+//! [`check`] and [`get`] of any program run in a thread of `std::thread` with
+//! its usual 2 MiB of stack. [`put`], and [`create`] of large programs, can need
+//! more: start a thread with [`STACK_BYTES`] for them.
 
-/// The most stack that a call uses, with room to spare. The main thread usually
-/// has 8 MiB. A thread of `std::thread` has 2 MiB unless it is started with
-/// `std::thread::Builder::stack_size`, or `RUST_MIN_STACK` is set.
-pub const STACK_BYTES: usize = 6 * 1024 * 1024;
+/// The stack that any call of any program keeps to.
+///
+/// A call takes what its program needs. For a program like K of the repository's
+/// examples, check, get and create take under 96 KiB. A put takes at least about
+/// 1.2 MB, and over 2 MiB with more than 8 old entries or a large program. A
+/// create of a large program can take over 2 MiB too.
+///
+/// The main thread usually has 8 MiB. A thread of `std::thread` has 2 MiB unless
+/// it is started with `std::thread::Builder::stack_size`, or `RUST_MIN_STACK` is
+/// set. A call that finds too little ends the process.
+///
+/// ```
+/// let thread = std::thread::Builder::new().stack_size(noontrough::STACK_BYTES);
+/// # let table = [3, 0, 0, 1, 4, 16, 65, 90, 0, 0, 0, 0, 1, 0, 0];
+/// let work = move || {
+///     let mut out = [0; noontrough::MAX_TEXT];
+///     noontrough::put(&table, b"AV", b"VA", &mut out)
+/// };
+/// let answer = thread.spawn(work)?.join().unwrap();
+/// # assert_eq!(answer, noontrough::Answer::Result { length: 2 });
+/// # Ok::<(), std::io::Error>(())
+/// ```
+///
+/// The bound is measured on x86-64, not proved. `cargo test` fails if a call of
+/// the programs that take most passes it.
+pub const STACK_BYTES: usize = 5376 * 1024;
+
+/// The stack that check and get of any program keep to. A thread of
+/// `std::thread` with its usual 2 MiB is enough for them. Measured and tested as
+/// [`STACK_BYTES`] is, and not proved.
+pub const READ_STACK_BYTES: usize = 1280 * 1024;
 
 /// The longest source, sheet and result. A buffer of this length is long enough
 /// for every result.

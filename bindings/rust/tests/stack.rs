@@ -1,0 +1,68 @@
+//! The stack that calls take, held to what `STACK_BYTES` and
+//! `READ_STACK_BYTES` promise.
+//!
+//! `cargo run --example stack` prints the figures.
+
+#[path = "common/stack.rs"]
+mod stack;
+
+use noontrough::{READ_STACK_BYTES, STACK_BYTES};
+use stack::{cases, k, Call, Case, CALLS};
+
+const READS: [Call; 2] = [Call::Check, Call::Get];
+/// What check, get and create of a program like K keep to.
+const LIKE_K: usize = 96 * 1024;
+/// The stack of a thread that is started without a size.
+const DEFAULT_THREAD: usize = 2 << 20;
+/// What a thread takes for itself, and more than that.
+const OWN: usize = 16 * 1024;
+
+fn assert_keeps_to(most: usize, case: &Case, call: Call) {
+    let taken = case.stack_of(call);
+    assert!(taken <= most, "{}: {call:?} takes {taken} bytes of stack, over {most}", case.name);
+}
+
+/// Makes calls on a thread that has so much stack. They are measured first,
+/// since a call that finds too little ends the process and says nothing.
+fn assert_come_back(stack: usize, case: &Case, calls: &[Call]) {
+    calls.iter().for_each(|&call| assert_keeps_to(stack - OWN, case, call));
+    std::thread::scope(|scope| {
+        let thread = std::thread::Builder::new().stack_size(stack);
+        let made = thread.spawn_scoped(scope, || calls.iter().for_each(|&call| case.make(call)));
+        made.expect("a thread can be started").join().expect("the calls give results");
+    });
+}
+
+/// The same on a thread that is started without a size.
+fn assert_come_back_by_default(case: Case, calls: &'static [Call]) {
+    calls.iter().for_each(|&call| assert_keeps_to(DEFAULT_THREAD - OWN, &case, call));
+    let thread = std::thread::spawn(move || calls.iter().for_each(|&call| case.make(call)));
+    thread.join().expect("the calls give results");
+}
+
+#[test]
+fn the_promised_stack_is_enough_for_every_call() {
+    cases().iter().for_each(|case| assert_come_back(STACK_BYTES, case, &CALLS));
+}
+
+#[test]
+fn check_and_get_need_no_more_than_is_promised_for_reading() {
+    cases().iter().for_each(|case| assert_come_back(READ_STACK_BYTES, case, &READS));
+}
+
+#[test]
+fn check_get_and_create_of_k_take_little() {
+    let case = k(256);
+    [Call::Check, Call::Get, Call::Create].iter().for_each(|&call| assert_keeps_to(LIKE_K, &case, call));
+}
+
+#[test]
+fn a_default_thread_is_enough_for_check_and_get() {
+    cases().into_iter().for_each(|case| assert_come_back_by_default(case, &READS));
+}
+
+#[test]
+fn a_default_thread_is_enough_for_k_but_for_a_put_of_many_entries() {
+    assert_come_back_by_default(k(256), &[Call::Check, Call::Get, Call::Create]);
+    assert_come_back_by_default(k(8), &CALLS);
+}
