@@ -2,7 +2,7 @@
 -- side its first row, whether the empty text belongs, and the sets of first and last positions. Behind the nodes stand the rows, six numbers
 -- a position: the first and the last byte of its range, the set of positions that may follow it, and that of those that it may follow.
 use mathlib.Core.Path.{_≡_}
-use mathlib.Core.Bool.{Bool}
+use mathlib.Core.Bool.{Bool, _&&_}
 use mathlib.Core.List.{List}
 use Prim.Native.Nat.{ℕ, _+_, _*_, _≤_, _<_, max, min}
 use lib.Dec.{eqb, leb}
@@ -47,6 +47,11 @@ standsIn prepared row byte = inRange (getD prepared (rowAt row) 0) (getD prepare
 unfoldable pub shareIn : List ℕ → ℕ → ℕ → Bool
 shareIn prepared row row′ =
     leb (max (getD prepared (rowAt row) 0) (getD prepared (rowAt row′) 0)) (min (getD prepared (rowAt row + 1) 0) (getD prepared (rowAt row′ + 1) 0))
+
+-- 'two positions have the same bytes'
+unfoldable pub alikeIn : List ℕ → ℕ → ℕ → Bool
+alikeIn prepared row row′ =
+    eqb (getD prepared (rowAt row) 0) (getD prepared (rowAt row′) 0) && eqb (getD prepared (rowAt row + 1) 0) (getD prepared (rowAt row′ + 1) 0)
 
 -- the automaton of a node and a side, as it stands in the prepared program
 unfoldable pub automatonAt : List ℕ → ℕ → Side → Automaton

@@ -7,7 +7,7 @@ use positions::Set;
 ghost use mathlib.Core.Path.{_≡_};
 ghost use Prim.Native.Nat.{_+_, _*_, _≤_, _<_};
 ghost use lib.ListN.{length};
-ghost use Rattle.automaton.specs.Rows.{rowAt, followOf, precedingOf, standsIn, shareIn, automatonAt};
+ghost use Rattle.automaton.specs.Rows.{rowAt, followOf, precedingOf, standsIn, shareIn, alikeIn, automatonAt};
 
 pub enum Side {
     Source,
@@ -94,6 +94,17 @@ pub fn share(prepared: &[u64], row: usize, other: usize) -> bool
     let i = 1536 + 6 * row;
     let j = 1536 + 6 * other;
     larger(prepared[i], prepared[j]) <= smaller(prepared[i + 1], prepared[j + 1])
+}
+
+// Whether the same bytes may stand at the positions of two rows.
+pub fn alike(prepared: &[u64], row: usize, other: usize) -> bool
+    requires { ⌜ rowAt row + 4 ≤ length (now prepared) ⌝ }
+    requires { ⌜ rowAt other + 4 ≤ length (now prepared) ⌝ }
+    ensures { λ r. ⌜ r ≡ alikeIn (now (prepared .entry)) row other ⌝ }
+{
+    let i = 1536 + 6 * row;
+    let j = 1536 + 6 * other;
+    prepared[i] == prepared[j] && prepared[i + 1] == prepared[j + 1]
 }
 
 fn larger(a: u64, b: u64) -> u64

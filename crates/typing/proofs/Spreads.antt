@@ -13,7 +13,7 @@ use Rattle.positions.specs.declared.Set.{Set}
 use Rattle.positions.specs.Positions.{holds, Empty, Added, Removed, Less, Met, FirstFrom}
 use Rattle.positions.proofs.Bits.{holds-past}
 use Rattle.automaton.specs.declared.Automaton.{Automaton}
-use Rattle.automaton.specs.Rows.{followOf}
+use Rattle.automaton.specs.Rows.{rowAt, followOf, shareIn, alikeIn}
 use Rattle.typing.specs.Stages.{
   Gathered,
   byFollow,
@@ -43,6 +43,23 @@ use Rattle.typing.specs.Stages.{
 use Rattle.typing.proofs.Cells.{split-at, gathered-iff, sharing-iff, total-bound, case-row, setRow, row-set, row-beside}
 
 -- ---- Shares
+
+-- a position with the same bytes as another shares a byte with the same positions
+pub shares-alike :
+    (prepared : List ℕ) (row row′ start : ℕ) {count : ℕ} {r : Set}
+    → alikeIn prepared row row′ ≡ true
+    → Gathered count (bySharing prepared row start) r
+    → Gathered count (bySharing prepared row′ start) r
+unfolding alikeIn shareIn
+shares-alike prepared row row′ start same gathered =
+    let first = getD prepared (rowAt row) 0 in
+    let first′ = getD prepared (rowAt row′) 0 in
+    let last = getD prepared (rowAt row + 1) 0 in
+    let last′ = getD prepared (rowAt row′ + 1) 0 in
+    let (low, high) = and-both (eqb first first′) (eqb last last′) same in
+    let low = eqb-true first first′ low in
+    let high = eqb-true last last′ high in
+    record { holds-is = λ q. rw (low, high) at (gathered .holds-is q) }
 
 module _ {prepared : List ℕ} {start : ℕ} {b : Automaton} where
   pub shares-none : {cells : List ℕ} → length cells ≡ 256 → Shares prepared start b 0 cells

@@ -127,6 +127,23 @@ fn gain(cells: &mut [u64], x: usize, set: Set) -> bool
     low | high
 }
 
+// The positions that share a byte with position x, once the rows before it are known. In a run of positions with the same bytes all have the same, so
+// that long runs, of which the slowest tables are made, are compared once.
+fn share_row(prepared: &[u64], start: usize, x: usize, b: Automaton, shares: &[u64]) -> Set
+    requires { ⌜ (x < 128) × (rowAt (start + x) + 4 ≤ length (now prepared)) ⌝ }
+    requires { ⌜ Room b (now prepared) ⌝ }
+    requires { ⌜ Shares (now prepared) start b x (now shares) ⌝ }
+    ensures { λ r. ⌜ Gathered (b .count) (bySharing (now (prepared .entry)) (start + x) (b .start)) r ⌝ }
+{
+    if x == 0 {
+        return sharing(prepared, start + x, b);
+    }
+    if automaton::alike(prepared, start + (x - 1), start + x) {
+        return row(shares, x - 1);
+    }
+    sharing(prepared, start + x, b)
+}
+
 // All pairs of positions that share a byte. No other function compares bytes, so that a pair is compared once a stage.
 fn share_rows(prepared: &[u64], a: Automaton, b: Automaton, shares: &mut [u64])
     requires { ⌜ (Room a (now prepared)) × (Room b (now prepared)) ⌝ }
@@ -136,7 +153,7 @@ fn share_rows(prepared: &[u64], a: Automaton, b: Automaton, shares: &mut [u64])
     let start = a.start;
     let count = a.count;
     for x in 0..count {
-        let found = sharing(prepared, start + x, b);
+        let found = share_row(prepared, start, x, b, &*shares);
         shares[2 * x] = found.low;
         shares[2 * x + 1] = found.high;
     }

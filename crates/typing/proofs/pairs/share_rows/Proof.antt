@@ -18,11 +18,8 @@ abbrev μ-loop : tie.MeasureT-loop
 loop-holds : tie.Need-loop-holds Inv-loop μ-loop
 loop-holds c = (search needs, shares-none (c .before .before .pre .1))
 
-add-sharing : tie.Need-add-sharing Inv-loop μ-loop
-add-sharing c = search needs
-
-sharing-requires : tie.Need-sharing-requires Inv-loop μ-loop
-sharing-requires c κs = search needs
+share-row-requires : tie.Need-share-row-requires Inv-loop μ-loop
+share-row-requires c κs = ((omega (arith, c .before .before .before .before .before .pre .0 .0 .few), omega (arith, c .before .before .before .before .before .pre .0 .0 .inside)), (c .before .before .before .before .before .pre .0 .1, c .before .before .loop .inv .1))
 
 mul-shares : tie.Need-mul-shares Inv-loop μ-loop
 mul-shares c = search needs
@@ -43,7 +40,7 @@ mul-shares-4 : tie.Need-mul-shares-4 Inv-loop μ-loop
 mul-shares-4 c = search needs
 
 slice-write-shares-2 : tie.Need-slice-write-shares-2 Inv-loop μ-loop
-slice-write-shares-2 c = simp length-set (omega (arith, c .before .before .loop .inv .1 .size))
+slice-write-shares-2 c = simp length-set (omega (arith, c .before .before .before .loop .inv .1 .size))
 
 add-x : tie.Need-add-x Inv-loop μ-loop
 add-x c = search needs
@@ -52,7 +49,7 @@ loop-less : tie.Need-loop-less Inv-loop μ-loop
 loop-less c = search needs
 
 loop-again : tie.Need-loop-again Inv-loop μ-loop
-loop-again c = (search needs, shares-more (c .before .before .loop .inv .1) (omega (arith, c .before .before .before .before .before .pre .0 .0 .few)) (c .sharing .ensures))
+loop-again c = (search needs, shares-more (c .before .before .before .loop .inv .1) (omega (arith, c .before .before .before .before .before .before .pre .0 .0 .few)) (c .share-row .ensures))
 
 same-length : tie.Need-same-length Inv-loop μ-loop
 same-length c = search needs
@@ -67,8 +64,7 @@ share-rows-spec =
     Inv-loop
     μ-loop
     loop-holds
-    add-sharing
-    sharing-requires
+    share-row-requires
     mul-shares
     mul-shares-2
     slice-write-shares
