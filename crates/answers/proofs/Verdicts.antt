@@ -1,28 +1,18 @@
--- The program's answer from those of the two rounds, and what an answer says of the numbers in it.
+-- The program's answer from those of the two rounds, what a check in a lent slice says, and the root of an accepted program.
 use mathlib.Core.Path.{_≡_, refl, sym, ap, _∙_, subst}
 use mathlib.Core.Bool.{Bool, true, false, cond}
 use mathlib.Core.List.{List, [], _∷_, _++_, append-assoc}
 use mathlib.Core.Option.{Option, none, some}
-use mathlib.Core.Logic.{inl}
-use Prim.Native.Nat.{ℕ, suc, _+_, _-_, _≤_, _<_}
+use Prim.Native.Nat.{ℕ, _-_}
 use native.Mathlib.Omega.{arith}
-use lib.ListN.{length, getD}
-use Rattle.semantics.specs.Text.{Text, All}
-use Rattle.semantics.specs.Lens.{Lens, copy, const, key, join, union, repeat, match, source, sheet}
-use Rattle.semantics.specs.Table.{at, nodeCount, sizesWrong, Node, nodes, Tree, Trees, pattern, lens, broken, treeAt, trees, treePositions, Line, line, firstRound, rootOf, rootLine, typingLines, treeLines, secondRound, lines, firstThatHolds}
-use Rattle.semantics.specs.Calls.{refuses, verdict, program, withProgram, checkCall, programLine, lenscheckLine}
-use Rattle.laws.specs.Basics.{all-at, all-append, member-right}
-use Rattle.laws.specs.NodeTrees.{lens-tree, node-length, tree-length}
-use Rattle.laws.specs.Accepted.{Quiet, quiet-iff, refuses-iff, gives-iff, accepted-iff}
+use Rattle.semantics.specs.Text.{Text}
+use Rattle.semantics.specs.Table.{nodeCount, sizesWrong, nodes, lens, treeAt, trees, Line, line, firstRound, rootOf, rootLine, secondRound, lines, firstThatHolds}
+use Rattle.semantics.specs.Calls.{refuses, verdict, program, withProgram, checkCall}
+use Rattle.laws.specs.NodeTrees.{lens-tree}
+use Rattle.laws.specs.Accepted.{Quiet, quiet-iff, gives-iff, accepted-iff}
 use Rattle.table.specs.Prepared.{tableLines, tableAnswer, answerFor}
-use Rattle.table.specs.Rules.{NodeRead}
-use Rattle.table.specs.declared.Node.{Node as NodeOf}
 use Rattle.table.specs.declared.TableAnswer.the-variants as T
 use Rattle.table.proofs.RightSizes.{Right, right-of}
-use Rattle.automaton.specs.declared.Side.{Side}
-use Rattle.automaton.specs.declared.Side.the-variants.{Source, Sheet}
-use Rattle.automaton.specs.Rows.{sideOf}
-use Rattle.automaton.specs.Built.{treeLanguage}
 use Rattle.typing.specs.Round.{typingAnswer, answerOf}
 use Rattle.typing.specs.declared.round.TypingAnswer.the-variants as R
 use Rattle.answers.specs.Answers.{IsAccepted, Ready, TooSmall, CheckedIs}
