@@ -71,7 +71,7 @@ pub fn blank() -> [u64; 256]
     [0u64; 256]
 }
 
-// The first count rows lose their pairs. The others are not asked for, and clearing them too would be most of the work of a small program.
+// The first count rows lose their pairs. The others are not asked for.
 fn clear(cells: &mut [u64], count: usize)
     requires { ⌜ (count ≤ 128) × (length (now cells) ≡ 256) ⌝ }
     ensures { λ _. ⌜ Blank count (now (cells .exit)) ⌝ }

@@ -1,6 +1,6 @@
 // A lens writes the source of a sheet, onto an old text or without one. The deck holds the old source and its entries' cards; the book goes from left to
 // right. Each repeat keeps its flags at the front of the pad, and lends the pad behind them to its parts. So the pad has a share for each lens repeat up
-// to the node, and one in which the others cut: see `pads`.
+// to the node, and behind them the flags of one text, for cuts: see `pads`.
 use crate::Done;
 use crate::steps::behind;
 use crate::steps::choose;
