@@ -14,12 +14,16 @@ use crate::show::put;
 use crate::show::put_into;
 use crate::show::text;
 
-// Get, put and create of K, and of K with a copy in the place of its key.
-pub fn calls_of_k() {
+// Check and get of K.
+pub fn reading_k() {
     check(b"K, check", &PROGRAM_K);
     check(b"empty input, check", b"");
     get(b"K, get AB1;C22;", &PROGRAM_K, b"AB1;C22;");
     get(b"K, get of nothing", &PROGRAM_K, b"");
+}
+
+// Put and create of K.
+pub fn writing_k() {
     put(
         b"K, put C;AB; on AB1;C22;",
         &PROGRAM_K,
@@ -35,11 +39,19 @@ pub fn calls_of_k() {
     );
     put(b"K, put A;A; on A1;A2;", &PROGRAM_K, b"A;A;", b"A1;A2;");
     create(b"K, create AB;", &PROGRAM_K, b"AB;");
+}
+
+// Texts at the edge of K's ranges and beyond it.
+pub fn edges_of_k() {
     get(b"K, get Z;", &PROGRAM_K, b"Z;");
     get(b"K, get [;", &PROGRAM_K, b"[;");
     get(b"K, get @;", &PROGRAM_K, b"@;");
     put(b"K, put AB1; on AB1;", &PROGRAM_K, b"AB1;", b"AB1;");
     create(b"K, create AB1;", &PROGRAM_K, b"AB1;");
+}
+
+// K with a copy in the place of its key.
+pub fn k_without_key() {
     let mut no_key = PROGRAM_K;
     no_key[11] = 16;
     put(
@@ -94,8 +106,8 @@ pub fn typing() {
     get(b"copy of (a or a), get a", &SAME_TWICE, b"a");
 }
 
-// 257 and 256 entries.
-pub fn many_entries() {
+// 257 entries.
+pub fn too_many_entries() {
     let more = ENTRIES_257;
     get(b"K, get 257 times A;", &PROGRAM_K, &more);
     put(
@@ -112,7 +124,11 @@ pub fn many_entries() {
         &more,
         &mut none,
     );
-    let most = &more[0..512];
+}
+
+// 256 entries.
+pub fn most_entries() {
+    let most = &ENTRIES_257[0..512];
     put(
         b"K, put 256 times A; on 256 times A;",
         &PROGRAM_K,
@@ -128,8 +144,8 @@ pub fn many_entries() {
     put(b"K, put of nothing on 256 times A;", &PROGRAM_K, b"", most);
 }
 
-// One entry of 4,097 bytes, and one of 4,096.
-pub fn long_texts() {
+// One entry of 4,097 bytes.
+pub fn too_long_texts() {
     let mut over = [b'A'; 4097];
     over[4096] = b';';
     get(b"K, get 4,097 bytes", &PROGRAM_K, &over);
@@ -137,6 +153,10 @@ pub fn long_texts() {
     put(b"K, put of nothing on 4,097 bytes", &PROGRAM_K, b"", &over);
     put(b"K, put 4,097 bytes on [", &PROGRAM_K, &over, b"[");
     create(b"K, create 4,097 bytes", &PROGRAM_K, &over);
+}
+
+// One entry of 4,096 bytes.
+pub fn longest_texts() {
     let mut full = [b'A'; 4096];
     full[4095] = b';';
     get(b"K, get 4,096 bytes", &PROGRAM_K, &full);

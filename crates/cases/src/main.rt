@@ -10,15 +10,21 @@ mod report_tables;
 mod show;
 
 fn main() {
-    document::calls_of_k();
+    document::reading_k();
+    document::writing_k();
+    document::edges_of_k();
+    document::k_without_key();
     document::buffers();
     document::typing();
-    document::many_entries();
-    document::long_texts();
+    document::too_many_entries();
+    document::most_entries();
+    document::too_long_texts();
+    document::longest_texts();
     report::entries();
     report::one_or_two();
     report::composers_by_place();
     report::composers_by_key();
+    report::composers_moved_by_key();
     report::refused();
     extreme::cut_by_the_end();
     extreme::many_states();
@@ -26,6 +32,8 @@ fn main() {
     extreme::empty_entries();
     extreme::long_defaults();
     extreme::long_texts_with_two_cuts();
-    nodes::nodes_of_k();
+    nodes::leaves_of_k();
+    nodes::joins_of_k();
     nodes::positions_across_numbers();
+    nodes::positions_after_64();
 }

@@ -23,12 +23,15 @@ const K_TO_MATCH: [u8; 61] =
 const TWO_WORDS: [u8; 79] =
     *b"\x03\x00@\x00\x02\x10\x00\x00@\x00\x00\x00\x01\x00\x00aaaaaaaaaaaaaaaaaaaaaaaaaaaaaaaaaaaaaaaaaaaaaaaaaaaaaaaaaaaaaaab";
 
-pub fn nodes_of_k() {
+pub fn leaves_of_k() {
     get(b"K to node 8, get AB", &K_TO_KEY, b"AB");
     get(b"K to node 8, get of nothing", &K_TO_KEY, b"");
     get(b"K to node 9, get 22", &K_TO_CONST, b"22");
     get(b"K to node 9, get :", &K_TO_CONST, b":");
     get(b"K to node 10, get ;", &K_TO_COPY, b";");
+}
+
+pub fn joins_of_k() {
     get(b"K to node 11, get 22;", &K_TO_REMARK_AND_END, b"22;");
     get(b"K to node 12, get AB22;", &K_TO_ENTRY, b"AB22;");
     get(b"K to node 13, get AB22;", &K_TO_MATCH, b"AB22;");
@@ -48,7 +51,14 @@ pub fn positions_across_numbers() {
         &TWO_WORDS,
         &other,
     );
-    other = text;
+}
+
+// The same text but for one byte, and a part of it.
+pub fn positions_after_64() {
+    let mut text = [b'a'; 128];
+    text[63] = b'b';
+    text[127] = b'b';
+    let mut other = text;
     other[64] = b'b';
     get(
         b"two words, another byte at position 64",

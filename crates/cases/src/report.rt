@@ -119,6 +119,9 @@ pub fn composers_by_key() {
         &ADDED,
         &COMPOSERS,
     );
+}
+
+pub fn composers_moved_by_key() {
     put(
         b"composers by key, put reordered",
         &COMPOSERS_BY_KEY,
