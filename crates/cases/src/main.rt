@@ -1,39 +1,16 @@
-// Document 01's cases, 003's printed examples and what stands just inside the limits, each with its answer on a line of its own.
-// The lines that are expected are from the papers, never from this program.
-mod document;
-mod document_tables;
-mod extreme;
-mod extreme_tables;
-mod nodes;
-mod report;
-mod report_tables;
+// Runs a script of cases on standard input, and writes the answer of each on a line of its own. The script's first lines say what its words
+// mean. The lines that are expected are from the papers, never from this program.
+mod run;
 mod show;
 
+use libc::STDIN_FILENO;
+
 fn main() {
-    document::reading_k();
-    document::writing_k();
-    document::edges_of_k();
-    document::k_without_key();
-    document::buffers();
-    document::typing();
-    document::too_many_entries();
-    document::most_entries();
-    document::too_long_texts();
-    document::longest_texts();
-    report::entries();
-    report::one_or_two();
-    report::composers_by_place();
-    report::composers_by_key();
-    report::composers_moved_by_key();
-    report::refused();
-    extreme::cut_by_the_end();
-    extreme::many_states();
-    extreme::wide_sheets();
-    extreme::empty_entries();
-    extreme::long_defaults();
-    extreme::long_texts_with_two_cuts();
-    nodes::leaves_of_k();
-    nodes::joins_of_k();
-    nodes::positions_across_numbers();
-    nodes::positions_after_64();
+    let mut script = io::large_buffer();
+    let n = io::read_full(STDIN_FILENO, &mut script);
+    let mut table = io::buffer();
+    let mut sheet = io::large_buffer();
+    let mut source = io::large_buffer();
+    let mut out = io::buffer();
+    run::run(&script[..n], &mut table, &mut sheet, &mut source, &mut out);
 }

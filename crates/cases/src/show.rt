@@ -1,9 +1,13 @@
 // A case's line: its name, then the text in quotes, `result` and the length of a longer text, or `refused`, number and node.
 use answers::Answer;
 use libc::STDOUT_FILENO;
+use script::fill;
 
 // Above this, a text's length stands for it.
 const LONGEST_SHOWN: usize = 200;
+
+// In each byte of a buffer before a call, so that a byte that the call leaves is known.
+const MARK: u8 = b'-';
 
 // A name and what goes between it and the answer.
 fn begin(name: &[u8]) {
@@ -62,28 +66,31 @@ pub fn check(name: &[u8], table: &[u8]) {
     }
 }
 
-pub fn get(name: &[u8], table: &[u8], source: &[u8]) {
+// The line that `lenscheck` prints of a table.
+pub fn line(name: &[u8], table: &[u8]) {
     begin(name);
-    let mut out = io::buffer();
-    let got = engine::get::get(table, source, &mut out);
-    answer(got, &out);
+    let mut line = [0u8; 64];
+    let length = engine::lenscheck_line(table, &mut line);
+    io::write_all(STDOUT_FILENO, &line[0..length]);
 }
 
-pub fn put(name: &[u8], table: &[u8], sheet: &[u8], source: &[u8]) {
-    let mut out = io::buffer();
-    put_into(name, table, sheet, source, &mut out);
+pub fn get(name: &[u8], table: &[u8], source: &[u8], out: &mut [u8]) {
+    begin(name);
+    fill(out, MARK);
+    let got = engine::get::get(table, source, out);
+    answer(got, out);
 }
 
-// Put with a buffer of the caller's.
-pub fn put_into(name: &[u8], table: &[u8], sheet: &[u8], source: &[u8], out: &mut [u8]) {
+pub fn put(name: &[u8], table: &[u8], sheet: &[u8], source: &[u8], out: &mut [u8]) {
     begin(name);
+    fill(out, MARK);
     let made = engine::put::put(table, sheet, source, out);
     answer(made, out);
 }
 
-pub fn create(name: &[u8], table: &[u8], sheet: &[u8]) {
+pub fn create(name: &[u8], table: &[u8], sheet: &[u8], out: &mut [u8]) {
     begin(name);
-    let mut out = io::buffer();
-    let made = engine::create::create(table, sheet, &mut out);
-    answer(made, &out);
+    fill(out, MARK);
+    let made = engine::create::create(table, sheet, out);
+    answer(made, out);
 }
