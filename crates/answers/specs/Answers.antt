@@ -9,7 +9,7 @@ use Rattle.semantics.specs.Calls.{gives, refuses, program}
 use Rattle.semantics.specs.Calls.{Answer as Outcome}
 use Rattle.automaton.specs.Rows.{rowAt}
 use Rattle.automaton.specs.Built.{Built}
-use Rattle.automaton.specs.Program.{rowsNeeded}
+use Rattle.builder.specs.Program.{rowsNeeded}
 use Rattle.answers.specs.declared.Answer.{Answer}
 use Rattle.answers.specs.declared.Answer.the-variants.{Result, Refusal}
 use Rattle.answers.specs.declared.Checked.{Checked}

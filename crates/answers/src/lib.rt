@@ -1,6 +1,6 @@
 // What every call does: it checks the program in a lent slice, asks the root's languages, and answers a result with its length, or a refusal.
-use automaton::program::build_all;
-use automaton::program::rows_needed;
+use builder::program::build_all;
+use builder::program::rows_needed;
 use table::Table;
 use table::TableAnswer;
 use typing::round::TypingAnswer;

@@ -1,5 +1,3 @@
--- What the prepared program holds of every node's automata, and what is written to build them.
+-- What the prepared program holds of every node's automata.
 pub mod Rows
-pub mod Build
 pub mod Built
-pub mod Program

@@ -1,8 +1,5 @@
-// The position automata of a program's nodes, in the prepared program. Only the functions of this crate know where its numbers stand.
-pub mod build;
-pub mod program;
-pub mod rows;
-
+// The position automata of a program's nodes, in the prepared program. Only the functions of this crate, which read it, and
+// those of `builder`, which write it, know where its numbers stand.
 use positions::Set;
 ghost use mathlib.Core.Path.{_≡_};
 ghost use Prim.Native.Nat.{_+_, _*_, _≤_, _<_};
@@ -23,7 +20,7 @@ pub struct Automaton {
     pub last: Set,
 }
 
-fn side_index(side: Side) -> usize
+pub fn side_index(side: Side) -> usize
     ensures { λ r. ⌜ (r ≡ Rattle.automaton.specs.Rows.sideIndex side) × (r < 2) ⌝ }
 {
     match side {

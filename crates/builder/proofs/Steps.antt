@@ -1,0 +1,327 @@
+-- The steps that write rows and headers: what each leaves, from the stores and calls that it makes. Assumes nothing.
+use mathlib.Core.Path.{_≡_, refl, sym, ap, ap₂, _∙_}
+use mathlib.Core.Bool.{Bool, true, false, _&&_, _||_}
+use mathlib.Core.List.{List}
+use mathlib.Core.Logic.{⊎-elim}
+use Prim.Native.Nat.{ℕ, _+_, _-_, _≤_, _<_}
+use native.Mathlib.Omega.{arith}
+use lib.Dec.{eqb, ltb}
+use lib.ListN.{length, getD, set, length-set}
+use lib.Seq.{getD-set-same, getD-set-other}
+use borrow.Author.Tests.{ltb-true, ltb-false, lt-ltb, le-ltb, eqb-true, ne-eqb}
+use Rattle.laws.specs.Basics.{bool-cases}
+use Rattle.positions.proofs.Bits.{same-test}
+use Rattle.positions.specs.declared.Set.{Set}
+use Rattle.positions.specs.Positions.{holds, holdsMoved, Empty, Added, Moved, Joined}
+use Rattle.automaton.specs.Rows.{rowAt, setAt, followOf, precedingOf, automatonAt}
+use Rattle.builder.specs.Build.{countAt, headerAt, Kept, TwoPut, RowPut, HeaderPut, RowCopied, Copied}
+use Rattle.automaton.specs.declared.Side.{Side}
+
+-- ---- Tests
+
+pub or-false : (b : Bool) → (b || false) ≡ b
+or-false true = refl
+or-false false = refl
+
+-- ---- What is left as it was
+
+-- nothing changed
+pub kept-all : (from to : ℕ) (l : List ℕ) → Kept from to l l
+kept-all from to l = record { same-length = refl; kept = λ i out. refl }
+
+-- two changes, one after the other, inside a larger part
+pub kept-both :
+    {f t g u : ℕ} {a b c : List ℕ} (from to : ℕ)
+    → Kept f t a b
+    → Kept g u b c
+    → from ≤ f
+    → t ≤ to
+    → from ≤ g
+    → u ≤ to
+    → Kept from to a c
+kept-both from to first second h₁ h₂ h₃ h₄ =
+    record {
+      same-length = second .same-length ∙ first .same-length;
+      kept =
+          λ i out.
+          second .kept i (λ x y. out (omega arith) (omega arith)) ∙ first .kept i (λ x y. out (omega arith) (omega arith));
+    }
+
+-- The row is as it was.
+pub record RowKept (row : ℕ) (before after : List ℕ) : Type 0 where
+  pub low-kept : getD after (rowAt row) 0 ≡ getD before (rowAt row) 0
+  pub high-kept : getD after (rowAt row + 1) 0 ≡ getD before (rowAt row + 1) 0
+  pub follow-kept : followOf after row ≡ followOf before row
+  pub preceding-kept : precedingOf after row ≡ precedingOf before row
+
+-- two numbers of a list as a set
+set-path : (s : Set) (x y : ℕ) → x ≡ s .low → y ≡ s .high → _≡_ {A = Set} (record { low = x; high = y }) s
+set-path s x y p q = λ i. record { low = p i; high = q i }
+
+-- it is, where each of its numbers is
+pub row-kept :
+    (row : ℕ) (before after : List ℕ)
+    → ((i : ℕ) → rowAt row ≤ i → i < rowAt row + 6 → getD after i 0 ≡ getD before i 0)
+    → RowKept row before after
+row-kept row before after same =
+    record {
+      low-kept = same (rowAt row) (omega arith) (omega arith);
+      high-kept = same (rowAt row + 1) (omega arith) (omega arith);
+      follow-kept =
+          set-path
+          (followOf before row)
+          (getD after (rowAt row + 2) 0)
+          (getD after (rowAt row + 2 + 1) 0)
+          (same (rowAt row + 2) (omega arith) (omega arith))
+          (same (rowAt row + 2 + 1) (omega arith) (omega arith));
+      preceding-kept =
+          set-path
+          (precedingOf before row)
+          (getD after (rowAt row + 4) 0)
+          (getD after (rowAt row + 4 + 1) 0)
+          (same (rowAt row + 4) (omega arith) (omega arith))
+          (same (rowAt row + 4 + 1) (omega arith) (omega arith));
+    }
+
+-- outside the part that changed it is
+pub row-outside :
+    {from to : ℕ} {before after : List ℕ} (row : ℕ)
+    → Kept from to before after
+    → ((i : ℕ) → rowAt row ≤ i → i < rowAt row + 6 → from ≤ i → i < to → ⊥)
+    → RowKept row before after
+row-outside {before = before} {after = after} row rest out = row-kept row before after (λ i x y. rest .kept i (out i x y))
+
+-- ---- Stores
+
+pub two-put : (l : List ℕ) (i a b : ℕ) → i + 1 < length l → TwoPut i a b l (set (set l i a) (i + 1) b)
+two-put l i a b h =
+    record {
+      first-put = getD-set-other (set l i a) (i + 1) i b 0 (omega arith) ∙ getD-set-same l i a 0 (omega arith);
+      second-put = getD-set-same (set l i a) (i + 1) b 0 (simp length-set h);
+      rest =
+          record {
+            same-length = simp length-set;
+            kept =
+                λ j out.
+                getD-set-other (set l i a) (i + 1) j b 0 (λ e. out (omega arith) (omega arith))
+                ∙ getD-set-other l i j a 0 (λ e. out (omega arith) (omega arith));
+          };
+    }
+
+module _ (l₀ l₁ l₂ : List ℕ) where
+  -- a row is put as three pairs of numbers
+  pub row-put :
+      (l₃ : List ℕ) (row low high : ℕ) (follow forerun : Set)
+      → TwoPut (rowAt row) low high l₀ l₁
+      → TwoPut (rowAt row + 2) (follow .low) (follow .high) l₁ l₂
+      → TwoPut (rowAt row + 4) (forerun .low) (forerun .high) l₂ l₃
+      → RowPut row low high follow forerun l₀ l₃
+  row-put l₃ row low high follow forerun one two three =
+      record {
+        low-put = three .rest .kept (rowAt row) (omega arith) ∙ two .rest .kept (rowAt row) (omega arith) ∙ one .first-put;
+        high-put = three .rest .kept (rowAt row + 1) (omega arith) ∙ two .rest .kept (rowAt row + 1) (omega arith) ∙ one .second-put;
+        follow-put =
+            set-path follow (getD l₃ (rowAt row + 2) 0) (getD l₃ (rowAt row + 2 + 1) 0)
+            (three .rest .kept (rowAt row + 2) (omega arith) ∙ two .first-put)
+            (three .rest .kept (rowAt row + 2 + 1) (omega arith) ∙ two .second-put);
+        preceding-put = set-path forerun (getD l₃ (rowAt row + 4) 0) (getD l₃ (rowAt row + 4 + 1) 0) (three .first-put) (three .second-put);
+        rest =
+            kept-both (rowAt row) (rowAt (row + 1))
+            (kept-both (rowAt row) (rowAt (row + 1)) (one .rest) (two .rest) (omega arith) (omega arith) (omega arith) (omega arith))
+            (three .rest)
+            (omega arith) (omega arith) (omega arith) (omega arith);
+      }
+
+  -- and a header too
+  pub header-put :
+      (l₃ : List ℕ) (node : ℕ) (side : Side) (start flag : ℕ) (empty : Bool) (first last : Set)
+      → eqb flag 1 ≡ empty
+      → TwoPut (headerAt node side) start flag l₀ l₁
+      → TwoPut (headerAt node side + 2) (first .low) (first .high) l₁ l₂
+      → TwoPut (headerAt node side + 4) (last .low) (last .high) l₂ l₃
+      → HeaderPut node side start empty first last l₀ l₃
+  unfolding automatonAt
+  header-put l₃ node side start flag empty first last flagged one two three =
+      record {
+        header =
+            λ k.
+            record {
+              start = start-is k;
+              count = rest .kept (countAt node side) (omega arith) k;
+              nullable = nullable-is k;
+              first = first-is k;
+              last = set-path last (getD l₃ (i + 4) 0) (getD l₃ (i + 4 + 1) 0) (three .first-put) (three .second-put) k;
+            };
+        rest = rest;
+      }
+    where
+      i : ℕ
+      i = headerAt node side
+
+      rest : Kept i (i + 6) l₀ l₃
+      rest =
+          kept-both i (i + 6)
+          (kept-both i (i + 6) (one .rest) (two .rest) (omega arith) (omega arith) (omega arith) (omega arith))
+          (three .rest)
+          (omega arith)
+          (omega arith)
+          (omega arith)
+          (omega arith)
+
+      -- a number of the first pair, and one of the second
+      from-first : (j x : ℕ) → j < i + 2 → getD l₁ j 0 ≡ x → getD l₃ j 0 ≡ x
+      from-first j x h e = three .rest .kept j (omega arith) ∙ two .rest .kept j (omega arith) ∙ e
+
+      start-is : getD l₃ i 0 ≡ start
+      start-is = from-first i start (omega arith) (one .first-put)
+
+      nullable-is : eqb (getD l₃ (i + 1) 0) 1 ≡ empty
+      nullable-is = ap (λ (x : ℕ). eqb x 1) (from-first (i + 1) flag (omega arith) (one .second-put)) ∙ flagged
+
+      first-is : setAt l₃ (i + 2) ≡ first
+      first-is =
+          set-path
+          first
+          (getD l₃ (i + 2) 0)
+          (getD l₃ (i + 2 + 1) 0)
+          (three .rest .kept (i + 2) (omega arith) ∙ two .first-put)
+          (three .rest .kept (i + 2 + 1) (omega arith) ∙ two .second-put)
+
+-- ---- Copies
+
+-- a set that was read, moved up and joined with more
+moved-joined : (up : ℕ) (read old moved more all : Set) → read ≡ old → Moved read up moved → Joined moved more all → (q : ℕ) → holds all q ≡ (holdsMoved old up q || holds more q)
+moved-joined up read old moved more all read-is up-is all-is q =
+    all-is q ∙ ap (λ (b : Bool). b || holds more q) (up-is q ∙ ap (λ (s : Set). holdsMoved s up q) read-is)
+
+-- a row is put as it was read, both sets moved up and joined with more
+pub row-copied :
+    (from to up : ℕ) (l l′ : List ℕ) (more earlier follow moved all forerun moved′ all′ : Set)
+    → follow ≡ followOf l from
+    → Moved follow up moved
+    → Joined moved more all
+    → forerun ≡ precedingOf l from
+    → Moved forerun up moved′
+    → Joined moved′ earlier all′
+    → RowPut to (getD l (rowAt from) 0) (getD l (rowAt from + 1) 0) all all′ l l′
+    → RowCopied from to up (holds more) (holds earlier) l l′
+row-copied from to up l l′ more earlier follow moved all forerun moved′ all′ read up-is all-is read′ up-is′ all-is′ row =
+    record {
+      low-same = row .low-put;
+      high-same = row .high-put;
+      follow-same =
+          λ q. ap (λ (s : Set). holds s q) (row .follow-put) ∙ moved-joined up follow (followOf l from) moved more all read up-is all-is q;
+      preceding-same =
+          λ q. ap (λ (s : Set). holds s q) (row .preceding-put) ∙ moved-joined up forerun (precedingOf l from) moved′ earlier all′ read′ up-is′ all-is′ q;
+    }
+
+-- a copied row stays where another is written, and may have been read later
+pub copied-row-later :
+    {from to up : ℕ} {more earlier : ℕ → Bool} {a b c d : List ℕ}
+    → RowKept from a b
+    → RowCopied from to up more earlier b c
+    → RowKept to c d
+    → RowCopied from to up more earlier a d
+copied-row-later {up = up} {more = more} {earlier = earlier} read row written =
+    record {
+      low-same = written .low-kept ∙ row .low-same ∙ read .low-kept;
+      high-same = written .high-kept ∙ row .high-same ∙ read .high-kept;
+      follow-same =
+          λ q.
+          ap (λ (s : Set). holds s q) (written .follow-kept) ∙ row .follow-same q
+          ∙ ap (λ (s : Set). holdsMoved s up q || more q) (read .follow-kept);
+      preceding-same =
+          λ q.
+          ap (λ (s : Set). holds s q) (written .preceding-kept) ∙ row .preceding-same q
+          ∙ ap (λ (s : Set). holdsMoved s up q || earlier q) (read .preceding-kept);
+    }
+
+-- the row that is not changed
+pub row-same : (row : ℕ) (l : List ℕ) → RowKept row l l
+row-same row l = row-kept row l l (λ i x y. refl)
+
+module _ (from to up : ℕ) (last more first earlier : Set) where
+  -- no rows are copied yet
+  pub copied-none : (l : List ℕ) → Copied from to 0 up last more first earlier l l
+  copied-none l = record { copied = λ p h. absurd (omega arith); rest = kept-all (rowAt to) (rowAt (to + 0)) l }
+
+  -- one more is
+  pub copied-more :
+      (p : ℕ) (l₀ l₁ l₂ : List ℕ) (gained joined : Set)
+      → from + p < to
+      → ((q : ℕ) → holds gained q ≡ (holds last p && holds more q))
+      → ((q : ℕ) → holds joined q ≡ (holds first p && holds earlier q))
+      → Copied from to p up last more first earlier l₀ l₁
+      → RowCopied (from + p) (to + p) up (holds gained) (holds joined) l₁ l₂
+      → Kept (rowAt (to + p)) (rowAt (to + p + 1)) l₁ l₂
+      → Copied from to (p + 1) up last more first earlier l₀ l₂
+  copied-more p l₀ l₁ l₂ gained joined h gained-is joined-is so-far row rest =
+      record {
+        copied =
+            λ i k.
+            ⊎-elim
+            (λ e.
+            let j = ltb-true i p e in
+            copied-row-later
+            (row-same (from + i) l₀)
+            (so-far .copied i j)
+            (row-outside (to + i) rest (omega arith)))
+            (λ e.
+            let j = ltb-false i p e in
+            let same : p ≡ i = omega arith in
+            rw same at this)
+            (bool-cases (ltb i p));
+        rest =
+            kept-both (rowAt to) (rowAt (to + (p + 1))) (so-far .rest) rest (omega arith) (omega arith) (omega arith) (omega arith);
+      }
+    where
+      this : RowCopied (from + p) (to + p) up (λ q. holds last p && holds more q) (λ q. holds first p && holds earlier q) l₀ l₂
+      this =
+          let later : RowCopied (from + p) (to + p) up (holds gained) (holds joined) l₀ l₂ = copied-row-later (row-outside (from + p) (so-far .rest) (omega arith)) row (row-same (to + p) l₂) in
+          record {
+            low-same = later .low-same;
+            high-same = later .high-same;
+            follow-same = λ q. later .follow-same q ∙ ap (λ (b : Bool). holdsMoved (followOf l₀ (from + p)) up q || b) (gained-is q);
+            preceding-same = λ q. later .preceding-same q ∙ ap (λ (b : Bool). holdsMoved (precedingOf l₀ (from + p)) up q || b) (joined-is q);
+          }
+
+-- ---- Sets of one position
+
+module _ (p count : ℕ) where
+  -- p alone, where it is below the count
+  pub single-some :
+      (r none : Set)
+      → p < count
+      → Added none p r
+      → Empty none
+      → (q : ℕ)
+      → holds r q ≡ (eqb q p && ltb q count)
+  single-some r none h added empty q = added q ∙ go (eqb q p) refl
+    where
+      go : (b : Bool) → eqb q p ≡ b → (b || holds none q) ≡ (b && ltb q count)
+      go true e = sym (lt-ltb q count (omega (arith, eqb-true q p e)))
+      go false e = empty q
+
+  -- and nothing, where it is not
+  pub single-none : (none : Set) → count ≤ p → Empty none → (q : ℕ) → holds none q ≡ (eqb q p && ltb q count)
+  single-none none h empty q = empty q ∙ go (eqb q p) refl
+    where
+      go : (b : Bool) → eqb q p ≡ b → false ≡ (b && ltb q count)
+      go true e = sym (le-ltb q count (omega (arith, eqb-true q p e)))
+      go false e = refl
+
+-- the last of count positions
+pub last-none : (count : ℕ) (none : Set) → count ≡ 0 → Empty none → (q : ℕ) → holds none q ≡ eqb (q + 1) count
+last-none count none h empty q = empty q ∙ sym (ne-eqb (q + 1) count (λ e. omega arith))
+
+pub last-some :
+    (count : ℕ) (r none : Set)
+    → 0 < count
+    → Added none (count - 1) r
+    → Empty none
+    → (q : ℕ)
+    → holds r q ≡ eqb (q + 1) count
+last-some count r none h added empty q =
+    added q
+    ∙ ap₂ _||_ (same-test q (count - 1) (q + 1) count (λ e. omega arith) (λ e. omega arith)) (empty q)
+    ∙ or-false (eqb (q + 1) count)
