@@ -1,11 +1,50 @@
-// Command lines of the program `sheet`, each with what it writes to standard output, and the sentence of each refusal. The results and refusals
-// that are expected are from the papers; the sentences are stored so that a change of one is seen.
+// Runs the command lines of a script on standard input as the program `sheet` would, each with what it writes to standard output, and then writes
+// the sentence of each refusal. The results and refusals that are expected are from the papers; the sentences are stored so that a change of one
+// is seen.
 use commands::meanings::explain;
 use commands::run::run;
+use libc::STDIN_FILENO;
 use libc::STDOUT_FILENO;
+use script::behind;
+use script::find;
+ghost use Prim.Native.Nat.{_≤_};
 
-// A command line that has some of these words, and what it writes between brackets.
-fn case(count: usize, word: &[u8], first: &[u8], second: &[u8], third: &[u8]) {
+fn main() {
+    let mut script = io::large_buffer();
+    let n = io::read_full(STDIN_FILENO, &mut script);
+    command_lines(&script[..n]);
+    sentences();
+}
+
+fn command_lines(script: &[u8]) {
+    let mut at = 0;
+    while at < script.len() {
+        let end = find(script, at, b'\n');
+        unless_comment(&script[at..end]);
+        at = end + 1;
+    }
+}
+
+fn unless_comment(line: &[u8]) {
+    if line.len() == 0 || line[0] != b'#' {
+        in_words(line);
+    }
+}
+
+// A command line of up to four words, with a space between them.
+fn in_words(line: &[u8]) {
+    let a = find(line, 0, b' ');
+    let b = behind(line, a);
+    let c = find(line, b, b' ');
+    let d = behind(line, c);
+    let e = find(line, d, b' ');
+    let f = behind(line, e);
+    case(&line[0..a], &line[b..c], &line[d..e], &line[f..]);
+}
+
+// The words, and what they write between brackets.
+fn case(word: &[u8], first: &[u8], second: &[u8], third: &[u8]) {
+    let count = given(word) + given(first) + given(second) + given(third);
     shown(word);
     shown(first);
     shown(second);
@@ -15,76 +54,27 @@ fn case(count: usize, word: &[u8], first: &[u8], second: &[u8], third: &[u8]) {
     io::write_all(STDOUT_FILENO, b"]\n");
 }
 
+fn given(word: &[u8]) -> usize
+    ensures { λ r. ⌜ r ≤ 1 ⌝ }
+{
+    if word.len() == 0 { 0 } else { 1 }
+}
+
 fn shown(word: &[u8]) {
     io::write_all(STDOUT_FILENO, word);
     io::write_all(STDOUT_FILENO, b" ");
+}
+
+fn sentences() {
+    let mut number = 1;
+    while number <= 16 {
+        sentence(number);
+        number += 1;
+    }
 }
 
 fn sentence(number: usize) {
     io::print_decimal(STDOUT_FILENO, number as u64);
     io::write_all(STDOUT_FILENO, b": ");
     explain(STDOUT_FILENO, number);
-}
-
-// Document 01's cases of program K.
-fn results() {
-    case(2, b"check", b"k.table", b"", b"");
-    case(3, b"get", b"k.table", b"source", b"");
-    case(3, b"get", b"k.table", b"empty", b"");
-    case(4, b"put", b"k.table", b"moved", b"source");
-    case(4, b"put", b"k.table", b"edited", b"source");
-    case(3, b"create", b"k.table", b"entry", b"");
-}
-
-fn refusals() {
-    case(2, b"check", b"empty", b"", b"");
-    case(2, b"check", b"bytes_4097", b"", b"");
-    case(4, b"put", b"source", b"moved", b"source");
-    case(3, b"get", b"k.table", b"bytes_4097", b"");
-    case(3, b"get", b"k.table", b"bracket", b"");
-    case(3, b"create", b"k.table", b"remark_shown", b"");
-    case(4, b"put", b"k.table", b"entry", b"entries_257");
-    case(3, b"create", b"k.table", b"entries_2048", b"");
-}
-
-// What is turned down before any call: nothing is written to standard output.
-fn nothing() {
-    case(0, b"", b"", b"", b"");
-    case(1, b"check", b"", b"", b"");
-    case(3, b"check", b"k.table", b"source", b"");
-    case(2, b"get", b"k.table", b"", b"");
-    case(3, b"put", b"k.table", b"moved", b"");
-    case(2, b"list", b"k.table", b"", b"");
-    case(2, b"check", b"no_such_file", b"", b"");
-    case(3, b"get", b"k.table", b"no_such_file", b"");
-    // a folder opens, and cannot be read
-    case(4, b"put", b"k.table", b"moved", b".");
-    // a file without end
-    case(3, b"create", b"k.table", b"/dev/zero", b"");
-}
-
-fn sentences() {
-    sentence(1);
-    sentence(2);
-    sentence(3);
-    sentence(4);
-    sentence(5);
-    sentence(6);
-    sentence(7);
-    sentence(8);
-    sentence(9);
-    sentence(10);
-    sentence(11);
-    sentence(12);
-    sentence(13);
-    sentence(14);
-    sentence(15);
-    sentence(16);
-}
-
-fn main() {
-    results();
-    refusals();
-    nothing();
-    sentences();
 }
