@@ -20,27 +20,11 @@ use Rattle.positions.specs.Positions.{holds, Shared}
 use Rattle.positions.proofs.Bits.{holds-past}
 use Rattle.automaton.specs.declared.Automaton.{Automaton}
 use Rattle.automaton.specs.Rows.{followOf, shareIn, RowIs, Describes}
+use Rattle.pairs.specs.Pairs.{Gathered, byFollow, byRow, held, anyBelow, Meets, Reached, begins, goes, Filled}
+use Rattle.pairs.proofs.Cells.{any-iff, gathered-iff}
+use Rattle.pairs.proofs.Spreads.{reached-within}
 use Rattle.typing.specs.declared.questions.Marked.{Marked}
-use Rattle.typing.specs.Stages.{
-  Gathered,
-  byFollow,
-  byRow,
-  held,
-  anyBelow,
-  Meets,
-  Reached,
-  begins,
-  goes,
-  Filled,
-  In,
-  Within,
-  StartOnly,
-  NextOf,
-  SomeFinal,
-  StagedBy,
-}
-use Rattle.typing.proofs.Cells.{any-iff, gathered-iff}
-use Rattle.typing.proofs.Spreads.{reached-within}
+use Rattle.typing.specs.Stages.{In, Within, StartOnly, NextOf, SomeFinal, StagedBy}
 
 -- ---- A common byte
 

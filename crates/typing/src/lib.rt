@@ -1,4 +1,3 @@
 // The typing questions, decided on the automata, and the second round, which asks them of every node.
-mod pairs;
 pub mod questions;
 pub mod round;

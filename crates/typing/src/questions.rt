@@ -1,5 +1,4 @@
 // Questions on the languages of two automata: whether some text belongs to both, and whether some text has two cuts.
-use crate::pairs;
 use automaton::Automaton;
 use positions::Set;
 ghost use mathlib.Core.Path.{_≡_};
