@@ -1,4 +1,3 @@
 -- What the proofs of several functions cite.
-pub mod Texts
 pub mod Lines
 pub mod Sourcing

@@ -1,21 +1,18 @@
 -- The line that `lenscheck` prints: what it says of an accepted program and of a refusal, and that it fits 64 bytes.
-use mathlib.Core.Path.{_≡_, refl, sym, _∙_, subst}
+use mathlib.Core.Path.{_≡_, refl, sym, _∙_}
 use mathlib.Core.Bool.{Bool, true, false, _||_, true≢false}
-use mathlib.Core.List.{List, [], _∷_, _++_}
-use mathlib.Core.Logic.{inl}
-use Prim.Native.Nat.{ℕ, suc, _+_, _-_, _/_, _≤_, _<_, min}
+use mathlib.Core.List.{_++_}
+use Prim.Native.Nat.{ℕ, _+_, _-_, _/_, _≤_, _<_, min}
 use native.Mathlib.Omega.{arith}
 use lib.Dec.{ltb}
-use lib.ListN.{length, drop, getD, length-append}
+use lib.ListN.{length, drop, length-append}
 use borrow.Author.Tests.{ltb-true, ltb-false, le-ltb}
-use Rattle.semantics.specs.Text.{Text, All}
-use Rattle.semantics.specs.Lens.{Lens, copy, const, key, join, union, repeat, match, source, sheet}
-use Rattle.semantics.specs.Table.{at, maxSize, maxPositions, nodeCount, Node, nodes, Tree, Trees, pattern, lens, broken, treeAt, trees, treeSize, treePositions, overLimit, Line, line, firstRound, rootLine, typingLines, treeLines, secondRound, lines}
+use Rattle.semantics.specs.Text.{Text}
+use Rattle.semantics.specs.Lens.{Lens, source, sheet}
+use Rattle.semantics.specs.Table.{maxSize, maxPositions, nodeCount, lens, treeAt, trees, treeSize, treePositions, overLimit}
 use Rattle.semantics.specs.Calls.{gives, refuses, program, withProgram, maxText, output, refuseIf, bufferAfter, decimal, field, programLine, lenscheckLine}
 use Rattle.semantics.specs.Calls.{Answer as Outcome}
-use Rattle.laws.specs.Basics.{all-at, all-append, member-right}
-use Rattle.laws.specs.NodeTrees.{node-length, tree-length}
-use Rattle.laws.specs.Accepted.{refuses-iff, accepted-iff}
+use Rattle.laws.specs.Accepted.{accepted-iff}
 use Rattle.table.specs.Rules.{NodeRead}
 use Rattle.table.specs.declared.Node.{Node as NodeOf}
 use Rattle.answers.specs.Answers.{answerFor, IsAccepted}
@@ -23,71 +20,9 @@ use Rattle.answers.specs.Results.{GivesText}
 use Rattle.answers.specs.declared.Answer.{Answer}
 use Rattle.answers.specs.declared.Answer.the-variants.{Result, Refusal}
 use Rattle.answers.proofs.Verdicts.{accepted-sizes, root-tree}
-use Rattle.calls.specs.Line.{acceptedLine, refusedLine, lineCall}
-use Rattle.calls.proofs.Texts.{decimal-one, decimal-two, decimal-more}
-
--- ---- The numbers of a refusal
-
--- a line of the table of refusals of a table of n nodes
-abbrev Named : ℕ → Line → Type 0
-Named n l = (l .number ≤ 11) × (l .node ≤ n)
-
-first-named : (n k : ℕ) (ns : List Node) (ts : Trees) → k + length ns ≤ n → All (Named n) (firstRound k ns ts)
-unfolding firstRound line
-first-named n k [] ts h = tt
-first-named n k (x ∷ ns) [] h = tt
-first-named n k (x ∷ ns) (t ∷ ts) h =
-    let below : k ≤ n = omega arith in
-    ((omega arith, below), ((omega arith, below), ((omega arith, below), ((omega arith, below), first-named n (suc k) ns ts (omega arith)))))
-
-typing-named : (n k : ℕ) (l : Lens) → k ≤ n → All (Named n) (typingLines k l)
-unfolding typingLines line
-typing-named n k (copy r) h = tt
-typing-named n k (const r w d) h = ((omega arith, h), tt)
-typing-named n k (key r) h = tt
-typing-named n k (join l m) h = ((omega arith, h), ((omega arith, h), tt))
-typing-named n k (union l m) h = ((omega arith, h), tt)
-typing-named n k (repeat l) h = ((omega arith, h), ((omega arith, h), tt))
-typing-named n k (match a l) h = tt
-
-tree-named : (n k : ℕ) (t : Tree) → k ≤ n → All (Named n) (treeLines k t)
-unfolding treeLines
-tree-named n k (pattern r) h = tt
-tree-named n k (lens l) h = typing-named n k l h
-tree-named n k broken h = tt
-
-second-named : (n k : ℕ) (ts : Trees) → k + length ts ≤ n → All (Named n) (secondRound k ts)
-unfolding secondRound
-second-named n k [] h = tt
-second-named n k (t ∷ ts) h =
-    all-append (Named n) (treeLines k t) (secondRound (suc k) ts) (tree-named n k t (omega arith)) (second-named n (suc k) ts (omega arith))
-
-all-named : (bytes : Text) → All (Named (nodeCount bytes)) (lines bytes)
-unfolding lines line rootLine
-all-named bytes =
-    let n = nodeCount bytes in (
-      (omega arith, omega arith),
-      all-append
-          (Named n)
-          (firstRound 0 (nodes bytes) (trees bytes))
-          (rootLine bytes ∷ secondRound 0 (trees bytes))
-          (first-named n 0 (nodes bytes) (trees bytes) (omega (arith, node-length bytes)))
-          ((omega arith, omega arith), second-named n 0 (trees bytes) (omega (arith, tree-length bytes))),
-    )
-
--- A refusal has a number of document 01's table and names no node past the table's.
-refusal-named : (bytes : Text) (number node : ℕ) → program bytes ≡ refuses number node → (number ≤ 11) × (node ≤ nodeCount bytes)
-refusal-named bytes number node e =
-    let f = refuses-iff bytes number node .0 e in
-    let n = nodeCount bytes in
-    let all : All (Named n) (f .passed ++ f .held ∷ f .later) = subst (All (Named n)) (f .in-order) (all-named bytes) in
-    let h = all-at (Named n) (f .held) (f .passed ++ f .held ∷ f .later) all (member-right (f .held) (f .passed) (f .held ∷ f .later) (inl refl)) in
-    (omega (arith, h .0, f .its-number), omega (arith, h .1, f .its-node))
-
--- so three digits are enough, where the node count is a byte
-pub refusal-short : (bytes : Text) (number node : ℕ) → getD bytes 0 0 < 256 → program bytes ≡ refuses number node → (number < 1000) × (node < 1000)
-unfolding nodeCount at
-refusal-short bytes number node h e = let named = refusal-named bytes number node e in (omega arith, omega arith)
+use Rattle.lines.specs.Line.{acceptedLine, refusedLine}
+use Rattle.lines.proofs.Texts.{decimal-one, decimal-two, decimal-more}
+use Rattle.calls.specs.Line.{lineCall}
 
 -- ---- The root of an accepted program
 

@@ -1,25 +1,8 @@
--- The line that `lenscheck` prints, as its functions put it together.
-use mathlib.Core.Path.{_≡_}
-use mathlib.Core.List.{List, [], _∷_, _++_}
-use Prim.Native.Nat.{ℕ, _+_}
-use lib.ListN.{length}
-use lib.Seq.{sets}
+-- The line that `lenscheck` prints, as the text of a call.
+use Prim.Native.Nat.{ℕ}
 use Rattle.semantics.specs.Text.{Text}
-use Rattle.semantics.specs.Calls.{field, program, withProgram, output, lenscheckLine}
+use Rattle.semantics.specs.Calls.{program, withProgram, output, lenscheckLine}
 use Rattle.semantics.specs.Calls.{Answer as Outcome}
-
--- A text is put at a place of a buffer, byte by byte, and the next place is behind it.
-pub record Puts (text : Text) (at next : ℕ) (before after : List ℕ) : Type 0 where
-  pub after-is : after ≡ sets before at text
-  pub next-is : next ≡ at + length text
-
--- 'the word `ok`, N, source positions, sheet positions of the root'
-unfoldable pub acceptedLine : ℕ → ℕ → ℕ → Text
-acceptedLine count sources sheets = (111 ∷ 107 ∷ []) ++ field count ++ field sources ++ field sheets ++ 10 ∷ []
-
--- '`refused`, number, node'
-unfoldable pub refusedLine : ℕ → ℕ → Text
-refusedLine number node = (114 ∷ 101 ∷ 102 ∷ 117 ∷ 115 ∷ 101 ∷ 100 ∷ []) ++ field number ++ field node ++ 10 ∷ []
 
 -- The line of an accepted program as the text of a call: 16 if it is longer than the buffer, and another program's refusal comes through.
 unfoldable pub lineCall : Text → ℕ → Outcome Text

@@ -12,7 +12,7 @@ use Rattle.semantics.specs.Calls.{Answer as Outcome}
 use Rattle.answers.specs.declared.Answer.{Answer}
 use Rattle.answers.specs.declared.Answer.the-variants.{Result, Refusal}
 use Rattle.answers.specs.Answers.{answerFor}
-use Rattle.calls.specs.Line.{refusedLine}
+use Rattle.lines.specs.Line.{refusedLine}
 use Rattle.answers.specs.Results.{GivesText}
 use Rattle.calls.proofs.Lines.{refused-line}
 use Rattle.commands.specs.Replies.{checkOutcome, printed, numberOf, answerNumber, Replies, Finishes}

@@ -9,7 +9,7 @@ use Rattle.semantics.specs.Calls.{gives, refuses, program, withProgram, getCall
 use Rattle.semantics.specs.Calls.{Answer as Outcome}
 use Rattle.answers.specs.declared.Answer.{Answer}
 use Rattle.answers.specs.declared.Answer.the-variants.{Result, Refusal}
-use Rattle.calls.specs.Line.{refusedLine}
+use Rattle.lines.specs.Line.{refusedLine}
 use Rattle.answers.specs.Results.{GivesText}
 use Rattle.commands.specs.declared.command.Command.{Command}
 use Rattle.commands.specs.declared.command.Command.the-variants.{Check, Get, Put, Create, Unknown}

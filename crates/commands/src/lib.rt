@@ -2,7 +2,6 @@
 // Reading and writing stand apart, since no contract can say what is read or written.
 pub mod command;
 mod files;
-mod line;
 pub mod meanings;
 pub mod replies;
 pub mod run;

@@ -1,8 +1,8 @@
 // What each command prints on standard output, made at the start of a buffer.
 use crate::command::Command;
-use crate::line::put_refused;
 use answers::Answer;
 use engine::lenscheck_line;
+use lines::put_refused;
 ghost use mathlib.Core.Path.{_≡_};
 ghost use Prim.Native.Nat.{_≤_};
 ghost use lib.ListN.{length};

@@ -1,6 +1,6 @@
 // The calls of the sheet engine. Each checks the program itself.
 use answers::Answer;
-use calls::line::put_refused;
+use lines::put_refused;
 use rooms::Call;
 use rooms::Room;
 use rooms::answer_in;
@@ -36,6 +36,6 @@ pub fn lenscheck_line(bytes: &[u8], out: &mut [u8]) -> usize
     let answer = answer_in(Room::Small, Call::Line, bytes, none, none, out);
     match answer {
         Answer::Result { length } => length,
-        Answer::Refusal { number, node } => put_refused(out, number, node),
+        Answer::Refusal { number, node } => put_refused(number, node, out),
     }
 }

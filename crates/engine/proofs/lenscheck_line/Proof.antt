@@ -3,8 +3,8 @@ use borrow.Author.Needs.{needs}
 use native.Mathlib.Omega.{arith}
 use denote.Ref.{now}
 use Rattle.engine.specs.Rooms.{Owed}
-use Rattle.calls.proofs.Texts.{puts-as, puts-start}
-use Rattle.calls.proofs.Lines.{line-result, line-refusal, refusal-short, refused-line}
+use Rattle.lines.proofs.Texts.{puts-as, puts-start}
+use Rattle.calls.proofs.Lines.{line-result, line-refusal, refused-line}
 use Rattle.engine.proofs.lenscheck_line.Statement.{statement}
 use Rattle.engine.proofs.lenscheck_line.Tie as tie
 
@@ -27,8 +27,7 @@ enum-known-answer-2 : tie.Need-enum-known-answer-2
 enum-known-answer-2 c = search needs
 
 put-refused-requires : tie.Need-put-refused-requires
-unfolding Owed
-put-refused-requires c κs = let (refuses, same) = line-refusal (now (c .before .before .before .before .before .before .before .before .before .before .before .args .bytes)) (c .before .before .before .before .before .before .before .before .before .before .before .pre) (c .before .before .before .before .before .before .answer-in .ensures .owed) (c .before .before .answer2 .given .1) in (omega (arith, c .before .before .before .before .before .before .before .before .before .before .before .pre, c .before .before .before .before .before .before .answer-in .kept .1 .1 .1 .1 .1 .0), refusal-short (now (c .before .before .before .before .before .before .before .before .before .before .before .args .bytes)) _ _ (omega (arith, c .before .before .before .before .before .before .before .before .before .before .shared-slice-known .given 0)) refuses)
+put-refused-requires c κs = search needs
 
 same-length : tie.Need-same-length
 same-length c = search needs

@@ -4,7 +4,7 @@ use native.Mathlib.Omega.{arith}
 use Rattle.answers.proofs.Verdicts.{accepted-sizes}
 use Rattle.answers.proofs.Giving.{program-gives}
 use Rattle.calls.proofs.Lines.{root-line}
-use Rattle.calls.proofs.Texts.{puts-as, puts-front}
+use Rattle.lines.proofs.Texts.{puts-as, puts-front}
 use Rattle.calls.specs.Line.{lineCall}
 use Rattle.calls.proofs.line.line_with.Statement.{statement}
 use Rattle.calls.proofs.line.line_with.Tie as tie
@@ -25,7 +25,7 @@ slice-aggregate-put-accepted : tie.Need-slice-aggregate-put-accepted
 slice-aggregate-put-accepted c = search needs
 
 put-accepted-requires : tie.Need-put-accepted-requires
-put-accepted-requires c κs = let l = root-line (c .before .before .before .before .before .before .before .pre .accepted) (c .before .before .before .node-count .ensures) (c .before .before .node .ensures) in (omega (arith, c .before .no-line .ensures), (l .count-short, (l .sources-short, l .sheets-short)))
+put-accepted-requires c κs = search needs
 
 sub-give : tie.Need-sub-give
 sub-give c = search needs

@@ -1,5 +1,7 @@
 -- `commands::replies::finish` meets its contract: a result stands in the buffer, and a refusal has its line. Assumes nothing.
 use borrow.Author.Needs.{needs}
+use native.Mathlib.Omega.{arith}
+use Rattle.lines.proofs.Texts.{puts-start}
 use Rattle.commands.proofs.Outcomes.{finishes-result, finishes-refusal}
 use Rattle.commands.proofs.replies.finish.Statement.{statement}
 use Rattle.commands.proofs.replies.finish.Tie as tie
@@ -20,7 +22,9 @@ same-length : tie.Need-same-length
 same-length c = search needs
 
 returns-2 : tie.Need-returns-2
-returns-2 c = finishes-refusal (c .before .before .before .before .before .answer2 .given .1) (c .before .before .put-refused .ensures .0) (c .before .before .put-refused .ensures .1)
+returns-2 c =
+    let (after, length) = puts-start (c .before .before .put-refused .ensures .0) (omega (arith, c .before .before .put-refused .ensures .1, c .before .before .before .before .before .before .before .before .pre)) in
+    finishes-refusal (c .before .before .before .before .before .answer2 .given .1) after length
 
 pub finish-spec : {M : Type 1} → statement M
 finish-spec =

@@ -5,14 +5,13 @@ use mathlib.Core.List.{List, [], _∷_, _++_}
 use Prim.Native.Nat.{ℕ, suc, _+_, _-_, _/_, _%_, _≤_, _<_}
 use native.Mathlib.Omega.{arith}
 use native.Mathlib.Nat.{add-zero, zero-add, sub-zero}
-use native.Mathlib.Numerals.{add-one}
 use lib.Dec.{ltb}
-use lib.ListN.{length, take, drop, getD, set, length-append}
-use lib.Seq.{sets, sets-eq, take-suc, take-length, take-append-seam}
+use lib.ListN.{length, take, drop, set, length-append}
+use lib.Seq.{sets, sets-eq, take-append-seam}
 use borrow.Author.Tests.{lt-ltb, le-ltb, ltb-true, ltb-false}
 use Rattle.semantics.specs.Text.{Text}
 use Rattle.semantics.specs.Calls.{digits, decimal}
-use Rattle.calls.specs.Line.{Puts}
+use Rattle.lines.specs.Line.{Puts}
 
 -- ---- One text behind the other
 
@@ -34,21 +33,6 @@ puts-then {s} {t} {at} {before} p q = record {
 
 pub puts-as : {s t : Text} {at end : ℕ} {before after : List ℕ} → s ≡ t → Puts s at end before after → Puts t at end before after
 puts-as {at} {end} {before} {after} e = subst (λ (x : Text). Puts x at end before after) e
-
--- a word's bytes so far: none, one more, all
-pub puts-none : (word : Text) {at : ℕ} {buffer : List ℕ} → Puts (take 0 word) at at buffer buffer
-puts-none word {at} = record { after-is = refl; next-is = sym (add-zero at) }
-
-pub puts-more :
-    (word : Text) (i : ℕ) {at next end : ℕ} {before between after : List ℕ}
-    → i < length word
-    → Puts (take i word) at next before between
-    → Puts (getD word i 0 ∷ []) next end between after
-    → Puts (take (i + 1) word) at end before after
-puts-more word i h p q = puts-as (sym (rw (add-one i) (take-suc word i 0 h))) (puts-then p q)
-
-pub puts-all : (word : Text) (i : ℕ) {at end : ℕ} {before after : List ℕ} → i ≡ length word → Puts (take i word) at end before after → Puts word at end before after
-puts-all word i e = puts-as (rw e (take-length word))
 
 -- what a buffer holds that has a text put at its start
 pub puts-start :

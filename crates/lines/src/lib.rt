@@ -1,11 +1,10 @@
-// The line of a refusal, put into a buffer part by part. Each function answers the place behind what it put.
+// The lines that `lenscheck` and `sheet` print of a program, put into a buffer part by part. Each function answers the place behind what it put.
 use lens::texts::write_text;
 ghost use mathlib.Core.Path.{_≡_};
-ghost use mathlib.Core.List.{_++_};
 ghost use Prim.Native.Nat.{_+_, _≤_};
-ghost use lib.ListN.{length, drop};
+ghost use lib.ListN.{length};
 ghost use Rattle.semantics.specs.Calls.{field};
-ghost use Rattle.calls.specs.Line.{Puts, refusedLine};
+ghost use Rattle.lines.specs.Line.{Puts, acceptedLine, refusedLine};
 
 fn put_text(text: &[u8], at: usize, out: &mut [u8]) -> usize
     requires { ⌜ at + length (now text) ≤ length (now out) ⌝ }
@@ -27,11 +26,24 @@ fn put_field(number: usize, at: usize, out: &mut [u8]) -> usize
     put_text(&digits[0..n], next, out)
 }
 
-// The whole line, at the start of the buffer.
+// The line of an accepted program, at the start of the buffer.
+pub fn put_accepted(count: usize, sources: usize, sheets: usize, out: &mut [u8]) -> usize
+    requires { ⌜ 66 ≤ length (now out) ⌝ }
+    ensures puts { λ r. ⌜ Puts (acceptedLine count sources sheets) 0 r (now (out .entry)) (now (out .exit)) ⌝ }
+    ensures short { λ r. ⌜ r ≤ 66 ⌝ }
+{
+    let first = put_text(b"ok", 0, out);
+    let second = put_field(count, first, out);
+    let third = put_field(sources, second, out);
+    let end = put_field(sheets, third, out);
+    put_text(b"\n", end, out)
+}
+
+// The line of a refusal, at the start of the buffer.
 pub fn put_refused(number: usize, node: usize, out: &mut [u8]) -> usize
     requires { ⌜ 64 ≤ length (now out) ⌝ }
-    ensures leaves { λ r. ⌜ now (out .exit) ≡ refusedLine number node ++ drop (length (refusedLine number node)) (now (out .entry)) ⌝ }
-    ensures answers { λ r. ⌜ r ≡ length (refusedLine number node) ⌝ }
+    ensures puts { λ r. ⌜ Puts (refusedLine number node) 0 r (now (out .entry)) (now (out .exit)) ⌝ }
+    ensures short { λ r. ⌜ r ≤ 64 ⌝ }
 {
     let first = put_text(b"refused", 0, out);
     let second = put_field(number, first, out);

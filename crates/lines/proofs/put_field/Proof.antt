@@ -1,12 +1,12 @@
--- `commands::line::put_field` meets its contract: the digits stand behind the space. Assumes nothing.
+-- `lines::put_field` meets its contract: the digits stand behind the space. Assumes nothing.
 use borrow.Author.Needs.{needs}
 use native.Mathlib.Omega.{arith}
 use lib.ListN.{length-take}
 use Rattle.semantics.specs.Calls.{field}
-use Rattle.calls.proofs.Texts.{puts-then, puts-as}
-use Rattle.commands.proofs.Lines.{few-digits, decimal-lent}
-use Rattle.commands.proofs.line.put_field.Statement.{statement}
-use Rattle.commands.proofs.line.put_field.Tie as tie
+use Rattle.lines.proofs.Texts.{puts-then, puts-as}
+use Rattle.lines.proofs.Digits.{few-digits, decimal-lent}
+use Rattle.lines.proofs.put_field.Statement.{statement}
+use Rattle.lines.proofs.put_field.Tie as tie
 
 slice-aggregate-put-text : tie.Need-slice-aggregate-put-text
 slice-aggregate-put-text c = search needs

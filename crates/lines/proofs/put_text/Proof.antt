@@ -1,9 +1,9 @@
--- `commands::line::put_text` meets its contract: the text is written into the part that is lent. Assumes nothing.
+-- `lines::put_text` meets its contract: the text is written into the part that is lent. Assumes nothing.
 use borrow.Author.Needs.{needs}
 use denote.Ref.{now}
-use Rattle.commands.proofs.Lines.{puts-lent}
-use Rattle.commands.proofs.line.put_text.Statement.{statement}
-use Rattle.commands.proofs.line.put_text.Tie as tie
+use Rattle.lines.proofs.Digits.{puts-lent}
+use Rattle.lines.proofs.put_text.Statement.{statement}
+use Rattle.lines.proofs.put_text.Tie as tie
 
 sub-write-text : tie.Need-sub-write-text
 sub-write-text c = search needs
