@@ -1,6 +1,4 @@
 -- What the functions of this crate know at each turn.
-mod NodeEntries
-mod RepeatEntries
 mod Printing
 mod Sealing
 mod Dealing

@@ -2,7 +2,6 @@
 pub mod cards;
 pub mod deck;
 pub mod entries;
-pub mod list;
 pub mod lookups;
 
 // The old source's entries: where each stands in the source, the child node of its match, and whether it was taken.

@@ -17,10 +17,10 @@ use Rattle.semantics.specs.Calls.{gives, program, maxText, maxEntries, tooLong,
 use Rattle.laws.specs.Membership.{matches-in}
 use Rattle.lens.specs.declared.Wrote.{Wrote}
 use Rattle.books.specs.declared.Book.{Book}
-use Rattle.books.specs.declared.list.Listing.{Listing}
 use Rattle.books.specs.Listed.{Sized, unused, unused-none, fits-none}
-use Rattle.books.specs.Listing.{treeEntries, entries-of, ToList, StandsIn, Untaken, Lists, PutBehind}
 use Rattle.books.specs.Looking.{Dealt, over-more, unused-dealt, entries-fit-listed}
+use Rattle.listing.specs.declared.Listing.{Listing}
+use Rattle.listing.specs.Listing.{treeEntries, entries-of, ToList, StandsIn, Untaken, Lists, PutBehind}
 use Rattle.writer.specs.declared.Done.{Done}
 use Rattle.writer.specs.Writing.{Lent, WritesNode, padNeeded}
 use Rattle.writer.specs.Writing.{Ready as ToWrite}

@@ -9,9 +9,9 @@ use Rattle.semantics.specs.Lens.{Lens, source, entries}
 use Rattle.semantics.specs.Table.{trees}
 use Rattle.semantics.specs.Calls.{gives, program, maxText, maxEntries, notOf}
 use Rattle.books.specs.declared.Book.{Book}
-use Rattle.books.specs.declared.list.Listing.{Listing}
 use Rattle.books.specs.Listed.{unused}
 use Rattle.books.specs.Looking.{BookOver, EntriesFit}
+use Rattle.listing.specs.declared.Listing.{Listing}
 
 -- The book of the old source, a text of at most 4,096 bytes: the entries of the root.
 pub record BookReady (bytes old : Text) (b : Book) : Type 0 where

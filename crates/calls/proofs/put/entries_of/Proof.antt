@@ -9,7 +9,7 @@ use Rattle.calls.proofs.put.entries_of.Lts as lts
 use Rattle.answers.proofs.results.no_flags.Reads as no-flags-reads
 use Rattle.answers.proofs.results.root_of.Reads as root-of-reads
 use Rattle.books.proofs.Book.empty.Reads as empty-reads
-use Rattle.books.proofs.list.list.Reads as list-reads
+use Rattle.listing.proofs.list.Reads as list-reads
 
 root-of-requires : tie.Need-root-of-requires
 root-of-requires c κs = search needs

@@ -1,9 +1,9 @@
--- `books::list::list_match` meets its contract. Assumes nothing.
+-- `listing::list_match` meets its contract. Assumes nothing.
 use native.Mathlib.Omega.{arith}
 use borrow.Author.Needs.{needs}
-use Rattle.books.specs.Listing.{lists-added, lists-full}
-use Rattle.books.proofs.list.list_match.Statement.{statement}
-use Rattle.books.proofs.list.list_match.Tie as tie
+use Rattle.listing.specs.Listing.{lists-added, lists-full}
+use Rattle.listing.proofs.list_match.Statement.{statement}
+use Rattle.listing.proofs.list_match.Tie as tie
 
 returns : tie.Need-returns
 returns c = lists-full _ _ _ _ (c .before .before .pre .1 .0) (c .if1 .taken)

@@ -1,4 +1,4 @@
--- `books::list::list`, `list_join` and `list_repeat` meet their contracts: a cycle of calls, whose measure is twice the node's number. The loop's
+-- `listing::list`, `list_join` and `list_repeat` meet their contracts: a cycle of calls, whose measure is twice the node's number. The loop's
 -- invariant: the entries of the parts passed are listed. Assumes nothing.
 use native.Mathlib.Omega.{arith}
 use borrow.Author.Needs.{needs}
@@ -8,29 +8,29 @@ use lib.ListN.{length}
 use mathlib.Core.Path.{refl}
 use borrow.Author.Tests.{not-true}
 use Rattle.semantics.specs.Table.{treeAt, trees}
-use Rattle.books.specs.Listing.{to-list-part, lists-as, lists-none}
-use Rattle.books.proofs.NodeEntries.{node-small, node-words, node-room, node-described, described-as, no-match, leaf-entries, match-lower, match-entries, union-lower, chosen-lower, union-entries, join-lower, join-entries, join-over, join-next, repeat-lower, repeat-language, repeat-entries}
-use Rattle.books.proofs.RepeatEntries.{Repeated, repeated-begin, rest-asks, part-within, part-flags, repeated-next, repeated-over, repeated-ends}
+use Rattle.listing.specs.Listing.{to-list-part, lists-as, lists-none}
+use Rattle.listing.proofs.NodeEntries.{node-small, node-words, node-room, node-described, described-as, no-match, leaf-entries, match-lower, match-entries, union-lower, chosen-lower, union-entries, join-lower, join-entries, join-over, join-next, repeat-lower, repeat-language, repeat-entries}
+use Rattle.listing.proofs.RepeatEntries.{Repeated, repeated-begin, rest-asks, part-within, part-flags, repeated-next, repeated-over, repeated-ends}
 use borrow.Fn.Kinds.{In}
 use borrow.Fn.PlainCycle.{Measures, is, falls, and}
-use Rattle.books.proofs.list.list.Reads as list
-use Rattle.books.proofs.list.list.Kinds as list-kinds
-use Rattle.books.proofs.list.+list+list_join+list_repeat.Lts-list as list-lts
-use Rattle.books.proofs.list.list_join.Reads as list-join
-use Rattle.books.proofs.list.list_join.Kinds as list-join-kinds
-use Rattle.books.proofs.list.+list+list_join+list_repeat.Lts-list_join as list-join-lts
-use Rattle.books.proofs.list.list_repeat.Reads as list-repeat
-use Rattle.books.proofs.list.list_repeat.Kinds as list-repeat-kinds
-use Rattle.books.proofs.list.+list+list_join+list_repeat.Lts-list_repeat as list-repeat-lts
+use Rattle.listing.proofs.list.Reads as list
+use Rattle.listing.proofs.list.Kinds as list-kinds
+use Rattle.listing.proofs.+list+list_join+list_repeat.Lts-list as list-lts
+use Rattle.listing.proofs.list_join.Reads as list-join
+use Rattle.listing.proofs.list_join.Kinds as list-join-kinds
+use Rattle.listing.proofs.+list+list_join+list_repeat.Lts-list_join as list-join-lts
+use Rattle.listing.proofs.list_repeat.Reads as list-repeat
+use Rattle.listing.proofs.list_repeat.Kinds as list-repeat-kinds
+use Rattle.listing.proofs.+list+list_join+list_repeat.Lts-list_repeat as list-repeat-lts
 use Rattle.automaton.proofs.automaton_of.Reads as automaton-of-reads
 use Rattle.language.proofs.suffixes.Reads as suffixes-reads
 use Rattle.lens.proofs.cuts.cut_at.Reads as cut-at-reads
 use Rattle.lens.proofs.cuts.first_part.Reads as first-part-reads
-use Rattle.books.proofs.list.arm.Reads as arm-reads
-use Rattle.books.proofs.list.list_match.Reads as list-match-reads
+use Rattle.listing.proofs.arm.Reads as arm-reads
+use Rattle.listing.proofs.list_match.Reads as list-match-reads
 use Rattle.table.proofs.Table.node.Reads as node-reads
-use Rattle.books.proofs.list.+list+list_join+list_repeat.{statement}
-use Rattle.books.proofs.list.+list+list_join+list_repeat.Tie.{close}
+use Rattle.listing.proofs.+list+list_join+list_repeat.{statement}
+use Rattle.listing.proofs.+list+list_join+list_repeat.Tie.{close}
 
 abbrev μ-list : Measures 4 list-kinds.ps ℕ
 μ-list κs a = 2 * a .1 .1 .0 + 1

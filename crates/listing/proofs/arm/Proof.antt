@@ -1,9 +1,9 @@
--- `books::list::arm` meets its contract. Assumes nothing.
+-- `listing::arm` meets its contract. Assumes nothing.
 use mathlib.Core.Path.{sym, _∙_}
 use Rattle.laws.specs.Basics.{cond-true, cond-false}
-use Rattle.books.proofs.NodeEntries.{node-words, node-room, node-described}
-use Rattle.books.proofs.list.arm.Statement.{statement}
-use Rattle.books.proofs.list.arm.Tie as tie
+use Rattle.listing.proofs.NodeEntries.{node-words, node-room, node-described}
+use Rattle.listing.proofs.arm.Statement.{statement}
+use Rattle.listing.proofs.arm.Tie as tie
 
 automaton-of-requires : tie.Need-automaton-of-requires
 automaton-of-requires c κs = node-words (c .before .before .before .pre .0) (c .before .before .before .pre .1)

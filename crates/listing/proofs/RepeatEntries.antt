@@ -15,12 +15,12 @@ use Rattle.automaton.specs.declared.Automaton.{Automaton}
 use Rattle.automaton.specs.Rows.{Describes}
 use Rattle.automaton.specs.Built.{treeLanguage}
 use Rattle.language.specs.Flags.{Flags}
-use Rattle.books.specs.declared.Book.{Book}
-use Rattle.books.specs.declared.list.Listing.{Listing}
-use Rattle.books.specs.Listed.{Sized}
 use Rattle.lens.specs.Reading.{firstPart, parts-none, parts-next}
 use Rattle.lens.specs.Cutting.{FirstPart, SuffixFlags, rest-lent, suffix-flags-begin, suffix-flags-lent, suffix-flags-next}
-use Rattle.books.specs.Listing.{Lists, treeEntries, repeatEntries, lists-none, lists-settled, lists-next, lists-over}
+use Rattle.books.specs.declared.Book.{Book}
+use Rattle.books.specs.Listed.{Sized}
+use Rattle.listing.specs.declared.Listing.{Listing}
+use Rattle.listing.specs.Listing.{Lists, treeEntries, repeatEntries, lists-none, lists-settled, lists-next, lists-over}
 
 -- Up to o the entries are listed; beyond it, the flags tell where the parts end.
 pub record Repeated (ts : Trees) (child : Tree) (text : Text) (at : ℕ) (flags₀ : List ℕ) (before : Book) (flags : List ℕ) (book : Book) (o : ℕ) : Type 0 where

@@ -24,11 +24,11 @@ use Rattle.automaton.specs.declared.Automaton.{Automaton}
 use Rattle.automaton.specs.declared.Side.the-variants.{Source}
 use Rattle.automaton.specs.Rows.{sideOf, automatonAt, Room, Describes}
 use Rattle.automaton.specs.Built.{Built, treeLanguage}
-use Rattle.books.specs.declared.Book.{Book}
-use Rattle.books.specs.declared.list.Listing.{Listing}
 use Rattle.lens.specs.Cutting.{CutAt, rest-lent}
 use Rattle.lens.specs.Nodes.{sizes-are, words-inside, shown-join, shown-union, shown-repeat, shown-match}
-use Rattle.books.specs.Listing.{Lists, ListsMatch, treeEntries, joinEntries, repeatEntries, lists-next, lists-over}
+use Rattle.books.specs.declared.Book.{Book}
+use Rattle.listing.specs.declared.Listing.{Listing}
+use Rattle.listing.specs.Listing.{Lists, ListsMatch, treeEntries, joinEntries, repeatEntries, lists-next, lists-over}
 
 -- ---- A node's source automaton
 

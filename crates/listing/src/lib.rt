@@ -1,7 +1,7 @@
-// Listing the entries of an old source, in order.
-use crate::Book;
+// The entries of an old source listed in order, into a book.
 use automaton::Side;
 use automaton::automaton_of;
+use books::Book;
 use lens::cuts::cut_at;
 use lens::cuts::first_part;
 use table::Kind;
@@ -14,8 +14,8 @@ ghost use Rattle.semantics.specs.Pattern.{star, matches};
 ghost use Rattle.semantics.specs.Lens.{source};
 ghost use Rattle.semantics.specs.Table.{nodeCount, trees, treeAt};
 ghost use Rattle.automaton.specs.Built.{Built, treeLanguage};
 ghost use Rattle.books.specs.Listed.{Sized};
-ghost use Rattle.books.specs.Listing.{ToList, Lists, ListsMatch, treeEntries, joinEntries, repeatEntries};
+ghost use Rattle.listing.specs.Listing.{ToList, Lists, ListsMatch, treeEntries, joinEntries, repeatEntries};
 
 // A book with more entries; or, where `over`, there are more than 256 and the book is of no account.
 pub struct Listing {

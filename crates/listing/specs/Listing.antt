@@ -13,9 +13,9 @@ use Rattle.semantics.specs.Lens.{Book as Entries}
 use Rattle.semantics.specs.Table.{Tree, pattern, lens, broken, Trees, treeAt, lensAt}
 use Rattle.laws.specs.Basics.{not-both}
 use Rattle.automaton.specs.Built.{Built, treeLanguage}
 use Rattle.books.specs.declared.Book.{Book}
-use Rattle.books.specs.declared.list.Listing.{Listing}
 use Rattle.books.specs.Listed.{unused, added, BookFits, Sized, fits-added, sized-added, unused-match, unused-length}
+use Rattle.listing.specs.declared.Listing.{Listing}
 
 -- ---- The entries of a node's tree
 

@@ -1,0 +1,3 @@
+-- What the functions of this crate know of a node, and at each turn.
+mod NodeEntries
+mod RepeatEntries
