@@ -17,9 +17,10 @@ use Rattle.lens.specs.Nodes.{same-lens}
 use Rattle.books.specs.declared.Book.{Book}
 use Rattle.books.specs.Listed.{unused}
 use Rattle.books.specs.Looking.{same-then}
+use Rattle.steps.specs.Steps.{countBehind}
+use Rattle.steps.proofs.Stepping.{rest-size}
 use Rattle.writer.specs.declared.Done.{Done}
-use Rattle.writer.specs.Writing.{WithinBuffer, Progress, WritesLens, WritesNode, WritesBehind, leaving, countBehind}
-use Rattle.writer.proofs.Below.{rest-size}
+use Rattle.writer.specs.Writing.{WithinBuffer, Progress, WritesLens, WritesNode, WritesBehind, leaving}
 
 not-full : {answer : Wrote} {n : ℕ} → answer ≡ Count n → ¬ (answer ≡ Full)
 not-full p q = let z : _≡_ {A = ℕ} 0 1 = cc in omega arith

@@ -9,7 +9,7 @@ use Rattle.semantics.specs.Text.{Text}
 use Rattle.semantics.specs.Lens.{repeat, Written}
 use Rattle.semantics.specs.Table.{trees, lens}
 use Rattle.table.specs.Prepared.{OneLens}
-use Rattle.lens.specs.Cutting.{rest-lent, part-length}
+use Rattle.lens.specs.Cutting.{part-length}
 use Rattle.lens.specs.Emitting.{LensNode}
 use Rattle.books.specs.declared.Book.{Book}
 use Rattle.books.specs.Looking.{BookOver, SameEntries, same-all, cards-fit-same}
@@ -23,10 +23,7 @@ use Rattle.writer.proofs.Repeats.{repeats-below, repeats-of-part}
 pub part-short : {A : Type 0} (i o : ℕ) (xs : List A) → length (take i (drop o xs)) ≤ length xs
 part-short i o xs = simp (length-take, length-drop) (omega arith)
 
--- from a place on it is what is behind that place; it comes back as long as it was
-pub rest-size : (s : List ℕ) (o : ℕ) → length (take (length s - o) (drop o s)) ≡ length s - o
-rest-size s o = rw (rest-lent s o) (length-drop o s)
-
+-- what is behind a place comes back as long as it was
 pub rest-back :
     (s rest : List ℕ) (o : ℕ)
     → o ≤ length s

@@ -35,11 +35,12 @@ use Rattle.books.specs.declared.Lookup.{Lookup}
 use Rattle.books.specs.Cards.{cardOf, CardIs, key-short}
 use Rattle.books.specs.Listed.{unused}
 use Rattle.books.specs.Looking.{BookOver, CardsFit, LookedUp, oldText, same-all, same-then}
+use Rattle.steps.specs.declared.Choice.{Choice}
+use Rattle.steps.specs.declared.Halves.{Halves}
+use Rattle.steps.specs.Steps.{OldInside, HalvesAre, choiceOf, Chosen, DefaultWord, LeafIs}
+use Rattle.steps.proofs.Stepping.{inside-none}
 use Rattle.writer.specs.declared.Done.{Done}
-use Rattle.writer.specs.declared.Choice.{Choice}
-use Rattle.writer.specs.declared.Halves.{Halves}
-use Rattle.writer.specs.Writing.{OldInside, Progress, WritesNode, WritesJoin, WritesMatch, WritesBehind, HalvesAre, choiceOf, Chosen, DefaultWord, LeafIs, leaving}
-use Rattle.writer.proofs.Stepping.{inside-none}
+use Rattle.writer.specs.Writing.{Progress, WritesNode, WritesJoin, WritesMatch, WritesBehind, leaving}
 use Rattle.writer.proofs.Behind.{progress-is, node-writes}
 
 -- ---- The automata of a node's sources and sheets

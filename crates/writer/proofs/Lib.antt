@@ -1,5 +1,4 @@
 -- Laws for the writers.
-pub mod Stepping
 pub mod Repeats
 mod Below
 mod Behind

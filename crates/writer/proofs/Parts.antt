@@ -29,10 +29,11 @@ use Rattle.books.specs.declared.Old.{Old}
 use Rattle.books.specs.declared.Old.the-variants.{At, Nothing}
 use Rattle.books.specs.Listed.{unused}
 use Rattle.books.specs.Looking.{BookOver, oldText, same-all}
+use Rattle.steps.specs.declared.Span.{Span}
+use Rattle.steps.specs.Steps.{OldInside, spanOf, oldBetween, PartEnd}
+use Rattle.steps.proofs.Stepping.{cut-rest, inside-at, inside-none}
 use Rattle.writer.specs.declared.Done.{Done}
-use Rattle.writer.specs.declared.Span.{Span}
-use Rattle.writer.specs.Writing.{OldInside, Progress, WritesNode, WritesBehind, spanOf, oldBetween, PartEnd, leaving}
-use Rattle.writer.proofs.Stepping.{cut-rest, inside-at, inside-none}
+use Rattle.writer.specs.Writing.{Progress, WritesNode, WritesBehind, leaving}
 use Rattle.writer.proofs.Behind.{progress-is, node-writes}
 use Rattle.writer.proofs.ByKind.{describes-source, describes-sheet}
 

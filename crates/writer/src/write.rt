@@ -2,20 +2,20 @@
 // right. Each repeat keeps its flags at the front of the pad, and lends the pad behind them to its parts. So the pad has a share for each lens repeat up
 // to the node, and behind them the flags of one text, for cuts: see `pads`.
 use crate::Done;
-use crate::steps::behind;
-use crate::steps::choose;
-use crate::steps::cut_of;
-use crate::steps::flag_ends;
-use crate::steps::halves_of;
-use crate::steps::old_between;
-use crate::steps::part_end;
-use crate::steps::span_of;
-use crate::steps::write_leaf;
 use automaton::Side;
 use books::Book;
 use books::Old;
 use books::cards::card_of;
 use lens::Wrote;
+use steps::behind;
+use steps::choose;
+use steps::cut_of;
+use steps::flag_ends;
+use steps::halves_of;
+use steps::old_between;
+use steps::part_end;
+use steps::span_of;
+use steps::write_leaf;
 use table::Kind;
 use table::Table;
 ghost use mathlib.Core.Path.{_≡_};
@@ -26,7 +26,8 @@ ghost use Rattle.semantics.specs.Lens.{repeat};
 ghost use Rattle.semantics.specs.Table.{trees, lens};
 ghost use Rattle.table.specs.Prepared.{OneLens};
 ghost use Rattle.books.specs.Looking.{oldText};
-ghost use Rattle.writer.specs.Writing.{Ready, Lent, OldInside, WithinBuffer, WritesNode, WritesBehind, WritesJoin, WritesMatch};
+ghost use Rattle.steps.specs.Steps.{OldInside};
+ghost use Rattle.writer.specs.Writing.{Ready, Lent, WithinBuffer, WritesNode, WritesBehind, WritesJoin, WritesMatch};
 
 // A sheet is put onto an old text.
 pub fn put(

@@ -4,7 +4,7 @@ use native.Mathlib.Omega.{arith}
 use mathlib.Core.Path.{refl, sym}
 use denote.Ref.{now}
 use Rattle.books.specs.Looking.{oldText}
-use Rattle.writer.proofs.Stepping.{inside-none}
+use Rattle.steps.proofs.Stepping.{inside-none}
 use Rattle.answers.proofs.Giving.{made-counted, made-given}
 use Rattle.calls.proofs.Sourcing.{to-create, create-made}
 use Rattle.calls.proofs.create.create_into.Statement.{statement}

@@ -4,7 +4,7 @@ use native.Mathlib.Omega.{arith}
 use mathlib.Core.Path.{refl}
 use denote.Ref.{now}
 use Rattle.books.specs.Looking.{oldText}
-use Rattle.writer.proofs.Stepping.{inside-at}
+use Rattle.steps.proofs.Stepping.{inside-at}
 use Rattle.calls.proofs.Sourcing.{to-put, put-made}
 use Rattle.calls.proofs.put.write_from.Statement.{statement}
 use Rattle.calls.proofs.put.write_from.Tie as tie

@@ -9,10 +9,10 @@ use lib.ListN.{length, take, drop}
 use Rattle.automaton.specs.declared.Side.the-variants.{Source, Sheet}
 use Rattle.lens.specs.Nodes.{shown-join, shown-union, shown-repeat, shown-match, node-prepared, child-below, left-below, right-below}
 use Rattle.books.specs.Looking.{oldText}
+use Rattle.steps.proofs.Stepping.{rest-size, inside-at, inside-none}
 use Rattle.writer.specs.Writing.{Lent}
-use Rattle.writer.proofs.Stepping.{inside-at, inside-none}
 use Rattle.writer.proofs.Behind.{progress-within, node-within, behind-full, behind-next, behind-within}
-use Rattle.writer.proofs.Below.{ready-left, ready-below, ready-after, lent-below, lent-behind, part-short, rest-size, rest-back, repeat-room}
+use Rattle.writer.proofs.Below.{ready-left, ready-below, ready-after, lent-below, lent-behind, part-short, rest-back, repeat-room}
 use Rattle.writer.proofs.ByKind.{default-below, leaf-writes, join-writes, match-writes, halves-write, arm-chosen, looked-up-key, found-writes}
 use Rattle.writer.proofs.Parts.{Parting, span-inside, span-reaches, between-inside, parting-begins, parting-next, parting-ends}
 use borrow.Fn.Kinds.{In}
@@ -42,15 +42,15 @@ use Rattle.books.proofs.Book.take.Reads as take-reads
 use Rattle.books.proofs.cards.card_of.Reads as card-of-reads
 use Rattle.lens.proofs.texts.write_text.Reads as write-text-reads
 use Rattle.table.proofs.Table.node.Reads as node-reads
-use Rattle.writer.proofs.steps.behind.Reads as behind-reads
-use Rattle.writer.proofs.steps.choose.Reads as choose-reads
-use Rattle.writer.proofs.steps.cut_of.Reads as cut-of-reads
-use Rattle.writer.proofs.steps.flag_ends.Reads as flag-ends-reads
-use Rattle.writer.proofs.steps.halves_of.Reads as halves-of-reads
-use Rattle.writer.proofs.steps.old_between.Reads as old-between-reads
-use Rattle.writer.proofs.steps.part_end.Reads as part-end-reads
-use Rattle.writer.proofs.steps.span_of.Reads as span-of-reads
-use Rattle.writer.proofs.steps.write_leaf.Reads as write-leaf-reads
+use Rattle.steps.proofs.behind.Reads as behind-reads
+use Rattle.steps.proofs.choose.Reads as choose-reads
+use Rattle.steps.proofs.cut_of.Reads as cut-of-reads
+use Rattle.steps.proofs.flag_ends.Reads as flag-ends-reads
+use Rattle.steps.proofs.halves_of.Reads as halves-of-reads
+use Rattle.steps.proofs.old_between.Reads as old-between-reads
+use Rattle.steps.proofs.part_end.Reads as part-end-reads
+use Rattle.steps.proofs.span_of.Reads as span-of-reads
+use Rattle.steps.proofs.write_leaf.Reads as write-leaf-reads
 use Rattle.writer.proofs.write.no_card.Reads as no-card-reads
 use Rattle.writer.proofs.write.+create+put+write_behind+write_join+write_match+write_node+write_parts.{
   statement,

@@ -1,7 +1,7 @@
--- `writer::steps::behind` meets its contract. Assumes nothing.
+-- `steps::behind` meets its contract. Assumes nothing.
 use borrow.Author.Needs.{needs}
-use Rattle.writer.proofs.steps.behind.Statement.{statement}
-use Rattle.writer.proofs.steps.behind.Tie as tie
+use Rattle.steps.proofs.behind.Statement.{statement}
+use Rattle.steps.proofs.behind.Tie as tie
 
 enum-known-more : tie.Need-enum-known-more
 enum-known-more c = search needs

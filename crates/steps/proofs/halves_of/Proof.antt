@@ -1,10 +1,10 @@
--- `writer::steps::halves_of` meets its contract. Assumes nothing.
-use Rattle.writer.proofs.Stepping.{halves-at, halves-none}
+-- `steps::halves_of` meets its contract. Assumes nothing.
+use Rattle.steps.proofs.Stepping.{halves-at, halves-none}
 use lib.ListN.{length-take}
 use native.Mathlib.Omega.{arith}
 use borrow.Author.Needs.{needs}
-use Rattle.writer.proofs.steps.halves_of.Statement.{statement}
-use Rattle.writer.proofs.steps.halves_of.Tie as tie
+use Rattle.steps.proofs.halves_of.Statement.{statement}
+use Rattle.steps.proofs.halves_of.Tie as tie
 
 enum-known-old : tie.Need-enum-known-old
 enum-known-old c = search needs

@@ -18,11 +18,14 @@ use Rattle.lens.specs.Reading.{firstPart}
 use Rattle.books.specs.declared.Old.{Old}
 use Rattle.books.specs.declared.Old.the-variants.{At, Nothing}
 use Rattle.books.specs.Looking.{oldText}
-use Rattle.writer.specs.declared.Choice.{Choice}
-use Rattle.writer.specs.Writing.{OldInside, PartEnd, HalvesAre, choiceOf}
-use Rattle.writer.proofs.Below.{rest-size}
+use Rattle.steps.specs.declared.Choice.{Choice}
+use Rattle.steps.specs.Steps.{OldInside, PartEnd, HalvesAre, choiceOf}
 
 -- ---- The end of a part
+
+-- what is lent from a place on is as long as what is behind that place
+pub rest-size : (s : List ℕ) (o : ℕ) → length (take (length s - o) (drop o s)) ≡ length s - o
+rest-size s o = rw (rest-lent s o) (length-drop o s)
 
 -- the part that begins at o ends where the first part of what is left does
 pub part-ends :

@@ -1,4 +1,4 @@
--- `writer::steps::write_leaf` meets its contract. Assumes nothing.
+-- `steps::write_leaf` meets its contract. Assumes nothing.
 use mathlib.Core.Path.{_≡_}
 use mathlib.Core.List.{List, [], _∷_}
 use Prim.Native.Nat.{ℕ}
@@ -8,9 +8,9 @@ use native.Mathlib.Omega.{arith}
 use borrow.Author.Needs.{needs}
 use Rattle.semantics.specs.Text.{orElse}
 use Rattle.books.specs.Looking.{oldText}
-use Rattle.writer.proofs.Stepping.{old-lent}
-use Rattle.writer.proofs.steps.write_leaf.Statement.{statement}
-use Rattle.writer.proofs.steps.write_leaf.Tie as tie
+use Rattle.steps.proofs.Stepping.{old-lent}
+use Rattle.steps.proofs.write_leaf.Statement.{statement}
+use Rattle.steps.proofs.write_leaf.Tie as tie
 
 -- the tags of the kinds that are no const
 abbrev OtherTags : List ℕ

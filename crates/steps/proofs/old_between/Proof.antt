@@ -1,8 +1,8 @@
--- `writer::steps::old_between` meets its contract. Assumes nothing.
+-- `steps::old_between` meets its contract. Assumes nothing.
 use borrow.Author.Tests.{lt-ltb, le-ltb}
 use borrow.Author.Needs.{needs}
-use Rattle.writer.proofs.steps.old_between.Statement.{statement}
-use Rattle.writer.proofs.steps.old_between.Tie as tie
+use Rattle.steps.proofs.old_between.Statement.{statement}
+use Rattle.steps.proofs.old_between.Tie as tie
 
 sub-t4 : tie.Need-sub-t4
 sub-t4 c = search needs

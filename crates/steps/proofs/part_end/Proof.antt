@@ -1,11 +1,11 @@
--- `writer::steps::part_end` meets its contract. Assumes nothing.
+-- `steps::part_end` meets its contract. Assumes nothing.
 use Rattle.lens.specs.Cutting.{rest-lent}
-use Rattle.writer.proofs.Stepping.{part-ends}
+use Rattle.steps.proofs.Stepping.{part-ends}
 use lib.ListN.{length-drop}
 use native.Mathlib.Omega.{arith}
 use borrow.Author.Needs.{needs}
-use Rattle.writer.proofs.steps.part_end.Statement.{statement}
-use Rattle.writer.proofs.steps.part_end.Tie as tie
+use Rattle.steps.proofs.part_end.Statement.{statement}
+use Rattle.steps.proofs.part_end.Tie as tie
 
 returns : tie.Need-returns
 returns c = search needs

@@ -1,7 +1,7 @@
--- `writer::steps::cut_of` meets its contract. Assumes nothing.
+-- `steps::cut_of` meets its contract. Assumes nothing.
 use borrow.Author.Needs.{needs}
-use Rattle.writer.proofs.steps.cut_of.Statement.{statement}
-use Rattle.writer.proofs.steps.cut_of.Tie as tie
+use Rattle.steps.proofs.cut_of.Statement.{statement}
+use Rattle.steps.proofs.cut_of.Tie as tie
 
 automaton-of-requires : tie.Need-automaton-of-requires
 automaton-of-requires c κs = search needs

@@ -1,7 +1,4 @@
 // The steps of a writer: where its texts are cut, the arm of a union, and what is written behind what.
-use crate::Choice;
-use crate::Halves;
-use crate::Span;
 use automaton::Side;
 use automaton::automaton_of;
 use books::Old;
@@ -25,7 +22,25 @@ ghost use Rattle.lens.specs.Cutting.{CutAt};
 ghost use Rattle.lens.specs.Emitting.{Prepared};
 ghost use Rattle.books.specs.declared.Old.the-variants.{Nothing};
 ghost use Rattle.books.specs.Looking.{oldText};
-ghost use Rattle.writer.specs.Writing.{OldInside, spanOf, oldBetween, PartEnd, HalvesAre, Chosen, DefaultWord, LeafIs, Fits64, countBehind};
+ghost use Rattle.steps.specs.Steps.{OldInside, spanOf, oldBetween, PartEnd, HalvesAre, Chosen, DefaultWord, LeafIs, Fits64, countBehind};
+
+// The arm of a union that writes, and the old text onto which it puts.
+pub struct Choice {
+    pub arm: usize,
+    pub old: Old,
+}
+
+// The old texts onto which the halves of a join are put.
+pub struct Halves {
+    pub first: Old,
+    pub second: Old,
+}
+
+// Where a text stands.
+pub struct Span {
+    pub start: usize,
+    pub end: usize,
+}
 
 // Where a text is cut between two nodes.
 pub fn cut_of(

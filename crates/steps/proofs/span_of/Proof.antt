@@ -1,8 +1,8 @@
--- `writer::steps::span_of` meets its contract. Assumes nothing.
+-- `steps::span_of` meets its contract. Assumes nothing.
 use native.Mathlib.Omega.{arith}
 use borrow.Author.Needs.{needs}
-use Rattle.writer.proofs.steps.span_of.Statement.{statement}
-use Rattle.writer.proofs.steps.span_of.Tie as tie
+use Rattle.steps.proofs.span_of.Statement.{statement}
+use Rattle.steps.proofs.span_of.Tie as tie
 
 enum-known-old : tie.Need-enum-known-old
 enum-known-old c = search needs

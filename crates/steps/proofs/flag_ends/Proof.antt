@@ -1,7 +1,7 @@
--- `writer::steps::flag_ends` meets its contract. Assumes nothing.
+-- `steps::flag_ends` meets its contract. Assumes nothing.
 use borrow.Author.Needs.{needs}
-use Rattle.writer.proofs.steps.flag_ends.Statement.{statement}
-use Rattle.writer.proofs.steps.flag_ends.Tie as tie
+use Rattle.steps.proofs.flag_ends.Statement.{statement}
+use Rattle.steps.proofs.flag_ends.Tie as tie
 
 automaton-of-requires : tie.Need-automaton-of-requires
 automaton-of-requires c κs = search needs

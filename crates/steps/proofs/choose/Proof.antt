@@ -1,5 +1,5 @@
--- `writer::steps::choose` meets its contract. Assumes nothing.
-use Rattle.writer.proofs.Stepping.{old-lent, choice-by}
+-- `steps::choose` meets its contract. Assumes nothing.
+use Rattle.steps.proofs.Stepping.{old-lent, choice-by}
 use mathlib.Core.Path.{sym, _∙_}
 use Rattle.semantics.specs.Text.{apply}
 use Rattle.books.specs.Looking.{oldText}
@@ -8,8 +8,8 @@ use mathlib.Core.Option.{none, some}
 use denote.Ref.{now}
 use native.Mathlib.Omega.{arith}
 use borrow.Author.Needs.{needs}
-use Rattle.writer.proofs.steps.choose.Statement.{statement}
-use Rattle.writer.proofs.steps.choose.Tie as tie
+use Rattle.steps.proofs.choose.Statement.{statement}
+use Rattle.steps.proofs.choose.Tie as tie
 
 automaton-of-requires : tie.Need-automaton-of-requires
 automaton-of-requires c κs = search needs
