@@ -20,31 +20,31 @@ pub struct State {
 }
 
 // The first two letters of each word.
-const TABLE: u64 = 256 * 116 + 97;
+const TABLE: u64 = 256 * (b't' as u64) + b'a' as u64;
 
-const MORE: u64 = 256 * 109 + 111;
+const MORE: u64 = 256 * (b'm' as u64) + b'o' as u64;
 
-const POOL: u64 = 256 * 112 + 111;
+const POOL: u64 = 256 * (b'p' as u64) + b'o' as u64;
 
-const SHEET: u64 = 256 * 115 + 104;
+const SHEET: u64 = 256 * (b's' as u64) + b'h' as u64;
 
-const SOURCE: u64 = 256 * 115 + 111;
+const SOURCE: u64 = 256 * (b's' as u64) + b'o' as u64;
 
-const AGAIN: u64 = 256 * 97 + 103;
+const AGAIN: u64 = 256 * (b'a' as u64) + b'g' as u64;
 
-const ROOM: u64 = 256 * 114 + 111;
+const ROOM: u64 = 256 * (b'r' as u64) + b'o' as u64;
 
-const CHECK: u64 = 256 * 99 + 104;
+const CHECK: u64 = 256 * (b'c' as u64) + b'h' as u64;
 
-const LINE: u64 = 256 * 108 + 105;
+const LINE: u64 = 256 * (b'l' as u64) + b'i' as u64;
 
-const GET: u64 = 256 * 103 + 101;
+const GET: u64 = 256 * (b'g' as u64) + b'e' as u64;
 
-const PUT: u64 = 256 * 112 + 117;
+const PUT: u64 = 256 * (b'p' as u64) + b'u' as u64;
 
-const CREATE: u64 = 256 * 99 + 114;
+const CREATE: u64 = 256 * (b'c' as u64) + b'r' as u64;
 
-const BUFFER: u64 = 256 * 98 + 117;
+const BUFFER: u64 = 256 * (b'b' as u64) + b'u' as u64;
 
 pub fn run(script: &[u8], table: &mut [u8], sheet: &mut [u8], source: &mut [u8], out: &mut [u8]) {
     let mut state = State {
