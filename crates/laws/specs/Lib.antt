@@ -7,6 +7,7 @@ pub mod Search
 pub mod Decided
 pub mod PositionAutomaton
 pub mod Walks
+pub mod Paths
 pub mod WellTyped
 pub mod Pieces
 pub mod GetPut

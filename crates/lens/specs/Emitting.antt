@@ -5,9 +5,11 @@ use mathlib.Core.Bool.{cond}
 use Prim.Native.Nat.{ℕ, _+_, _*_, _≤_, _<_}
 use lib.ListN.{length}
 use Rattle.semantics.specs.Text.{Text}
-use Rattle.semantics.specs.Pattern.{Pattern, word, matches}
-use Rattle.semantics.specs.Lens.{Lens, join}
+use Rattle.semantics.specs.Pattern.{Pattern, word, In, matches}
+use Rattle.semantics.specs.Lens.{Lens, join, language}
+use Rattle.semantics.specs.Lens.{Side as SideOf}
 use Rattle.semantics.specs.Table.{nodeCount, pattern, lens, treeAt, trees}
+use Rattle.laws.specs.WellTyped.{WellTyped}
 use Rattle.table.specs.Rules.{AllSized}
 use Rattle.automaton.specs.declared.Side.{Side}
 use Rattle.automaton.specs.declared.Side.the-variants.{Source, Sheet}
@@ -39,6 +41,13 @@ pub record LensNode (bytes : Text) (prepared : List ℕ) (node : ℕ) : Type 0 w
   pub inside : node < nodeCount bytes
   pub tree : Lens
   pub tree-is : treeAt (trees bytes) node ≡ lens tree
+
+-- The node is a lens that keeps the typing rules, and the text belongs to it on that side.
+pub record Fits (bytes : Text) (node : ℕ) (side : SideOf) (text : Text) : Type 0 where
+  pub tree : Lens
+  pub tree-is : treeAt (trees bytes) node ≡ lens tree
+  pub typed : WellTyped tree
+  pub belongs : In (language side tree) text
 
 -- The node is one of a table's that was read, and a word.
 pub record WordNode (bytes : Text) (prepared : List ℕ) (node : ℕ) : Type 0 where
