@@ -29,7 +29,7 @@ pub fn side_index(side: Side) -> usize
     }
 }
 
-fn set_at(prepared: &[u64], i: usize) -> Set
+pub fn set_at(prepared: &[u64], i: usize) -> Set
     requires { ⌜ i + 1 < length (now prepared) ⌝ }
     ensures { λ r. ⌜ r ≡ Rattle.automaton.specs.Rows.setAt (now (prepared .entry)) i ⌝ }
 {

@@ -17,7 +17,7 @@ use Rattle.automaton.specs.declared.Automaton.{Automaton}
 use Rattle.automaton.specs.Rows.{Room, Describes, standsIn, followOf, precedingOf}
 use Rattle.language.specs.declared.Run.{Run}
 use Rattle.language.specs.Sets.{Gathered, Standing, Onward, Leading}
-use Rattle.language.specs.Runs.{Forward, Backward}
+use Rattle.language.specs.Runs.{Forward, Behind, Backward}
 use Rattle.language.proofs.Gathering.{gathered-not}
 
 -- Two tests that are true of the same agree.
@@ -161,28 +161,23 @@ module _ {r : Pattern} {a : Automaton} {prepared : List ℕ} (room : Room a prep
 
   -- ---- The run backward
 
-  pub backward-begins : Backward r [] (record { here = a .nullable; set = a .last })
-  unfolding matches
-  backward-begins =
-      record {
-        here-is = d .nullable-is;
-        behind-iff = λ p l. (λ e. last-law r p l .1 (sym (d .last-is p) ∙ e), λ i. d .last-is p ∙ last-law r p l .0 i);
-      }
+  -- The text ends behind its last positions.
+  pub behind-begins : Behind r [] (a .last)
+  behind-begins =
+      record { behind-iff = λ p l. (λ e. last-law r p l .1 (sym (d .last-is p) ∙ e), λ i. d .last-is p ∙ last-law r p l .0 i) }
 
-  pub backward-steps :
-      {t : Text} {run : Run} → Backward r t run → {c : ℕ} {here : Set} → Gathered (Standing prepared a (run .set) c) (a .count) here
-      → {begins : Bool} → (begins ≡ true) ↔ Shared (a .first) here
+  pub behind-steps :
+      {t : Text} {s : Set} → Behind r t s → {c : ℕ} {here : Set} → Gathered (Standing prepared a s c) (a .count) here
       → {next : Set} → Gathered (Leading prepared a here) (a .count) next
-      → Backward r (c ∷ t) (record { here = begins; set = next })
-  backward-steps {t} known {c} {here} stood {begins} told {next} led =
+      → Behind r (c ∷ t) next
+  behind-steps {t} known {c} {here} stood {next} led =
       record {
-        here-is = answer-is r (c ∷ t) begins told (Iff·trans (first-law r c t) (reads (a .first) (firstAt r) (d .first-is)));
-        behind-iff = λ p l. Iff·trans (led-iff p l) (Iff·symm (Iff·trans (follow-law r p l c t) (reads (followOf prepared (a .start + p)) (followAt r p) (d .row-is p l .follow-is))));
+        behind-iff = λ p l.
+            Iff·trans
+            (led-iff p l)
+            (Iff·symm (Iff·trans (follow-law r p l c t) (read-iff stood t (known .behind-iff) (followOf prepared (a .start + p)) (followAt r p) (d .row-is p l .follow-is))));
       }
     where
-      reads : (may : Set) (allowed : ℕ → Bool) → ((p : ℕ) → holds may p ≡ allowed p) → ReadsAt r allowed c t ↔ Shared may here
-      reads = read-iff stood t (known .behind-iff)
-
       -- q is among those that p may follow exactly if p is among those that may follow q
       turned : (p q : ℕ) → p < positions r → q < positions r → holds (precedingOf prepared (a .start + p)) q ≡ holds (followOf prepared (a .start + q)) p
       turned p q l k = d .row-is p l .preceding-is q ∙ sym (d .row-is q k .follow-is p)
@@ -198,6 +193,21 @@ module _ {r : Pattern} {a : Automaton} {prepared : List ℕ} (room : Room a prep
             let m = stood-iff stood q .0 f .0 in
             led .held-iff p .1 (q, omega (arith, d .count-is), record { held = f; leads = turned q p m l ∙ e }),
       )
+
+  pub backward-begins : Backward r [] (record { here = a .nullable; set = a .last })
+  unfolding matches
+  backward-begins = record { here-is = d .nullable-is; behind-iff = behind-begins .behind-iff }
+
+  pub backward-steps :
+      {t : Text} {run : Run} → Backward r t run → {c : ℕ} {here : Set} → Gathered (Standing prepared a (run .set) c) (a .count) here
+      → {begins : Bool} → (begins ≡ true) ↔ Shared (a .first) here
+      → {next : Set} → Gathered (Leading prepared a here) (a .count) next
+      → Backward r (c ∷ t) (record { here = begins; set = next })
+  backward-steps {t} known {c} stood {begins} told led =
+      record {
+        here-is = answer-is r (c ∷ t) begins told (Iff·trans (first-law r c t) (read-iff stood t (known .behind-iff) (a .first) (firstAt r) (d .first-is)));
+        behind-iff = behind-steps (record { behind-iff = known .behind-iff }) stood led .behind-iff;
+      }
 
   -- Where the set is empty, no text that ends in what was read belongs.
   pub stuck-back : {t : Text} {run : Run} → Backward r t run → Empty (run .set) → (c : ℕ) → Backward r (c ∷ t) (record { here = false; set = run .set })

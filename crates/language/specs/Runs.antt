@@ -21,6 +21,10 @@ pub record Forward (r : Pattern) (t : Text) (run : Run) : Type 0 where
   pub here-is : run .here ≡ matches r t
   pub onward-iff : (c : ℕ) (u : Text) → In r (t ++ c ∷ u) ↔ ReadsAt r (holds (run .set)) c u
 
+-- The set has the positions behind which the text t may stand.
+pub record Behind (r : Pattern) (t : Text) (s : Set) : Type 0 where
+  pub behind-iff : (p : ℕ) → p < positions r → (holds s p ≡ true) ↔ In (restAt r p) t
+
 -- The text t was read from its end; the set has the positions behind which it may stand.
 pub record Backward (r : Pattern) (t : Text) (run : Run) : Type 0 where
   pub here-is : run .here ≡ matches r t
@@ -34,6 +38,9 @@ pub record Stepped (prepared : List ℕ) (a : Automaton) (s : Set) (byte n : ℕ
 -- One byte more was read, behind the text or in front of it.
 pub record Advanced (prepared : List ℕ) (a : Automaton) (byte : ℕ) (before after : Run) : Type 0 where
   pub advanced : (r : Pattern) → Describes r a prepared → (t : Text) → Forward r t before → Forward r (t ++ byte ∷ []) after
+
+pub record SteppedBack (prepared : List ℕ) (a : Automaton) (byte : ℕ) (before after : Set) : Type 0 where
+  pub stepped : (r : Pattern) → Describes r a prepared → (t : Text) → Behind r t before → Behind r (byte ∷ t) after
 
 pub record Retreated (prepared : List ℕ) (a : Automaton) (byte : ℕ) (before after : Run) : Type 0 where
   pub retreated : (r : Pattern) → Describes r a prepared → (t : Text) → Backward r t before → Backward r (byte ∷ t) after

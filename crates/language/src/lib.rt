@@ -10,7 +10,7 @@ ghost use Rattle.positions.specs.Positions.{holds};
 ghost use Rattle.automaton.specs.Rows.{Room, Describes};
 ghost use Rattle.language.specs.Flags.{Flags, flagOf, flagged};
 ghost use Rattle.language.specs.Sets.{Gathered, Grown, Standing, Onward, Leading};
-ghost use Rattle.language.specs.Runs.{Stepped, Advanced, Retreated};
+ghost use Rattle.language.specs.Runs.{Stepped, Advanced, SteppedBack, Retreated};
 ghost use Rattle.language.specs.Cuts.{Cut};
 ghost use lib.Dec.{leb};
 
@@ -151,6 +151,15 @@ fn retreat(prepared: &[u64], a: Automaton, run: Run, byte: u8) -> Run
         here: here,
         set: behind,
     }
+}
+
+// The positions behind which a text may stand, once a byte is put in front of it.
+pub fn step_back(prepared: &[u64], a: Automaton, behind: Set, byte: u8) -> Set
+    requires { ⌜ Room a (now prepared) ⌝ }
+    ensures { λ res. ⌜ SteppedBack (now (prepared .entry)) a byte behind res ⌝ }
+{
+    let reading = standing(prepared, a, behind, byte);
+    leading(prepared, a, reading)
 }
 
 fn flag(b: bool) -> u8

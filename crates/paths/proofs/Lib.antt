@@ -1,0 +1,1 @@
+-- What the proofs of this crate's functions cite.

@@ -1,0 +1,97 @@
+-- A path is found byte by byte: which positions a step chooses from, what a set kept behind a byte holds, and what is known of the text so far.
+use mathlib.Core.Path.{_≡_}
+use mathlib.Core.Bool.{Bool, true, false}
+use mathlib.Core.List.{List, [], _∷_, _++_}
+use mathlib.Core.Logic.{_↔_}
+use Prim.Native.Nat.{ℕ, _+_, _-_, _*_, _≤_, _<_, min}
+use lib.ListN.{length, take, drop}
+use Rattle.semantics.specs.Text.{Text}
+use Rattle.semantics.specs.Pattern.{Pattern, In, matches}
+use Rattle.laws.specs.PositionAutomaton.{lastAt, followAt, ReadsAt}
+use Rattle.laws.specs.Paths.{LeastFrom, LeastPath}
+use Rattle.positions.specs.declared.Set.{Set}
+use Rattle.positions.specs.Positions.{holds}
+use Rattle.automaton.specs.declared.Automaton.{Automaton}
+use Rattle.automaton.specs.Rows.{setAt, standsIn, Describes}
+use Rattle.language.specs.Runs.{Behind}
+use Rattle.paths.specs.declared.Walk.{Walk}
+
+-- ---- One step
+
+-- Position p is one of the set's at which the byte may stand.
+pub record Reads (prepared : List ℕ) (a : Automaton) (due : Set) (byte p : ℕ) : Type 0 where
+  pub inside : p < a .count
+  pub held : holds due p ≡ true
+  pub stands : standsIn prepared (a .start + p) byte ≡ true
+
+-- p is the lowest such position from `from` on; where there is none, p is 128.
+pub record Lowest (prepared : List ℕ) (a : Automaton) (due : Set) (byte from p : ℕ) : Type 0 where
+  pub reads : p < 128 → Reads prepared a due byte p
+  pub none-lower : (q : ℕ) → from ≤ q → q < p → Reads prepared a due byte q → ⊥
+
+-- p is the only such position; where there is none, or are several, p is 128.
+pub record Alone (prepared : List ℕ) (a : Automaton) (due : Set) (byte p : ℕ) : Type 0 where
+  pub reads : p < 128 → Reads prepared a due byte p
+  pub no-other : p < 128 → (q : ℕ) → Reads prepared a due byte q → q ≡ p
+
+-- The path has come past position p: the text may end there, or go on at what may follow it.
+pub record Past (prepared : List ℕ) (a : Automaton) (p at : ℕ) (walk : Walk) : Type 0 where
+  pub at-is : walk .at ≡ at
+  pub here-is : (r : Pattern) → Describes r a prepared → walk .here ≡ lastAt r p
+  pub set-is : (r : Pattern) → Describes r a prepared → (q : ℕ) → holds (walk .set) q ≡ followAt r p q
+
+-- ---- Sets that are kept
+
+-- set i of a slice is written, the others stay
+pub record Stored (before : List ℕ) (i : ℕ) (set : Set) (after : List ℕ) : Type 0 where
+  pub same-length : length after ≡ length before
+  pub stored : setAt after (2 * i) ≡ set
+  pub kept : (j : ℕ) → ¬ (j ≡ i) → setAt after (2 * j) ≡ setAt before (2 * j)
+
+-- The slice has, for each byte from i to before `end`, the set behind it: that of byte `start` comes first.
+pub record Filled (prepared : List ℕ) (a : Automaton) (text : Text) (start i end : ℕ) (sets : List ℕ) : Type 0 where
+  pub behind : (r : Pattern) → Describes r a prepared → (j : ℕ) → i ≤ j → j < end → Behind r (drop (j + 1) text) (setAt sets (2 * (j - start)))
+
+-- The set is the one behind the text's first n bytes.
+pub record BehindAt (prepared : List ℕ) (a : Automaton) (text : Text) (n : ℕ) (set : Set) : Type 0 where
+  pub behind : (r : Pattern) → Describes r a prepared → Behind r (drop n text) set
+
+-- where block k of a text of n bytes ends
+abbrev pub blockEnd : ℕ → ℕ → ℕ
+blockEnd n k = min (64 * k + 64) n
+
+-- The slice has, for each block of 64 bytes from block k on, the set behind it.
+pub record Marked (prepared : List ℕ) (a : Automaton) (text : Text) (k : ℕ) (marks : List ℕ) : Type 0 where
+  pub behind : (j : ℕ) → k ≤ j → 64 * j < length text → BehindAt prepared a text (blockEnd (length text) j) (setAt marks (2 * j))
+
+-- ---- The path so far
+
+-- The text t can be read on: it is empty and may end, or its first byte is read at one of the positions allowed.
+abbrev pub ReadsOn : Pattern → Bool → (ℕ → Bool) → Text → Type 0
+ReadsOn r ends may [] = ends ≡ true
+ReadsOn r ends may (c ∷ t) = ReadsAt r may c t
+
+-- The first bytes of the text were read on the path; it belongs exactly if the rest can be read on, and the path is least if it goes on so.
+pub record WalkedBy (r : Pattern) (text : Text) (path : List ℕ) (walk : Walk) : Type 0 where
+  pub ends : Bool
+  pub may : ℕ → Bool
+  pub here-is : walk .here ≡ ends
+  pub set-is : (p : ℕ) → holds (walk .set) p ≡ may p
+  pub belongs-iff : In r text ↔ ReadsOn r ends may (drop (walk .at) text)
+  pub goes-on : (more : List ℕ) → LeastFrom r 0 ends may more (drop (walk .at) text) → LeastPath r 0 (take (walk .at) path ++ more) text
+
+pub record Walked (prepared : List ℕ) (a : Automaton) (text : Text) (path : List ℕ) (walk : Walk) : Type 0 where
+  pub within : walk .at ≤ length text
+  pub so-far : (r : Pattern) → Describes r a prepared → WalkedBy r text path walk
+
+-- The walk came to `end`, or the text does not belong.
+pub record WalkedTo (prepared : List ℕ) (a : Automaton) (text : Text) (end : ℕ) (path : List ℕ) (walk : Walk) : Type 0 where
+  pub walked : walk .at ≡ end → Walked prepared a text path walk
+  pub stuck : ¬ (walk .at ≡ end) → (r : Pattern) → Describes r a prepared → matches r text ≡ false
+
+-- ---- What is found
+
+-- The answer tells whether the text belongs, and the path is then the least.
+pub record PathFound (prepared : List ℕ) (a : Automaton) (text : Text) (path : List ℕ) (found : Bool) : Type 0 where
+  pub found-is : (r : Pattern) → Describes r a prepared → found ≡ matches r text
+  pub path-is : found ≡ true → (r : Pattern) → Describes r a prepared → LeastPath r 0 path text

@@ -1,0 +1,313 @@
+// The least path of a text through an automaton, and what is read off a path: where a join is cut, the arm of a union, the parts of a repeat.
+use automaton::Automaton;
+use automaton::set_at;
+use language::step_back;
+use positions::Set;
+ghost use mathlib.Core.Path.{_≡_};
+ghost use mathlib.Core.Bool.{_&&_};
+ghost use Prim.Native.Nat.{_+_, _-_, _*_, _/_, _≤_, _<_};
+ghost use lib.ListN.{length};
+ghost use Rattle.laws.specs.Paths.{border, goesLeft, firstLoop};
+ghost use Rattle.positions.specs.Positions.{holds};
+ghost use Rattle.automaton.specs.Rows.{Room};
+ghost use Rattle.paths.specs.Walking.{Lowest, Alone, Past, Stored, Filled, BehindAt, blockEnd, Marked, Walked, WalkedTo, PathFound};
+
+// How far a path has come: so many bytes are read, whether the text may end here, and at which positions the next byte can stand.
+pub struct Walk {
+    pub at: usize,
+    pub here: bool,
+    pub set: Set,
+}
+
+// ---- One step
+
+// The lowest of the positions, from `from` on, at which the byte may stand; 128 if there is none.
+fn lowest(prepared: &[u64], a: Automaton, due: Set, byte: u8, from: usize) -> usize
+    requires { ⌜ Room a (now prepared) ⌝ }
+    ensures { λ p. ⌜ Lowest (now (prepared .entry)) a due byte from p ⌝ }
+{
+    let count = a.count;
+    let mut p = due.first_from(from);
+    while p < count {
+        let row = a.start + p;
+        if automaton::stands(prepared, row, byte) {
+            return p;
+        }
+        p = due.first_from(p + 1);
+    }
+    128
+}
+
+// The only one of the positions at which the byte may stand; 128 if there is none or more than one.
+fn alone(prepared: &[u64], a: Automaton, due: Set, byte: u8) -> usize
+    requires { ⌜ Room a (now prepared) ⌝ }
+    ensures { λ p. ⌜ Alone (now (prepared .entry)) a due byte p ⌝ }
+{
+    let p = lowest(prepared, a, due, byte, 0);
+    if 128 <= p {
+        return 128;
+    }
+    if lowest(prepared, a, due, byte, p + 1) < 128 {
+        return 128;
+    }
+    p
+}
+
+// The path comes past position p.
+fn past(prepared: &[u64], a: Automaton, p: usize, at: usize) -> Walk
+    requires { ⌜ Room a (now prepared) ⌝ }
+    requires { ⌜ p < a .count ⌝ }
+    ensures { λ walk. ⌜ Past (now (prepared .entry)) a p at walk ⌝ }
+{
+    let last = a.last;
+    let row = a.start + p;
+    Walk {
+        at,
+        here: last.has(p),
+        set: automaton::follow(prepared, row),
+    }
+}
+
+// ---- Forward, as long as there is one way to go
+
+// The path up to the first byte at which there is a choice, or none can be made.
+fn walk_alone(prepared: &[u64], a: Automaton, text: &[u8], path: &mut [u8]) -> Walk
+    requires { ⌜ Room a (now prepared) ⌝ }
+    requires { ⌜ length (now path) ≡ length (now text) ⌝ }
+    ensures { λ walk. ⌜ Walked (now (prepared .entry)) a (now (text .entry)) (now (path .exit)) walk ⌝ }
+{
+    let first = a.first;
+    let mut walk = Walk {
+        at: 0,
+        here: a.nullable,
+        set: first,
+    };
+    while walk.at < text.len() {
+        let i = walk.at;
+        let due = walk.set;
+        let p = alone(prepared, a, due, text[i]);
+        if 128 <= p {
+            return walk;
+        }
+        path[i] = p as u8;
+        walk = past(prepared, a, p, i + 1);
+    }
+    walk
+}
+
+// ---- Backward, block by block
+
+// A set is kept, in two numbers.
+fn keep(sets: &mut [u64], i: usize, set: Set)
+    requires { ⌜ 2 * i + 2 ≤ length (now sets) ⌝ }
+    ensures { λ _. ⌜ Stored (now (sets .entry)) i set (now (sets .exit)) ⌝ }
+{
+    sets[2 * i] = set.low;
+    sets[2 * i + 1] = set.high;
+}
+
+// The sets behind the bytes of a block are kept; the answer is the set behind what stands in front of it.
+fn fill_block(
+    prepared: &[u64],
+    a: Automaton,
+    text: &[u8],
+    start: usize,
+    end: usize,
+    behind: Set,
+    sets: &mut [u64],
+) -> Set
+    requires { ⌜ Room a (now prepared) ⌝ }
+    requires { ⌜ (start ≤ end) × (end ≤ length (now text)) × (2 * (end - start) ≤ length (now sets)) ⌝ }
+    requires { ⌜ BehindAt (now prepared) a (now text) end behind ⌝ }
+    ensures { λ set. ⌜ BehindAt (now (prepared .entry)) a (now (text .entry)) start set × Filled (now (prepared .entry)) a (now (text .entry)) start start end (now (sets .exit)) ⌝ }
+{
+    let mut set = behind;
+    let mut i = end;
+    while start < i {
+        i -= 1;
+        keep(sets, i - start, set);
+        set = step_back(prepared, a, set, text[i]);
+    }
+    set
+}
+
+fn block_end(length: usize, k: usize) -> usize
+    requires { ⌜ 64 * k < length ⌝ }
+    ensures { λ r. ⌜ r ≡ blockEnd length k ⌝ }
+{
+    if length - 64 * k < 64 {
+        return length;
+    }
+    64 * k + 64
+}
+
+// The set behind each block is kept, from block `first` on.
+fn mark_blocks(
+    prepared: &[u64],
+    a: Automaton,
+    text: &[u8],
+    first: usize,
+    sets: &mut [u64],
+    marks: &mut [u64],
+)
+    requires { ⌜ Room a (now prepared) ⌝ }
+    requires { ⌜ (128 ≤ length (now sets)) × (length (now text) ≤ 32 * length (now marks)) × (length (now text) < 1048576) ⌝ }
+    ensures { λ _. ⌜ Marked (now (prepared .entry)) a (now (text .entry)) first (now (marks .exit)) ⌝ }
+{
+    let mut behind = a.last;
+    let mut k = (text.len() + 63) / 64;
+    while first < k {
+        k -= 1;
+        keep(marks, k, behind);
+        let end = block_end(text.len(), k);
+        behind = fill_block(prepared, a, text, 64 * k, end, behind, sets);
+    }
+}
+
+// ---- Forward again, by the sets that are kept
+
+// The path goes on to the end of a block: at each byte by the lowest position from which the rest can be read.
+fn walk_block(
+    prepared: &[u64],
+    a: Automaton,
+    text: &[u8],
+    start: usize,
+    end: usize,
+    sets: &[u64],
+    walk: Walk,
+    path: &mut [u8],
+) -> Walk
+    requires { ⌜ Room a (now prepared) ⌝ }
+    requires { ⌜ (start ≤ walk .at) × (walk .at ≤ end) × (end ≤ length (now text)) × (2 * (end - start) ≤ length (now sets)) ⌝ }
+    requires { ⌜ Filled (now prepared) a (now text) start start end (now sets) ⌝ }
+    requires { ⌜ length (now path) ≡ length (now text) ⌝ }
+    requires { ⌜ Walked (now prepared) a (now text) (now path) walk ⌝ }
+    ensures { λ res. ⌜ WalkedTo (now (prepared .entry)) a (now (text .entry)) end (now (path .exit)) res ⌝ }
+{
+    let mut walk = walk;
+    while walk.at < end {
+        let i = walk.at;
+        let due = walk.set;
+        let may = due.intersect(set_at(sets, 2 * (i - start)));
+        let p = lowest(prepared, a, may, text[i], 0);
+        if 128 <= p {
+            return walk;
+        }
+        path[i] = p as u8;
+        walk = past(prepared, a, p, i + 1);
+    }
+    walk
+}
+
+// The rest of the path, block by block.
+fn walk_blocks(
+    prepared: &[u64],
+    a: Automaton,
+    text: &[u8],
+    walk: Walk,
+    sets: &mut [u64],
+    marks: &[u64],
+    path: &mut [u8],
+) -> bool
+    requires { ⌜ Room a (now prepared) ⌝ }
+    requires { ⌜ (128 ≤ length (now sets)) × (length (now text) ≤ 32 * length (now marks)) × (length (now text) < 1048576) ⌝ }
+    requires { ⌜ length (now path) ≡ length (now text) ⌝ }
+    requires { ⌜ Walked (now prepared) a (now text) (now path) walk ⌝ }
+    requires { ⌜ Marked (now prepared) a (now text) (walk .at / 64) (now marks) ⌝ }
+    ensures { λ found. ⌜ PathFound (now (prepared .entry)) a (now (text .entry)) (now (path .exit)) found ⌝ }
+{
+    let mut walk = walk;
+    while walk.at < text.len() {
+        let k = walk.at / 64;
+        let end = block_end(text.len(), k);
+        let behind = set_at(marks, 2 * k);
+        fill_block(prepared, a, text, 64 * k, end, behind, sets);
+        walk = walk_block(prepared, a, text, 64 * k, end, sets, walk, path);
+        if walk.at < end {
+            return false;
+        }
+    }
+    walk.here
+}
+
+// Room for the sets of a block.
+fn no_sets() -> [u64; 128]
+    ensures { λ r. ⌜ 128 ≡ length r ⌝ }
+{
+    [0u64; 128]
+}
+
+// ---- The path of a text
+
+// Whether the text belongs, and its least path if it does. Only a text with choices needs the sets of its blocks, two numbers of `marks` for each.
+pub fn find_path(
+    prepared: &[u64],
+    a: Automaton,
+    text: &[u8],
+    marks: &mut [u64],
+    path: &mut [u8],
+) -> bool
+    requires { ⌜ Room a (now prepared) ⌝ }
+    requires { ⌜ (length (now text) ≤ 32 * length (now marks)) × (length (now text) < 1048576) ⌝ }
+    requires { ⌜ length (now path) ≡ length (now text) ⌝ }
+    ensures { λ found. ⌜ PathFound (now (prepared .entry)) a (now (text .entry)) (now (path .exit)) found ⌝ }
+{
+    let walk = walk_alone(prepared, a, text, path);
+    if walk.at == text.len() {
+        return walk.here;
+    }
+    let mut sets = no_sets();
+    mark_blocks(prepared, a, text, walk.at / 64, &mut sets, marks);
+    walk_blocks(prepared, a, text, walk, &mut sets, marks, path)
+}
+
+// ---- What is read off a path
+
+// How many positions at the path's front are below n: where a join is cut.
+pub fn border(path: &[u8], n: usize) -> usize
+    ensures { λ r. ⌜ r ≡ border n (now (path .entry)) ⌝ }
+{
+    let mut i = 0;
+    while i < path.len() {
+        if n <= path[i] as usize {
+            return i;
+        }
+        i += 1;
+    }
+    i
+}
+
+// Whether the path of a union goes by the left arm, whose positions are those below n; `empty` tells whether that arm holds the empty text.
+pub fn goes_left(path: &[u8], n: usize, empty: bool) -> bool
+    ensures { λ r. ⌜ r ≡ goesLeft n empty (now (path .entry)) ⌝ }
+{
+    if path.len() == 0 {
+        return empty;
+    }
+    (path[0] as usize) < n
+}
+
+// The length of the first part of a repeat: up to the first step from one of its child's last positions to one of the first.
+pub fn first_loop(path: &[u8], last: Set, first: Set) -> usize
+    requires { ⌜ 0 < length (now path) ⌝ }
+    ensures { λ r. ⌜ r ≡ firstLoop (holds last) (holds first) (now (path .entry)) ⌝ }
+{
+    let mut i = 1;
+    while i < path.len() {
+        if loops(last, first, path[i - 1], path[i]) {
+            return i;
+        }
+        i += 1;
+    }
+    i
+}
+
+// Whether a step goes from a last position to a first one.
+fn loops(last: Set, first: Set, from: u8, to: u8) -> bool
+    ensures { λ r. ⌜ r ≡ (holds last from && holds first to) ⌝ }
+{
+    if first.has(to as usize) {
+        return last.has(from as usize);
+    }
+    false
+}
