@@ -146,34 +146,237 @@ pub least-in : {r : Pattern} {base : ℕ} {path : List ℕ} {t : Text} → Least
 least-in {r} {base} {path} {t} l =
     from-in r base (nullable r) (firstAt r) r (nullable-in r) (λ c u. first-law r c u .1) path t (l .steps)
 
--- ---- A pattern inside another: position p of the part is position n + p of the whole
+-- ---- A pattern inside another: position p of the part is position `to p` of the whole
 
 -- A byte read in the whole with t behind it may be read in the part with u behind it: the same bytes stand at the part's positions, the
 -- whole allows those that the part allows, and what makes u a text behind one of them in the part makes t one in the whole.
-record StepIn (whole part : Pattern) (n : ℕ) (may may′ : ℕ → Bool) (t u : Text) : Type 0 where
-  same : (p c : ℕ) → p < positions part → standsAt whole (n + p) c ≡ standsAt part p c
-  more : (p : ℕ) → p < positions part → may′ p ≡ true → may (n + p) ≡ true
-  rest : (p : ℕ) → p < positions part → In (restAt part p) u → In (restAt whole (n + p)) t
+record StepIn (whole part : Pattern) (to : ℕ → ℕ) (may may′ : ℕ → Bool) (t u : Text) : Type 0 where
+  same : (p c : ℕ) → p < positions part → standsAt whole (to p) c ≡ standsAt part p c
+  more : (p : ℕ) → p < positions part → may′ p ≡ true → may (to p) ≡ true
+  rest : (p : ℕ) → p < positions part → In (restAt part p) u → In (restAt whole (to p)) t
 
 -- so a step of the whole at a position of the part is a step of the part
 abbrev step-in :
-    {whole part : Pattern} {n base base′ : ℕ} {may may′ : ℕ → Bool} {q c : ℕ} {t u : Text}
-    → StepIn whole part n may may′ t u
-    → base′ ≡ base + n
+    {whole part : Pattern} {to : ℕ → ℕ} {base base′ : ℕ} {may may′ : ℕ → Bool} {q c : ℕ} {t u : Text}
+    → StepIn whole part to may may′ t u
+    → ((p : ℕ) → base′ + p ≡ base + to p)
     → (step : LeastStep whole base may q c t) (p : ℕ)
-    → step .place ≡ n + p
+    → step .place ≡ to p
     → p < positions part
     → may′ p ≡ true
     → LeastStep part base′ may′ q c u
-step-in {part = part} {n = n} {c = c} inside shift step p e h allowed =
-  record {
-    place = p;
-    place-is = let k = step .place-is in omega arith;
-    in-pattern = h;
-    allowed = allowed;
-    stands = sym (inside .same p c h) ∙ rw (← e) (step .stands);
-    lowest =
-        λ j l a x i.
-        let k : j < positions part = omega arith in
-        step .lowest (n + j) (omega arith) (inside .more j k a) (inside .same j c k ∙ x) (inside .rest j k i);
-  }
+step-in {part = part} {to = to} {c = c} inside shift step p e h allowed =
+    record {
+      place = p;
+      place-is = omega (arith, step .place-is, shift p);
+      in-pattern = h;
+      allowed = allowed;
+      stands = sym (inside .same p c h) ∙ rw (← e) (step .stands);
+      lowest =
+          λ j l a x i.
+          let k : j < positions part = omega arith in
+          step .lowest (to j) (omega (arith, shift j, shift p)) (inside .more j k a) (inside .same j c k ∙ x) (inside .rest j k i);
+    }
+
+-- The part is closed in the whole: its positions have the same rests, ends and followers there, and no other position follows them.
+record Inside (whole part : Pattern) (to : ℕ → ℕ) : Type 0 where
+  same : (p c : ℕ) → p < positions part → standsAt whole (to p) c ≡ standsAt part p c
+  rest : (p : ℕ) → p < positions part → restAt whole (to p) ≡ restAt part p
+  last : (p : ℕ) → p < positions part → lastAt whole (to p) ≡ lastAt part p
+  follow : (p q : ℕ) → p < positions part → q < positions part → followAt whole (to p) (to q) ≡ followAt part p q
+  closed :
+      (p q : ℕ)
+      → p < positions part
+      → q < positions whole
+      → followAt whole (to p) q ≡ true
+      → (j : ℕ) × (q ≡ to j) × (j < positions part)
+
+-- a step of the whole at a position of a closed part is a step of the part, where both allow the same positions of the part
+abbrev closed-step :
+    {whole part : Pattern} {to : ℕ → ℕ} {base base′ : ℕ} {may may′ : ℕ → Bool} {q c : ℕ} {t : Text}
+    → Inside whole part to
+    → ((p : ℕ) → base′ + p ≡ base + to p)
+    → ((p : ℕ) → p < positions part → may (to p) ≡ may′ p)
+    → (step : LeastStep whole base may q c t) (p : ℕ)
+    → step .place ≡ to p
+    → p < positions part
+    → LeastStep part base′ may′ q c t
+closed-step {may = may} inside shift agree step p e h =
+    step-in
+    record { same = inside .same; more = λ j k a. agree j k ∙ a; rest = λ j k i. rw (inside .rest j k) i }
+    shift
+    step
+    p
+    e
+    h
+    (sym (agree p h) ∙ ap may (sym e) ∙ step .allowed)
+
+-- and a path of the whole from a position of a closed part is a path of the part
+closed-from :
+    {whole part : Pattern} {to : ℕ → ℕ} (base base′ : ℕ)
+    → Inside whole part to
+    → ((p : ℕ) → base′ + p ≡ base + to p)
+    → (i p : ℕ)
+    → i ≡ to p
+    → p < positions part
+    → (path : List ℕ) (t : Text)
+    → LeastFrom whole base (lastAt whole i) (followAt whole i) path t
+    → LeastFrom part base′ (lastAt part p) (followAt part p) path t
+closed-from {whole} base base′ inside shift i p e h [] [] l = sym (inside .last p h) ∙ ap (lastAt whole) (sym e) ∙ l
+closed-from base base′ inside shift i p e h [] (c ∷ t) l = absurd l
+closed-from base base′ inside shift i p e h (q ∷ path) [] l = absurd l
+closed-from {whole} {to = to} base base′ inside shift i p e h (q ∷ path) (c ∷ t) (step, later) =
+    let (j, z, k) = inside .closed p (step .place) h (step .in-pattern) (rw e at (step .allowed)) in
+    (
+      closed-step inside shift (λ x l. ap (λ y. followAt whole y (to x)) e ∙ inside .follow p x h l) step j z k,
+      closed-from base base′ inside shift (step .place) j z k path t later,
+    )
+
+-- the second of two patterns is closed in a whole that splits at the first one's positions
+second-inside :
+    {whole s : Pattern} (n : ℕ) (low high : ℕ → ℕ) (rest : ℕ → Pattern) (last : ℕ → Bool) (follow : ℕ → ℕ → Bool)
+    → positions whole ≡ n + positions s
+    → ((p : ℕ) → lowAt whole p ≡ split n low (lowAt s) p)
+    → ((p : ℕ) → highAt whole p ≡ split n high (highAt s) p)
+    → ((p : ℕ) → restAt whole p ≡ split n rest (restAt s) p)
+    → ((p : ℕ) → lastAt whole p ≡ split n last (lastAt s) p)
+    → ((p q : ℕ) → followAt whole p q ≡ split n (λ i. follow i q) (λ i. split n (λ j. false) (followAt s i) q) p)
+    → Inside whole s (λ p. n + p)
+unfolding standsAt
+second-inside {whole} {s} n low high rest last follow size lows highs rests lasts follows =
+    record {
+      same = λ p c h. simp (lows, highs, split-right);
+      rest = λ p h. rests (n + p) ∙ split-right n rest (restAt s) p;
+      last = λ p h. lasts (n + p) ∙ split-right n last (lastAt s) p;
+      follow = λ p q h k. simp (follows, split-right);
+      closed =
+          λ p q h k e.
+          halves
+          n
+          (positions s)
+          q
+          (omega arith)
+          (λ l. let z : false ≡ true = simp (follows, split-right, split-left) at e in absurd (false≢true z))
+          (λ j l x. (j, x, l));
+    }
+
+-- so is the second half of a join, the second arm of a union, and the first
+join-second : (r s : Pattern) → Inside (concat r s) s (λ p. positions r + p)
+unfolding positions lowAt highAt restAt lastAt followAt
+join-second r s =
+    second-inside
+    (positions r)
+    (lowAt r)
+    (highAt r)
+    (λ q. concat (restAt r q) s)
+    (λ q. nullable s && lastAt r q)
+    (λ i. split (positions r) (followAt r i) (λ j. lastAt r i && firstAt s j))
+    refl
+    (λ p. refl)
+    (λ p. refl)
+    (λ p. refl)
+    (λ p. refl)
+    (λ p q. refl)
+
+union-second : (r s : Pattern) → Inside (alt r s) s (λ p. positions r + p)
+unfolding positions lowAt highAt restAt lastAt followAt
+union-second r s =
+    second-inside
+    (positions r)
+    (lowAt r)
+    (highAt r)
+    (restAt r)
+    (lastAt r)
+    (λ i. split (positions r) (followAt r i) (λ j. false))
+    refl
+    (λ p. refl)
+    (λ p. refl)
+    (λ p. refl)
+    (λ p. refl)
+    (λ p q. refl)
+
+union-first : (r s : Pattern) → Inside (alt r s) r (λ p. p)
+unfolding positions standsAt lowAt highAt restAt lastAt followAt
+union-first r s =
+    record {
+      same = λ p c h. simp split-left;
+      rest = λ p h. split-left (positions r) (restAt r) (restAt s) p h;
+      last = λ p h. split-left (positions r) (lastAt r) (lastAt s) p h;
+      follow = λ p q h k. simp split-left;
+      closed =
+          λ p q h k e.
+          halves
+          (positions r)
+          (positions s)
+          q
+          k
+          (λ l. (q, refl, l))
+          (λ j l x. let z : false ≡ true = simp (x, split-right, split-left) at e in absurd (false≢true z));
+    }
+
+-- ---- Unions
+
+-- a position of a union that is below the first arm's end is one of the first arm
+union-left :
+    (r s : Pattern) (base : ℕ) (path : List ℕ) (t : Text)
+    → LeastFrom (alt r s) base (nullable (alt r s)) (firstAt (alt r s)) path t
+    → goesLeft (base + positions r) (nullable r) path ≡ true
+    → LeastFrom r base (nullable r) (firstAt r) path t
+unfolding goesLeft firstAt
+union-left r s base [] [] l g = g
+union-left r s base [] (c ∷ t) l g = absurd l
+union-left r s base (q ∷ path) [] l g = absurd l
+union-left r s base (q ∷ path) (c ∷ t) (step, later) g =
+    let h : step .place < positions r = omega (arith, ltb-true q (base + positions r) g, step .place-is) in
+    (
+      closed-step (union-first r s) (λ p. refl) (split-left (positions r) (firstAt r) (firstAt s)) step (step .place) refl h,
+      closed-from base base (union-first r s) (λ p. refl) (step .place) (step .place) refl h path t later,
+    )
+
+-- and one from there on is one of the second arm, where the first does not hold the text
+union-right :
+    (r s : Pattern) (base : ℕ) (path : List ℕ) (t : Text)
+    → LeastFrom (alt r s) base (nullable (alt r s)) (firstAt (alt r s)) path t
+    → goesLeft (base + positions r) (nullable r) path ≡ false
+    → LeastFrom s (base + positions r) (nullable s) (firstAt s) path t × (¬ In r t)
+unfolding goesLeft firstAt nullable positions
+union-right r s base [] [] l g =
+    (⊎-elim (λ e. absurd (not-both e g)) (λ e. e) (or-either (nullable r) (nullable s) l), λ i. not-both (in-nullable r i) g)
+union-right r s base [] (c ∷ t) l g = absurd l
+union-right r s base (q ∷ path) [] l g = absurd l
+union-right r s base (q ∷ path) (c ∷ t) (step, later) g =
+    let n = positions r in
+    let j = step .place - n in
+    let h : n ≤ step .place = omega (arith, ltb-false q (base + n) g, step .place-is) in
+    let e : step .place ≡ n + j = omega arith in
+    let k : j < positions s = omega (arith, step .in-pattern) in
+    let shift : (p : ℕ) → (base + n) + p ≡ base + (n + p) = λ p. omega arith in
+    (
+      (
+        closed-step (union-second r s) shift (λ p l. split-right n (firstAt r) (firstAt s) p) step j e k,
+        closed-from base (base + n) (union-second r s) shift (step .place) j e k path t later,
+      ),
+      λ i.
+          let x = first-law r c t .0 i in
+          let p = x .position in
+          let l = x .in-pattern in
+          step .lowest
+          p
+          (omega arith)
+          (split-left n (firstAt r) (firstAt s) p l ∙ x .allowed)
+          (union-first r s .same p c l ∙ x .stands)
+          (rw (union-first r s .rest p l) (x .rest-in)),
+    )
+
+-- the path of a union goes left exactly if the left arm holds the text
+pub least-left :
+    {r s : Pattern} {base : ℕ} {path : List ℕ} {t : Text} → LeastPath (alt r s) base path t
+    → goesLeft (base + positions r) (nullable r) path ≡ true → LeastPath r base path t
+least-left {r} {s} {base} {path} {t} l g = record { steps = union-left r s base path t (l .steps) g }
+
+pub least-right :
+    {r s : Pattern} {base : ℕ} {path : List ℕ} {t : Text} → LeastPath (alt r s) base path t
+    → goesLeft (base + positions r) (nullable r) path ≡ false → LeastPath s (base + positions r) path t × (¬ In r t)
+least-right {r} {s} {base} {path} {t} l g =
+    let (steps, not) = union-right r s base path t (l .steps) g in
+    (record { steps = steps }, not)
