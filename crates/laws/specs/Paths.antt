@@ -6,6 +6,7 @@ use mathlib.Core.Bool.{Bool, true, false, _&&_, _||_, cond, false≢true}
 use mathlib.Core.List.{List, [], _∷_, _++_}
 use mathlib.Core.Logic.{inl, inr, ⊎-elim}
 use Prim.Native.Nat.{ℕ, zero, suc, _+_, _-_, _≤_, _<_}
+use native.Mathlib.Nat.{not-suc-le-zero}
 use native.Mathlib.Omega.{arith}
 use lib.Dec.{ltb}
 use lib.ListN.{length, take, drop, take-append-drop}
@@ -380,3 +381,248 @@ pub least-right :
 least-right {r} {s} {base} {path} {t} l g =
     let (steps, not) = union-right r s base path t (l .steps) g in
     (record { steps = steps }, not)
+
+-- ---- Joins and repeats: the path is cut
+
+-- The first i positions read the first i bytes, as a path of r from where it may begin by `may`; the others read the others, in s.
+abbrev Cut : Pattern → ℕ → Bool → (ℕ → Bool) → Pattern → ℕ → List ℕ → Text → ℕ → Type 0
+Cut r base ends may s base′ path t i = LeastFrom r base ends may (take i path) (take i t) × LeastPath s base′ (drop i path) (drop i t)
+
+-- The whole begins with r, and s comes behind it.
+record Begins (whole r s : Pattern) : Type 0 where
+  same : (p c : ℕ) → p < positions r → standsAt whole p c ≡ standsAt r p c
+  rest : (p : ℕ) → p < positions r → restAt whole p ≡ concat (restAt r p) s
+
+join-begins : (r s : Pattern) → Begins (concat r s) r s
+unfolding standsAt lowAt highAt restAt
+join-begins r s =
+    record { same = λ p c h. simp split-left; rest = split-left (positions r) (λ q. concat (restAt r q) s) (restAt s) }
+
+repeat-begins : (r : Pattern) → Begins (star r) r (star r)
+unfolding standsAt lowAt highAt restAt
+repeat-begins r = record { same = λ p c h. refl; rest = λ p h. refl }
+
+-- two texts side by side belong to a join
+in-join : (r s : Pattern) (i : ℕ) (t : Text) → In r (take i t) → In s (drop i t) → In (concat r s) t
+unfolding In
+in-join r s i t left right = (take i t, drop i t, sym (take-append-drop i t), left, right)
+
+-- where a path is cut behind one of r's positions, it is cut one later from before that position
+cut-step :
+    {whole r s : Pattern} {base : ℕ} {may may′ : ℕ → Bool} {q c : ℕ} {t : Text} (ends : Bool) (base′ : ℕ) (path : List ℕ) (i : ℕ)
+    → Begins whole r s
+    → ((p : ℕ) → p < positions r → may′ p ≡ true → may p ≡ true)
+    → (step : LeastStep whole base may q c t)
+    → step .place < positions r
+    → may′ (step .place) ≡ true
+    → Cut r base (lastAt r (step .place)) (followAt r (step .place)) s base′ path t i
+    → Cut r base ends may′ s base′ (q ∷ path) (c ∷ t) (suc i)
+cut-step {r = r} {s = s} {t = t} ends base′ path i begins more step h allowed (left, right) =
+    (
+      (
+        step-in
+        record {
+          same = begins .same;
+          more = more;
+          rest = λ p k x. rw (begins .rest p k) (in-join (restAt r p) s i t x (least-in right));
+        }
+        (λ p. refl)
+        step
+        (step .place)
+        refl
+        h
+        allowed,
+        left,
+      ),
+      right,
+    )
+
+-- the border is behind a position below it, and before one that is not
+border-in : (n q : ℕ) (path : List ℕ) → ltb q n ≡ true → border n (q ∷ path) ≡ suc (border n path)
+unfolding border
+border-in n q path e = cond-true (ltb q n) (suc (border n path)) 0 e
+
+border-out : (n q : ℕ) (path : List ℕ) → ltb q n ≡ false → border n (q ∷ path) ≡ 0
+unfolding border
+border-out n q path e = cond-false (ltb q n) (suc (border n path)) 0 e
+
+-- The path of a join may end, and goes on, as one does that stands in the first half, where it may end and goes on by the dashed ones.
+record InFirst (r s : Pattern) (ends : Bool) (may : ℕ → Bool) (ends′ : Bool) (may′ : ℕ → Bool) : Type 0 where
+  both : ends ≡ true → (ends′ ≡ true) × (nullable s ≡ true)
+  on : (q : ℕ) → may q ≡ split (positions r) may′ (λ j. ends′ && firstAt s j) q
+
+-- so it does at its begin
+first-begin : (r s : Pattern) → InFirst r s (nullable (concat r s)) (firstAt (concat r s)) (nullable r) (firstAt r)
+unfolding nullable firstAt
+first-begin r s = record { both = and-both (nullable r) (nullable s); on = λ q. refl }
+
+-- and behind each position of the first half
+first-behind :
+    (r s : Pattern) (p : ℕ)
+    → p < positions r
+    → InFirst r s (lastAt (concat r s) p) (followAt (concat r s) p) (lastAt r p) (followAt r p)
+unfolding lastAt followAt
+first-behind r s p h =
+    let n = positions r in
+    record {
+      both =
+          λ e.
+          let (second, first) = and-both (nullable s) (lastAt r p) (sym (split-left n (λ q. nullable s && lastAt r q) (lastAt s) p h) ∙ e) in
+          (first, second);
+      on =
+          λ q.
+          split-left
+          n
+          (λ i. split n (followAt r i) (λ j. lastAt r i && firstAt s j) q)
+          (λ i. split n (λ j. false) (followAt s i) q)
+          p
+          h;
+    }
+
+-- a path of a join that goes on at a position of the second half is one of that half, and the first half may end before it
+join-over :
+    {r s : Pattern} {base : ℕ} {ends : Bool} {may : ℕ → Bool} {ends′ : Bool} {may′ : ℕ → Bool} {q c : ℕ} {t : Text} (path : List ℕ)
+    → InFirst r s ends may ends′ may′
+    → (step : LeastStep (concat r s) base may q c t)
+    → positions r ≤ step .place
+    → LeastFrom (concat r s) base (lastAt (concat r s) (step .place)) (followAt (concat r s) (step .place)) path t
+    → (ends′ ≡ true) × LeastPath s (base + positions r) (q ∷ path) (c ∷ t)
+unfolding positions
+join-over {r} {s} {base} {may = may} {ends′ = ends′} {may′ = may′} {t = t} path at-first step h later =
+    let n = positions r in
+    let j = step .place - n in
+    let e : step .place ≡ n + j = omega arith in
+    let k : j < positions s = omega (arith, step .in-pattern) in
+    let on : (p : ℕ) → may (n + p) ≡ (ends′ && firstAt s p) = λ p. at-first .on (n + p) ∙ split-right n may′ (λ x. ends′ && firstAt s x) p in
+    let z = and-both ends′ (firstAt s j) (sym (on j) ∙ ap may (sym e) ∙ step .allowed) .0 in
+    let shift : (p : ℕ) → (base + n) + p ≡ base + (n + p) = λ p. omega arith in
+    (
+      z,
+      record {
+        steps = (
+          closed-step (join-second r s) shift (λ p l. on p ∙ ap (λ b. b && firstAt s p) z) step j e k,
+          closed-from base (base + n) (join-second r s) shift (step .place) j e k path t later,
+        );
+      },
+    )
+
+-- the path of a join from anywhere in its first half is cut at the border
+join-from :
+    {r s : Pattern} {ends : Bool} {may : ℕ → Bool} {ends′ : Bool} {may′ : ℕ → Bool} (base : ℕ)
+    → InFirst r s ends may ends′ may′
+    → (path : List ℕ) (t : Text)
+    → LeastFrom (concat r s) base ends may path t
+    → Cut r base ends′ may′ s (base + positions r) path t (border (base + positions r) path)
+unfolding border
+join-from base at-first [] [] l = let (first, second) = at-first .both l in (first, record { steps = second })
+join-from base at-first [] (c ∷ t) l = absurd l
+join-from base at-first (q ∷ path) [] l = absurd l
+join-from {r} {s} {ends′ = ends′} {may′ = may′} base at-first (q ∷ path) (c ∷ t) (step, later) =
+    let n = positions r in
+    let p = step .place in
+    let on : (x : ℕ) → x < n → _ ≡ may′ x = λ x h. at-first .on x ∙ split-left n may′ (λ j. ends′ && firstAt s j) x h in
+    ⊎-elim
+    (λ e.
+    let h : p < n = omega (arith, ltb-true q (base + n) e, step .place-is) in
+    let behind = join-from base (first-behind r s p h) path t later in
+    rw
+    (border-in (base + n) q path e)
+    (cut-step ends′ (base + n) path (border (base + n) path) (join-begins r s) (λ x l a. on x l ∙ a) step h (sym (on p h) ∙ step .allowed) behind))
+    (λ e.
+    let h : n ≤ p = omega (arith, ltb-false q (base + n) e, step .place-is) in
+    rw (border-out (base + n) q path e) (join-over path at-first step h later))
+    (bool-cases (ltb q (base + n)))
+
+-- the path of a join is cut where the second half's positions begin
+pub least-join :
+    {r s : Pattern} {base : ℕ} {path : List ℕ} {t : Text} → LeastPath (concat r s) base path t
+    → let i = border (base + positions r) path in
+    LeastPath r base (take i path) (take i t) × LeastPath s (base + positions r) (drop i path) (drop i t)
+least-join {r} {s} {base} {path} {t} l =
+    let (left, right) = join-from base (first-begin r s) path t (l .steps) in
+    (record { steps = left }, right)
+
+-- the loop is before a first position behind a last one, and behind all others
+loop-here : (last first : ℕ → Bool) (p q : ℕ) (path : List ℕ) → last p && first q ≡ true → untilLoop last first p (q ∷ path) ≡ 0
+unfolding untilLoop
+loop-here last first p q path e = cond-true (last p && first q) 0 (suc (untilLoop last first q path)) e
+
+loop-later :
+    (last first : ℕ → Bool) (p q : ℕ) (path : List ℕ)
+    → last p && first q ≡ false
+    → untilLoop last first p (q ∷ path) ≡ suc (untilLoop last first q path)
+unfolding untilLoop
+loop-later last first p q path e = cond-false (last p && first q) 0 (suc (untilLoop last first q path)) e
+
+-- `last` and `first` tell the last and the first positions, as positions from base on.
+record Tells (r : Pattern) (base : ℕ) (last first : ℕ → Bool) : Type 0 where
+  lasts : (p : ℕ) → p < positions r → last (base + p) ≡ lastAt r p
+  firsts : (p : ℕ) → p < positions r → first (base + p) ≡ firstAt r p
+
+-- the path of a repeat from behind its position p, which is x from base on, is cut at the first loop
+repeat-from :
+    {r : Pattern} {base : ℕ} {last first : ℕ → Bool}
+    → Tells r base last first
+    → (x p : ℕ)
+    → x ≡ base + p
+    → p < positions r
+    → (path : List ℕ) (t : Text)
+    → LeastFrom (star r) base (lastAt (star r) p) (followAt (star r) p) path t
+    → Cut r base (lastAt r p) (followAt r p) (star r) base path t (untilLoop last first x path)
+unfolding positions nullable firstAt lastAt followAt untilLoop
+repeat-from tells x p e h [] [] l = (l, record { steps = refl })
+repeat-from tells x p e h [] (c ∷ t) l = absurd l
+repeat-from tells x p e h (q ∷ path) [] l = absurd l
+repeat-from {r} {base} {last} {first} tells x p e h (q ∷ path) (c ∷ t) (step, later) =
+    let j = step .place in
+    let k = step .in-pattern in
+    let loops : last x && first q ≡ (lastAt r p && firstAt r j) = rw (e, step .place-is, tells .lasts p h, tells .firsts j k) in
+    ⊎-elim
+    (λ b.
+    let (z, a) = and-both (lastAt r p) (firstAt r j) (sym loops ∙ b) in
+    let inside : StepIn (star r) (star r) (λ y. y) (followAt (star r) p) (firstAt r) t t =
+        record {
+          same = λ y d l. refl;
+          more = λ y l f. or-right (followAt r p y) (lastAt r p && firstAt r y) (and-of (lastAt r p) (firstAt r y) z f);
+          rest = λ y l i. i;
+        } in
+    rw (loop-here last first x q path b) (z, record { steps = (step-in inside (λ y. refl) step j refl k a, later) }))
+    (λ b.
+    let on : followAt r p j ≡ true =
+        ⊎-elim (λ a. a) (λ a. absurd (not-both a (sym loops ∙ b))) (or-either (followAt r p j) (lastAt r p && firstAt r j) (step .allowed)) in
+    let more : (y : ℕ) → y < positions r → followAt r p y ≡ true → followAt (star r) p y ≡ true =
+        λ y l f. or-left (followAt r p y) (lastAt r p && firstAt r y) f in
+    let behind = repeat-from tells q j (step .place-is) k path t later in
+    rw
+    (loop-later last first x q path b)
+    (cut-step (lastAt r p) base path (untilLoop last first q path) (repeat-begins r) more step k on behind))
+    (bool-cases (last x && first q))
+
+-- and so is its path from the begin
+repeat-begin :
+    {r : Pattern} {base : ℕ} {last first : ℕ → Bool}
+    → Tells r base last first
+    → (path : List ℕ) (t : Text)
+    → LeastFrom (star r) base true (firstAt (star r)) path t
+    → 0 < length path
+    → Cut r base (nullable r) (firstAt r) (star r) base path t (firstLoop last first path)
+unfolding positions firstAt firstLoop
+repeat-begin tells [] t l h = absurd (not-suc-le-zero h)
+repeat-begin tells (q ∷ path) [] l h = absurd l
+repeat-begin {r} {base} {last} {first} tells (q ∷ path) (c ∷ t) (step, later) h =
+    let k = step .in-pattern in
+    let behind = repeat-from tells q (step .place) (step .place-is) k path t later in
+    cut-step (nullable r) base path (untilLoop last first q path) (repeat-begins r) (λ y l f. f) step k (step .allowed) behind
+
+-- the path of a repeat is cut at its first step from a last position to a first one; `last` and `first` tell these, as positions from base on
+pub least-part :
+    {r : Pattern} {base : ℕ} {path : List ℕ} {t : Text} (last first : ℕ → Bool)
+    → ((p : ℕ) → p < positions r → last (base + p) ≡ lastAt r p)
+    → ((p : ℕ) → p < positions r → first (base + p) ≡ firstAt r p)
+    → LeastPath (star r) base path t → 0 < length path
+    → let i = firstLoop last first path in
+    LeastPath r base (take i path) (take i t) × LeastPath (star r) base (drop i path) (drop i t)
+unfolding nullable
+least-part {r} {base} {path} {t} last first lasts firsts l h =
+    let (left, right) = repeat-begin record { lasts = lasts; firsts = firsts } path t (l .steps) h in
+    (record { steps = left }, right)
