@@ -3,9 +3,9 @@
 -- which the rest of the text can be read; all that the text is cut into can be read off it, constructor by constructor.
 use mathlib.Core.Path.{_≡_, refl, sym, ap, _∙_}
 use mathlib.Core.Bool.{Bool, true, false, _&&_, _||_, cond, false≢true}
-use mathlib.Core.List.{List, [], _∷_, _++_}
-use mathlib.Core.Logic.{inl, inr, ⊎-elim}
-use Prim.Native.Nat.{ℕ, zero, suc, _+_, _-_, _≤_, _<_}
+use mathlib.Core.List.{List, [], _∷_}
+use mathlib.Core.Logic.{⊎-elim}
+use Prim.Native.Nat.{ℕ, suc, _+_, _-_, _≤_, _<_}
 use native.Mathlib.Nat.{not-suc-le-zero}
 use native.Mathlib.Omega.{arith}
 use lib.Dec.{ltb}
@@ -79,6 +79,7 @@ firstLoop last first (p ∷ path) = suc (untilLoop last first p path)
 
 -- ---- Bounds
 
+-- a join is cut within its path
 pub border-within : (n : ℕ) (path : List ℕ) → border n path ≤ length path
 unfolding border
 border-within n [] = omega arith
@@ -98,11 +99,13 @@ until-within last first p (q ∷ path) = go (last p && first q) (until-within la
     go true h = omega arith
     go false h = omega arith
 
+-- so a repeat is cut within its path
 pub loop-within : (last first : ℕ → Bool) (path : List ℕ) → firstLoop last first path ≤ length path
 unfolding firstLoop
 loop-within last first [] = omega arith
 loop-within last first (p ∷ path) = omega (arith, until-within last first p path)
 
+-- and not at its begin
 pub loop-some : (last first : ℕ → Bool) (path : List ℕ) → 0 < length path → 0 < firstLoop last first path
 unfolding firstLoop
 loop-some last first [] h = h
@@ -149,10 +152,14 @@ least-in {r} {base} {path} {t} l =
 
 -- ---- A pattern inside another: position p of the part is position `to p` of the whole
 
+-- At each position of the part the same bytes stand as in the whole.
+abbrev SameBytes : Pattern → Pattern → (ℕ → ℕ) → Type 0
+SameBytes whole part to = (p c : ℕ) → p < positions part → standsAt whole (to p) c ≡ standsAt part p c
+
 -- A byte read in the whole with t behind it may be read in the part with u behind it: the same bytes stand at the part's positions, the
 -- whole allows those that the part allows, and what makes u a text behind one of them in the part makes t one in the whole.
 record StepIn (whole part : Pattern) (to : ℕ → ℕ) (may may′ : ℕ → Bool) (t u : Text) : Type 0 where
-  same : (p c : ℕ) → p < positions part → standsAt whole (to p) c ≡ standsAt part p c
+  same : SameBytes whole part to
   more : (p : ℕ) → p < positions part → may′ p ≡ true → may (to p) ≡ true
   rest : (p : ℕ) → p < positions part → In (restAt part p) u → In (restAt whole (to p)) t
 
@@ -181,7 +188,7 @@ step-in {part = part} {to = to} {c = c} inside shift step p e h allowed =
 
 -- The part is closed in the whole: its positions have the same rests, ends and followers there, and no other position follows them.
 record Inside (whole part : Pattern) (to : ℕ → ℕ) : Type 0 where
-  same : (p c : ℕ) → p < positions part → standsAt whole (to p) c ≡ standsAt part p c
+  same : SameBytes whole part to
   rest : (p : ℕ) → p < positions part → restAt whole (to p) ≡ restAt part p
   last : (p : ℕ) → p < positions part → lastAt whole (to p) ≡ lastAt part p
   follow : (p q : ℕ) → p < positions part → q < positions part → followAt whole (to p) (to q) ≡ followAt part p q
@@ -227,8 +234,7 @@ closed-from {whole} base base′ inside shift i p e h [] [] l = sym (inside .las
 closed-from base base′ inside shift i p e h [] (c ∷ t) l = absurd l
 closed-from base base′ inside shift i p e h (q ∷ path) [] l = absurd l
 closed-from {whole} {to = to} base base′ inside shift i p e h (q ∷ path) (c ∷ t) (step, later) =
-    let (j, z, k) = inside .closed p (step .place) h (step .in-pattern) (rw e at (step .allowed)) in
-    (
+    let (j, z, k) = inside .closed p (step .place) h (step .in-pattern) (rw e at (step .allowed)) in (
       closed-step inside shift (λ x l. ap (λ y. followAt whole y (to x)) e ∙ inside .follow p x h l) step j z k,
       closed-from base base′ inside shift (step .place) j z k path t later,
     )
@@ -317,7 +323,7 @@ union-first r s =
 
 -- ---- Unions
 
--- a position of a union that is below the first arm's end is one of the first arm
+-- the path of a union that goes left is a path of the left arm
 union-left :
     (r s : Pattern) (base : ℕ) (path : List ℕ) (t : Text)
     → LeastFrom (alt r s) base (nullable (alt r s)) (firstAt (alt r s)) path t
@@ -328,13 +334,12 @@ union-left r s base [] [] l g = g
 union-left r s base [] (c ∷ t) l g = absurd l
 union-left r s base (q ∷ path) [] l g = absurd l
 union-left r s base (q ∷ path) (c ∷ t) (step, later) g =
-    let h : step .place < positions r = omega (arith, ltb-true q (base + positions r) g, step .place-is) in
-    (
+    let h : step .place < positions r = omega (arith, ltb-true q (base + positions r) g, step .place-is) in (
       closed-step (union-first r s) (λ p. refl) (split-left (positions r) (firstAt r) (firstAt s)) step (step .place) refl h,
       closed-from base base (union-first r s) (λ p. refl) (step .place) (step .place) refl h path t later,
     )
 
--- and one from there on is one of the second arm, where the first does not hold the text
+-- and one that does not is a path of the right arm, and the left arm does not hold its text
 union-right :
     (r s : Pattern) (base : ℕ) (path : List ℕ) (t : Text)
     → LeastFrom (alt r s) base (nullable (alt r s)) (firstAt (alt r s)) path t
@@ -351,8 +356,7 @@ union-right r s base (q ∷ path) (c ∷ t) (step, later) g =
     let h : n ≤ step .place = omega (arith, ltb-false q (base + n) g, step .place-is) in
     let e : step .place ≡ n + j = omega arith in
     let k : j < positions s = omega (arith, step .in-pattern) in
-    let shift : (p : ℕ) → (base + n) + p ≡ base + (n + p) = λ p. omega arith in
-    (
+    let shift : (p : ℕ) → (base + n) + p ≡ base + (n + p) = λ p. omega arith in (
       (
         closed-step (union-second r s) shift (λ p l. split-right n (firstAt r) (firstAt s) p) step j e k,
         closed-from base (base + n) (union-second r s) shift (step .place) j e k path t later,
@@ -390,9 +394,10 @@ Cut r base ends may s base′ path t i = LeastFrom r base ends may (take i path)
 
 -- The whole begins with r, and s comes behind it.
 record Begins (whole r s : Pattern) : Type 0 where
-  same : (p c : ℕ) → p < positions r → standsAt whole p c ≡ standsAt r p c
+  same : SameBytes whole r (λ p. p)
   rest : (p : ℕ) → p < positions r → restAt whole p ≡ concat (restAt r p) s
 
+-- so a join begins with its first half, and a repeat with a part, behind which the repeat comes again
 join-begins : (r s : Pattern) → Begins (concat r s) r s
 unfolding standsAt lowAt highAt restAt
 join-begins r s =
@@ -407,6 +412,16 @@ in-join : (r s : Pattern) (i : ℕ) (t : Text) → In r (take i t) → In s (dro
 unfolding In
 in-join r s i t left right = (take i t, drop i t, sym (take-append-drop i t), left, right)
 
+-- so a byte may be read in r with the first i bytes behind it, where the others belong to s
+begin-step :
+    {whole r s : Pattern} {may may′ : ℕ → Bool} {t : Text} (i : ℕ)
+    → Begins whole r s
+    → ((p : ℕ) → p < positions r → may′ p ≡ true → may p ≡ true)
+    → In s (drop i t)
+    → StepIn whole r (λ p. p) may may′ t (take i t)
+begin-step {r = r} {s = s} {t = t} i begins more right =
+    record { same = begins .same; more = more; rest = λ p k x. rw (begins .rest p k) (in-join (restAt r p) s i t x right) }
+
 -- where a path is cut behind one of r's positions, it is cut one later from before that position
 cut-step :
     {whole r s : Pattern} {base : ℕ} {may may′ : ℕ → Bool} {q c : ℕ} {t : Text} (ends : Bool) (base′ : ℕ) (path : List ℕ) (i : ℕ)
@@ -417,25 +432,8 @@ cut-step :
     → may′ (step .place) ≡ true
     → Cut r base (lastAt r (step .place)) (followAt r (step .place)) s base′ path t i
     → Cut r base ends may′ s base′ (q ∷ path) (c ∷ t) (suc i)
-cut-step {r = r} {s = s} {t = t} ends base′ path i begins more step h allowed (left, right) =
-    (
-      (
-        step-in
-        record {
-          same = begins .same;
-          more = more;
-          rest = λ p k x. rw (begins .rest p k) (in-join (restAt r p) s i t x (least-in right));
-        }
-        (λ p. refl)
-        step
-        (step .place)
-        refl
-        h
-        allowed,
-        left,
-      ),
-      right,
-    )
+cut-step ends base′ path i begins more step h allowed (left, right) =
+    ((step-in (begin-step i begins more (least-in right)) (λ p. refl) step (step .place) refl h allowed, left), right)
 
 -- the border is behind a position below it, and before one that is not
 border-in : (n q : ℕ) (path : List ℕ) → ltb q n ≡ true → border n (q ∷ path) ≡ suc (border n path)
@@ -495,8 +493,7 @@ join-over {r} {s} {base} {may = may} {ends′ = ends′} {may′ = may′} {t = 
     let k : j < positions s = omega (arith, step .in-pattern) in
     let on : (p : ℕ) → may (n + p) ≡ (ends′ && firstAt s p) = λ p. at-first .on (n + p) ∙ split-right n may′ (λ x. ends′ && firstAt s x) p in
     let z = and-both ends′ (firstAt s j) (sym (on j) ∙ ap may (sym e) ∙ step .allowed) .0 in
-    let shift : (p : ℕ) → (base + n) + p ≡ base + (n + p) = λ p. omega arith in
-    (
+    let shift : (p : ℕ) → (base + n) + p ≡ base + (n + p) = λ p. omega arith in (
       z,
       record {
         steps = (
@@ -525,9 +522,10 @@ join-from {r} {s} {ends′ = ends′} {may′ = may′} base at-first (q ∷ pat
     (λ e.
     let h : p < n = omega (arith, ltb-true q (base + n) e, step .place-is) in
     let behind = join-from base (first-behind r s p h) path t later in
+    let allowed = sym (on p h) ∙ step .allowed in
     rw
     (border-in (base + n) q path e)
-    (cut-step ends′ (base + n) path (border (base + n) path) (join-begins r s) (λ x l a. on x l ∙ a) step h (sym (on p h) ∙ step .allowed) behind))
+    (cut-step ends′ (base + n) path (border (base + n) path) (join-begins r s) (λ x l a. on x l ∙ a) step h allowed behind))
     (λ e.
     let h : n ≤ p = omega (arith, ltb-false q (base + n) e, step .place-is) in
     rw (border-out (base + n) q path e) (join-over path at-first step h later))
@@ -553,6 +551,25 @@ loop-later :
     → untilLoop last first p (q ∷ path) ≡ suc (untilLoop last first q path)
 unfolding untilLoop
 loop-later last first p q path e = cond-false (last p && first q) 0 (suc (untilLoop last first q path)) e
+
+-- of two tests one is true, and it is not the second
+or-other : (a b : Bool) → a || b ≡ true → b ≡ false → a ≡ true
+or-other a b e f = ⊎-elim (λ h. h) (λ h. absurd (not-both h f)) (or-either a b e)
+
+-- behind its position p a repeat goes on where its part does
+stays : (r : Pattern) (p y : ℕ) → y < positions r → followAt r p y ≡ true → followAt (star r) p y ≡ true
+unfolding followAt
+stays r p y l e = or-left (followAt r p y) (lastAt r p && firstAt r y) e
+
+-- and, where the part may end at p, also where the repeat begins
+again : (r : Pattern) (p : ℕ) (t : Text) → lastAt r p ≡ true → StepIn (star r) (star r) (λ y. y) (followAt (star r) p) (firstAt (star r)) t t
+unfolding followAt firstAt
+again r p t z =
+    record {
+      same = λ y c l. refl;
+      more = λ y l e. or-right (followAt r p y) (lastAt r p && firstAt r y) (and-of (lastAt r p) (firstAt r y) z e);
+      rest = λ y l i. i;
+    }
 
 -- `last` and `first` tell the last and the first positions, as positions from base on.
 record Tells (r : Pattern) (base : ℕ) (last first : ℕ → Bool) : Type 0 where
@@ -580,22 +597,13 @@ repeat-from {r} {base} {last} {first} tells x p e h (q ∷ path) (c ∷ t) (step
     ⊎-elim
     (λ b.
     let (z, a) = and-both (lastAt r p) (firstAt r j) (sym loops ∙ b) in
-    let inside : StepIn (star r) (star r) (λ y. y) (followAt (star r) p) (firstAt r) t t =
-        record {
-          same = λ y d l. refl;
-          more = λ y l f. or-right (followAt r p y) (lastAt r p && firstAt r y) (and-of (lastAt r p) (firstAt r y) z f);
-          rest = λ y l i. i;
-        } in
-    rw (loop-here last first x q path b) (z, record { steps = (step-in inside (λ y. refl) step j refl k a, later) }))
+    rw (loop-here last first x q path b) (z, record { steps = (step-in (again r p t z) (λ y. refl) step j refl k a, later) }))
     (λ b.
-    let on : followAt r p j ≡ true =
-        ⊎-elim (λ a. a) (λ a. absurd (not-both a (sym loops ∙ b))) (or-either (followAt r p j) (lastAt r p && firstAt r j) (step .allowed)) in
-    let more : (y : ℕ) → y < positions r → followAt r p y ≡ true → followAt (star r) p y ≡ true =
-        λ y l f. or-left (followAt r p y) (lastAt r p && firstAt r y) f in
+    let on = or-other (followAt r p j) (lastAt r p && firstAt r j) (step .allowed) (sym loops ∙ b) in
     let behind = repeat-from tells q j (step .place-is) k path t later in
     rw
     (loop-later last first x q path b)
-    (cut-step (lastAt r p) base path (untilLoop last first q path) (repeat-begins r) more step k on behind))
+    (cut-step (lastAt r p) base path (untilLoop last first q path) (repeat-begins r) (stays r p) step k on behind))
     (bool-cases (last x && first q))
 
 -- and so is its path from the begin
