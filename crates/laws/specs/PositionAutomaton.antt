@@ -99,7 +99,7 @@ pub record ReadsAt (r : Pattern) (may : ℕ → Bool) (c : ℕ) (t : Text) : Typ
 -- ---- The two halves of a split
 
 -- a number below n + m is below n, or it is n and a number below m
-halves : (n m p : ℕ) → p < n + m → {C : Type 0} → (p < n → C) → ((q : ℕ) → q < m → p ≡ n + q → C) → C
+pub halves : (n m p : ℕ) → p < n + m → {C : Type 0} → (p < n → C) → ((q : ℕ) → q < m → p ≡ n + q → C) → C
 halves n m p h left right =
     ⊎-elim
     (λ e. left (ltb-true p n e))
@@ -112,7 +112,7 @@ module _ {A : Type 0} (n : ℕ) (f g : ℕ → A) where
   unfolding split
   split-left p h = cond-true (ltb p n) (f p) (g (p - n)) (lt-ltb p n h)
 
-  split-right : (q : ℕ) → split n f g (n + q) ≡ g q
+  pub split-right : (q : ℕ) → split n f g (n + q) ≡ g q
   unfolding split
   split-right q =
       let back : (n + q) - n ≡ q = omega arith in
