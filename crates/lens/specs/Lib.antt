@@ -3,4 +3,5 @@ pub mod Overlay
 pub mod Reading
 pub mod Cutting
 pub mod Emitting
+pub mod Parsed
 pub mod Nodes
