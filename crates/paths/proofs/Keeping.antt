@@ -1,9 +1,8 @@
 -- Sets that are kept beside a text, byte by byte and block by block: what the loops backward cite. Assumes nothing.
-use mathlib.Core.Path.{_≡_, sym, ap, subst, _∙_}
+use mathlib.Core.Path.{_≡_, refl, subst, _∙_}
 use mathlib.Core.List.{List, [], _∷_}
 use mathlib.Core.Logic.{_≢_, ⊎-elim}
 use Prim.Native.Nat.{ℕ, suc, _+_, _-_, _*_, _≤_, _<_, min}
-use native.Mathlib.Numerals.{add-one}
 use native.Mathlib.Omega.{arith}
 use borrow.Author.Tests.{eqb-true, eqb-false}
 use lib.Dec.{eqb}
@@ -61,7 +60,7 @@ module _ {prepared : List ℕ} {a : Automaton} {text : Text} where
       record {
         behind = λ r d j l h.
             ⊎-elim
-            (λ e. rw (eqb-true j i e, add-one i, ← k-is, stored .stored) (here .behind r d))
+            (λ e. rw (eqb-true j i e, ← k-is, stored .stored) (here .behind r d))
             (λ e. let ne = eqb-false j i e in rw (stored .kept (j - start) (λ z. ne (omega arith))) (known .behind r d j (omega arith) h))
             (bool-cases (eqb j i));
       }
@@ -75,17 +74,35 @@ module _ {prepared : List ℕ} {a : Automaton} {text : Text} where
 
   -- ---- The sets behind the blocks
 
+  -- a set behind some place, where the place is written otherwise
+  behind-same : {m n : ℕ} {s : Set} → m ≡ n → BehindAt prepared a text m s → BehindAt prepared a text n s
+  behind-same {s = s} e = subst (λ (k : ℕ). BehindAt prepared a text k s) e
+
+  -- past the last block the text ends, and a block begins where the one before ends
+  pub behind-whole : (k : ℕ) {s : Set} → length text ≤ 64 * k → BehindAt prepared a text (length text) s → BehindAt prepared a text (min (64 * k) (length text)) s
+  behind-whole k few = behind-same (omega arith)
+
+  pub behind-start : (k : ℕ) {s : Set} → 64 * k ≤ length text → BehindAt prepared a text (64 * k) s → BehindAt prepared a text (min (64 * k) (length text)) s
+  behind-start k inside = behind-same (omega arith)
+
+  pub behind-block : {k n e : ℕ} {s : Set} → n ≡ suc k → e ≡ blockEnd (length text) k → BehindAt prepared a text (min (64 * n) (length text)) s → BehindAt prepared a text e s
+  behind-block n-is e-is = behind-same (omega arith)
+
   pub marked-none : {k : ℕ} {marks : List ℕ} → length text ≤ 64 * k → Marked prepared a text k marks
   marked-none few = record { behind = λ j l h. absurd (omega arith) }
 
   pub marked-more :
-      {k : ℕ} {s : Set} {before after : List ℕ} → Marked prepared a text (k + 1) before → BehindAt prepared a text (blockEnd (length text) k) s
+      {k n : ℕ} {s : Set} {before after : List ℕ} → n ≡ suc k → Marked prepared a text n before → BehindAt prepared a text (min (64 * n) (length text)) s
       → Stored before k s after → Marked prepared a text k after
-  marked-more {k} known here stored =
+  marked-more {k} e known here stored =
       record {
         behind = λ j l h.
             ⊎-elim
-            (λ e. rw (eqb-true j k e, stored .stored) here)
-            (λ e. let ne = eqb-false j k e in rw (stored .kept j ne) (known .behind j (omega arith) h))
+            (λ z. rw (eqb-true j k z, stored .stored) (behind-block e refl here))
+            (λ z. let ne = eqb-false j k z in rw (stored .kept j ne) (known .behind j (omega arith) h))
             (bool-cases (eqb j k));
       }
+
+  -- those from a later block on are among them
+  pub marked-from : {k n : ℕ} {marks : List ℕ} → k ≤ n → Marked prepared a text k marks → Marked prepared a text n marks
+  marked-from less known = record { behind = λ j l h. known .behind j (omega arith) h }

@@ -24,7 +24,7 @@ border-next n path i h = ap (border n) (drop-cons path i 0 h)
 
 module _ {n : ℕ} {path : List ℕ} where
   pub bordered-none : Bordered n path 0
-  bordered-none = record { within = omega arith; border-is = refl }
+  bordered-none = record { within = omega arith; border-is = omega arith }
 
   module _ {i : ℕ} (known : Bordered n path i) where
     pub bordered-more : i < length path → getD path i 0 < n → Bordered n path (i + 1)
@@ -77,18 +77,18 @@ module _ {last first : ℕ → Bool} {path : List ℕ} where
 
   module _ {i : ℕ} (known : Unlooped last first path i) where
     pub unlooped-more : i < length path → last (getD path (i - 1) 0) && first (getD path i 0) ≡ false → Unlooped last first path (i + 1)
-    unlooped-more h no =
+    unlooped-more h none =
         let p = getD path (i - 1) 0 in
         let rest = untilLoop last first (getD path i 0) (drop (suc i) path) in
-        let next = loop-next last first p path i h ∙ cond-false (last p && first (getD path i 0)) 0 (suc rest) no in
+        let next = loop-next last first p path i h ∙ cond-false (last p && first (getD path i 0)) 0 (suc rest) none in
         let back : i + 1 - 1 ≡ i = omega arith in
         record { some-path = omega arith; within = omega arith; loop-is = rw (back, add-one i) (omega (arith, known .loop-is, next)) }
 
     pub unlooped-here : i < length path → last (getD path (i - 1) 0) && first (getD path i 0) ≡ true → i ≡ firstLoop last first path
-    unlooped-here h yes =
+    unlooped-here h told =
         let p = getD path (i - 1) 0 in
         let rest = untilLoop last first (getD path i 0) (drop (suc i) path) in
-        let next = loop-next last first p path i h ∙ cond-true (last p && first (getD path i 0)) 0 (suc rest) yes in
+        let next = loop-next last first p path i h ∙ cond-true (last p && first (getD path i 0)) 0 (suc rest) told in
         omega (arith, known .loop-is, next)
 
     pub unlooped-all : length path ≤ i → i ≡ firstLoop last first path
@@ -99,8 +99,8 @@ module _ {last first : ℕ → Bool} {path : List ℕ} where
         omega (arith, known .loop-is, none)
 
 -- two tests at once, the second asked first
-pub both-tests : {a b c : Bool} → c ≡ a → b ≡ true → c ≡ (a && b)
-both-tests {a} {b} {c} is yes = is ∙ sym (rw yes (and-true a))
+pub both-tests : {a c : Bool} (b : Bool) → c ≡ a → b ≡ true → c ≡ (a && b)
+both-tests {a} b is told = is ∙ sym (rw told (and-true a))
 
-pub second-fails : {a b : Bool} → b ≡ false → false ≡ (a && b)
-second-fails {a} {b} no = sym (rw no (and-false a))
+pub second-fails : (a b : Bool) → b ≡ false → false ≡ (a && b)
+second-fails a b told = sym (rw told (and-false a))

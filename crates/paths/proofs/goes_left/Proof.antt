@@ -13,7 +13,7 @@ shared-slice-read-result : tie.Need-shared-slice-read-result
 shared-slice-read-result c = search needs
 
 cast-result : tie.Need-cast-result
-cast-result c = ?
+cast-result c = omega (arith, c .shared-slice-known .given 0)
 
 returns-2 : tie.Need-returns-2
 returns-2 c = goes-first _ _ _ (omega arith)

@@ -46,7 +46,7 @@ loop-less : tie.Need-loop-less Inv-loop μ-loop
 loop-less c = omega (arith, c .past .ensures .at-is)
 
 loop-again : tie.Need-loop-again Inv-loop μ-loop
-loop-again c = (length-set _ _ _ ∙ c .before .before .before .before .before .before .before .loop .inv .0, walked-more (c .before .before .before .before .before .before .before .loop .inv .1) (c .before .before .before .before .before .if1 .taken) (c .before .before .before .before .before .before .before .loop .inv .0 ∙ c .before .before .before .before .before .before .before .before .before .before .before .before .pre .1) (c .past .ensures) (λ r d. takes-alone (c .before .before .before .before .before .before .before .before .before .before .before .before .pre .0) d _ (c .before .before .before .before .before .before .before .loop .inv .1 .so-far r d .set-is) (c .before .before .alone .ensures .reads (c .before .if2 .left)) (c .before .before .alone .ensures .no-other (c .before .if2 .left))))
+loop-again c = (simp length-set (omega (arith, c .before .before .before .before .before .before .before .loop .inv .0)), walked-more (c .before .before .before .before .before .before .before .loop .inv .1) (c .before .before .before .before .before .if1 .taken) (c .before .before .before .before .before .before .before .loop .inv .0 ∙ c .before .before .before .before .before .before .before .before .before .before .before .before .pre .1) (c .past .ensures) (λ r d. takes-alone (c .before .before .before .before .before .before .before .before .before .before .before .before .pre .0) d _ (c .before .before .before .before .before .before .before .loop .inv .1 .so-far r d .set-is) (c .before .before .alone .ensures .reads (c .before .if2 .left)) (c .before .before .alone .ensures .no-other (c .before .if2 .left))))
 
 same-length-2 : tie.Need-same-length-2 Inv-loop μ-loop
 same-length-2 c = search needs
