@@ -28,14 +28,16 @@ stored-two sets i s h =
     record {
       same-length = length-set (set sets (2 * i) (s .low)) (2 * i + 1) (s .high) ∙ length-set sets (2 * i) (s .low);
       stored =
-          rw
-          (getD-set-same (set sets (2 * i) (s .low)) (2 * i + 1) (s .high) 0 (rw length-set (omega arith)),
-          getD-set-other (set sets (2 * i) (s .low)) (2 * i + 1) (2 * i) (s .high) 0 (λ e. omega arith),
-          getD-set-same sets (2 * i) (s .low) 0 (omega arith));
+          rw (
+            getD-set-same (set sets (2 * i) (s .low)) (2 * i + 1) (s .high) 0 (rw length-set (omega arith)),
+            getD-set-other (set sets (2 * i) (s .low)) (2 * i + 1) (2 * i) (s .high) 0 (λ e. omega arith),
+            getD-set-same sets (2 * i) (s .low) 0 (omega arith),
+          );
       kept = λ j ne.
-          rw
-          (two-kept sets (2 * i) (s .low) (s .high) (2 * j) (λ e. ne (omega arith)) (λ e. omega arith),
-          two-kept sets (2 * i) (s .low) (s .high) (2 * j + 1) (λ e. omega arith) (λ e. ne (omega arith)));
+          rw (
+            two-kept sets (2 * i) (s .low) (s .high) (2 * j) (λ e. ne (omega arith)) (λ e. omega arith),
+            two-kept sets (2 * i) (s .low) (s .high) (2 * j + 1) (λ e. omega arith) (λ e. ne (omega arith)),
+          );
     }
 
 module _ {prepared : List ℕ} {a : Automaton} {text : Text} where

@@ -1,4 +1,5 @@
 -- `paths::find_path` meets its contract. Assumes nothing.
+use mathlib.Core.Path.{_∙_}
 use native.Mathlib.Omega.{arith}
 use borrow.Author.Needs.{needs}
 use Rattle.paths.proofs.Stepping.{walked-all}
@@ -13,7 +14,7 @@ same-length : tie.Need-same-length
 same-length c = search needs
 
 returns : tie.Need-returns
-returns c = walked-all (c .before .before .before .before .walk-alone .ensures) (c .if1 .taken) (c .before .before .before .before .before .before .before .before .before .before .pre .1 .1)
+returns c = walked-all (c .before .before .before .before .walk-alone .ensures) (c .if1 .taken) (c .before .before .before .before .walk-alone .kept .1 .1 .1 .0 ∙ c .before .before .before .before .before .before .before .before .before .before .pre .1 .1)
 
 no-sets-requires : tie.Need-no-sets-requires
 no-sets-requires c κs = search needs
@@ -28,7 +29,7 @@ slice-aggregate-walk-blocks : tie.Need-slice-aggregate-walk-blocks
 slice-aggregate-walk-blocks c = search needs
 
 walk-blocks-requires : tie.Need-walk-blocks-requires
-walk-blocks-requires c κs = ?
+walk-blocks-requires c κs = (c .before .before .before .before .before .before .before .before .before .before .before .before .before .before .before .before .before .before .before .before .before .pre .0, ((omega (arith, c .before .before .before .before .before .before .before .before .before .before .no-sets .ensures, c .before .before .before .before .before .before .mark-blocks .kept .1 .1 .1 .1 .0), omega (arith, c .before .before .before .before .before .before .before .before .before .before .before .before .before .before .before .before .before .before .before .before .before .pre .1 .0 .0, c .before .before .before .before .before .before .mark-blocks .kept .1 .1 .1 .1 .1 .0), c .before .before .before .before .before .before .before .before .before .before .before .before .before .before .before .before .before .before .before .before .before .pre .1 .0 .1), (c .before .before .before .before .before .before .before .before .before .before .before .before .before .before .before .walk-alone .kept .1 .1 .1 .0 ∙ c .before .before .before .before .before .before .before .before .before .before .before .before .before .before .before .before .before .before .before .before .before .pre .1 .1, (c .before .before .before .before .before .before .before .before .before .before .before .before .before .before .before .walk-alone .ensures, c .before .before .before .before .before .before .mark-blocks .ensures))))
 
 same-length-2 : tie.Need-same-length-2
 same-length-2 c = search needs
