@@ -11,10 +11,10 @@ use lib.ListN.{length, take, drop, getD, length-append, length-take, length-drop
 use lib.Seq.{length-take-le, take-append-seam, take-at, drop-at}
 use borrow.Author.Tests.{eqb-true, eqb-false}
 use Rattle.semantics.specs.Text.{Text, orElse}
-use Rattle.semantics.specs.Lens.{Lens, sheet, language, get, keyOf, entryOf}
+use Rattle.semantics.specs.Lens.{Lens, source, sheet, language, get, keyOf, entryOf}
 use Rattle.semantics.specs.Table.{Trees, trees, lensAt, positions}
 use Rattle.laws.specs.NodeTrees.{lens-tree}
-use Rattle.laws.specs.GetPut.{get-length}
+use Rattle.laws.specs.GetPut.{get-in, get-length}
 use Rattle.automaton.specs.declared.Side.the-variants.{Sheet}
 use Rattle.automaton.specs.Rows.{sideOf, automatonAt}
 use Rattle.automaton.specs.Built.{treeLanguage}
@@ -23,7 +23,7 @@ use Rattle.lens.specs.declared.Wrote.{Wrote}
 use Rattle.lens.specs.declared.Wrote.the-variants.{Count, Full}
 use Rattle.lens.specs.Overlay.{Writes, overlay-fits, full-over, writes-within}
 use Rattle.lens.specs.Reading.{reading}
-use Rattle.lens.specs.Emitting.{LensNode, Emits}
+use Rattle.lens.specs.Emitting.{LensNode, Fits, Emits}
 use Rattle.lens.specs.Nodes.{same-lens}
 use Rattle.books.specs.declared.Book.{Book}
 use Rattle.books.specs.Cards.{CardIs}
@@ -42,16 +42,15 @@ module _ {bytes : Text} {prepared : List ℕ} {child : ℕ} (known : LensNode by
       let count = rw (known .tree-is) at (has .described .count-is) in
       omega (arith, has .room .few, count)
 
-  -- What get reads off an entry of at most 4,096 bytes is at most 128 times as long: it always fits.
-  pub sheet-fits :
+  -- What get reads off an entry of at most 4,096 bytes is at most 128 times as long: where it does not fit, the room is shorter than that.
+  pub sheet-over :
       {text before after : Text}
       → EntryOf bytes child text
       → length text ≤ 4096
-      → length before ≡ 524288
       → Emits bytes child Get text before after Full
-      → ⊥
+      → length before < 524288
   unfolding reading
-  sheet-fits {text} {before} entry short room emits =
+  sheet-over {text} {before} entry short emits =
       let same = same-lens (entry .tree) (known .tree) (sym (lens-tree (trees bytes) child (entry .tree) (entry .at-child)) ∙ known .tree-is) in
       let longest = rw same at (get-length (entry .tree) (entry .typed) text (entry .in-source)) in
       let short-sheet : length (get (known .tree) text) ≤ 524288 =
@@ -61,6 +60,25 @@ module _ {bytes : Text} {prepared : List ℕ} {child : ℕ} (known : LensNode by
   -- It ends within the buffer.
   pub sheet-within : {text before after : Text} {n : ℕ} → Emits bytes child Get text before after (Count n) → n ≤ length after
   sheet-within {text} {before} {after} {n} emits = writes-within (reading Get (known .tree) text) before after n (emits .writes (known .tree) (known .tree-is))
+
+-- The text of an entry belongs to its child,
+pub entry-fits : {bytes : Text} {child : ℕ} {text : Text} → EntryOf bytes child text → Fits bytes child source text
+entry-fits {bytes} {child} entry =
+    record { tree = entry .tree; tree-is = lens-tree (trees bytes) child (entry .tree) (entry .at-child); typed = entry .typed; belongs = entry .in-source }
+
+-- and so does its sheet, as it was written and is lent.
+pub sheet-belongs :
+    {bytes : Text} {child : ℕ} {text before after : Text} {n : ℕ}
+    → EntryOf bytes child text → Emits bytes child Get text before after (Count n) → Fits bytes child sheet (take (n - 0) after)
+unfolding reading
+sheet-belongs {text = text} entry emits =
+    let fits = entry-fits entry in
+    record {
+      tree = entry .tree;
+      tree-is = fits .tree-is;
+      typed = entry .typed;
+      belongs = rw (sub-zero, writes-front (emits .writes (entry .tree) (fits .tree-is))) (get-in (entry .tree) (entry .typed) text (entry .in-source));
+    }
 
 -- The card of the sheet that was written is the entry's.
 pub entry-told :

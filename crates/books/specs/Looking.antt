@@ -3,7 +3,7 @@ use mathlib.Core.Path.{_≡_, refl, sym, ap, _∙_}
 use mathlib.Core.Bool.{Bool, true, false, cond}
 use mathlib.Core.List.{List, [], _∷_}
 use mathlib.Core.Option.{Option, none, some}
-use Prim.Native.Nat.{ℕ, zero, suc, _+_, _*_, _≤_, _<_}
+use Prim.Native.Nat.{ℕ, zero, suc, _+_, _*_, _/_, _≤_, _<_}
 use native.Mathlib.Omega.{arith}
 use lib.Dec.{eqb}
 use lib.ListN.{length, take, drop, getD}
@@ -70,6 +70,23 @@ pub record EntryOf (bytes : Text) (child : ℕ) (text : Text) : Type 0 where
 -- The slot tells the key of an entry, that of its own sheet.
 pub record EntryCard (bytes : Text) (child : ℕ) (text slot : Text) : Type 0 where
   pub tells-entry : (l : Lens) → treeAt (trees bytes) child ≡ lens l → Tells (keyOf l (get l text)) slot
+
+-- Room for the sheet of an entry and its path, for 4,096 bytes at least.
+pub record SheetRoom (sheet marks path : List ℕ) : Type 0 where
+  pub least-room : 4096 ≤ length sheet
+  pub most-room : length sheet < 1048576
+  pub same-room : length path ≡ length sheet
+  pub marks-room : 2 * ((length sheet + 63) / 64) ≤ length marks
+
+-- The card was made, or the entry's sheet is longer than the room for it. No sheet is longer than 524,288 bytes.
+pub record CardTried (bytes : Text) (child : ℕ) (text room slot : Text) (done : Bool) : Type 0 where
+  pub made : done ≡ true → EntryCard bytes child text slot
+  pub too-long : done ≡ false → length room < 524288
+
+-- The same of the cards of all entries.
+pub record DeckTried (bytes source : Text) (b : Book) (room deck : Text) (done : Bool) : Type 0 where
+  pub made : done ≡ true → Dealt bytes source b deck
+  pub too-long : done ≡ false → length room < 524288
 
 -- ---- Lookups
 

@@ -1,12 +1,13 @@
 // The card of a key: its length and its fingerprint, two bytes each, and behind them the key. So a lookup tells most keys apart by their first bytes.
 use lens::Mode;
 use lens::Wrote;
-use lens::read::emit;
+use lens::read::read_text;
 ghost use mathlib.Core.Path.{_≡_};
 ghost use mathlib.Core.List.{_++_};
-ghost use Prim.Native.Nat.{_+_, _≤_, _<_};
+ghost use Prim.Native.Nat.{_+_, _*_, _/_, _≤_, _<_};
 ghost use lib.ListN.{length, take, drop};
-ghost use Rattle.lens.specs.Emitting.{LensNode};
+ghost use Rattle.semantics.specs.Lens.{sheet};
+ghost use Rattle.lens.specs.Emitting.{LensNode, Fits};
 ghost use Rattle.books.specs.Cards.{printOf, twoBytes, KeyBehind, Sealed, CardIs};
 
 // A number that is the same for equal texts, and seldom for others.
@@ -54,27 +55,30 @@ fn seal(card: &mut [u8], wrote: Wrote) -> usize
     }
 }
 
-// The card of the key of a sheet text, and its length.
+// The card of the key of a sheet text that belongs to the node, and its length.
 pub fn card_of(
     bytes: &[u8],
     prepared: &[u64],
     node: usize,
     text: &[u8],
-    flags: &mut [u8],
+    marks: &mut [u64],
+    path: &mut [u8],
     card: &mut [u8],
 ) -> usize
     requires { ⌜ LensNode (now bytes) (now prepared) node ⌝ }
-    requires { ⌜ length (now text) < length (now flags) ⌝ }
+    requires { ⌜ Fits (now bytes) node sheet (now text) ⌝ }
+    requires { ⌜ (length (now text) ≤ length (now path)) × (2 * ((length (now text) + 63) / 64) ≤ length (now marks)) × (length (now text) < 1048576) ⌝ }
     requires { ⌜ length (now card) ≡ 4100 ⌝ }
     ensures { λ r. ⌜ CardIs (now (bytes .entry)) node (now (text .entry)) (now (card .exit)) r ⌝ }
 {
-    let wrote = emit(
+    let wrote = read_text(
         bytes,
         prepared,
         node,
         Mode::Key,
         text,
-        flags,
+        marks,
+        path,
         &mut card[4..],
     );
     seal(card, wrote)
