@@ -4,3 +4,4 @@ pub mod Reading
 pub mod Cutting
 pub mod Emitting
 pub mod Nodes
+pub mod Fitting
