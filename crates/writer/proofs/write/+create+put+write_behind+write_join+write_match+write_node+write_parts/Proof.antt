@@ -309,8 +309,7 @@ write-join-write-node-requires t c κs =
     let start = at-cut-of .before .before .before .before .before .before .before .before in
     let (ready-first, ready-second) = start .pre .1 .0 in
     let same-pad = at-halves-of .halves-of .kept .1 .1 .1 .1 .1 .0 ∙ at-cut-of .cut-of .ensures .same-length in
-    let lent = lent-left (start .pre .1 .1 .0) (ready-first .lens-node) (ready-second .lens-node) (at-cut-of .cut-of .ensures) same-pad in
-    (omega (arith, left-falls (start .args .left) (start .args .right), start .pre .0), (ready-first, (lent, at-halves-of .halves-of .ensures .first-inside)))
+    (omega (arith, left-falls (start .args .left) (start .args .right), start .pre .0), (ready-first, (lent-left (start .pre .1 .1 .0) (ready-first .lens-node) (ready-second .lens-node) (at-cut-of .cut-of .ensures) same-pad, at-halves-of .halves-of .ensures .first-inside)))
 
 write-join-write-behind-requires : (t : ℕ) → write-join-lts.Need-write-behind-requires (write-join-calls t) (write-join-at t) write-join.Post
 write-join-write-behind-requires t c κs =
@@ -323,8 +322,7 @@ write-join-write-behind-requires t c κs =
     let written = at-write-node .write-node .ensures in
     let ready = ready-after ready-second (ready-second .lens-node) (written .writes (known .tree) (known .tree-is)) in
     let same-pad = at-write-node .write-node .kept .1 .1 .1 .1 .1 .1 .1 .0 ∙ at-halves-of .halves-of .kept .1 .1 .1 .1 .1 .0 ∙ at-cut-of .cut-of .ensures .same-length in
-    let lent = lent-right (start .pre .1 .1 .0) known (ready-second .lens-node) (at-cut-of .cut-of .ensures) same-pad in
-    (omega (arith, right-falls (start .args .left) (start .args .right), start .pre .0), (ready, ((lent, at-halves-of .halves-of .ensures .second-inside), node-within known written)))
+    (omega (arith, right-falls (start .args .left) (start .args .right), start .pre .0), (ready, ((lent-right (start .pre .1 .1 .0) known (ready-second .lens-node) (at-cut-of .cut-of .ensures) same-pad, at-halves-of .halves-of .ensures .second-inside), node-within known written)))
 
 write-join-same-length : (t : ℕ) → write-join-lts.Need-same-length (write-join-calls t) (write-join-at t) write-join.Post
 write-join-same-length t c =
