@@ -1,7 +1,7 @@
 -- The proof of the cycle of calls {create, put, write_behind, write_join, write_match, write_node, write_parts}: the node falls. A node has the
 -- measure 4 * node; between it and the measures of lower nodes lie those of what it calls. Assumes nothing.
 use Prim.Native.Nat.{ℕ, suc, _+_, _-_, _*_, _≤_, _<_, max}
-use native.Mathlib.Nat.{le-refl, le-of-lt, le-max-left, le-max-right, max-le, suc-max-suc}
+use native.Mathlib.Nat.{le-of-lt, le-max-left, le-max-right, max-le, suc-max-suc}
 use native.Mathlib.Omega.{arith}
 use mathlib.Core.Path.{_≡_, refl, _∙_}
 use borrow.Author.Needs.{needs}
