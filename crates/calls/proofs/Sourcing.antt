@@ -11,10 +11,11 @@ use lib.Seq.{take-length}
 use borrow.Author.Tests.{lt-ltb, le-ltb, not-false}
 use Rattle.semantics.specs.Text.{Text}
 use Rattle.semantics.specs.Pattern.{In, matches}
-use Rattle.semantics.specs.Lens.{Lens, source, language, entries, write, put, create}
+use Rattle.semantics.specs.Lens.{Lens, Side, source, sheet, language, entries, write, put, create}
 use Rattle.semantics.specs.Table.{nodeCount, treeAt, trees}
 use Rattle.semantics.specs.Calls.{gives, program, maxText, maxEntries, tooLong, notOf}
 use Rattle.laws.specs.Membership.{matches-in}
+use Rattle.laws.specs.Accepted.{accepted}
 use Rattle.lens.specs.declared.Wrote.{Wrote}
 use Rattle.books.specs.declared.Book.{Book}
 use Rattle.books.specs.Listed.{Sized, unused, unused-none, fits-none}
@@ -26,7 +27,7 @@ use Rattle.writer.specs.Writing.{Lent, WritesNode, padNeeded}
 use Rattle.writer.specs.Writing.{Ready as ToWrite}
 use Rattle.answers.specs.Answers.{Ready}
 use Rattle.answers.specs.Results.{Makes}
-use Rattle.calls.specs.Sources.{BookReady, ListsSource}
+use Rattle.calls.specs.Sources.{SheetReady, BookReady, ListsSource}
 use Rattle.answers.proofs.Giving.{root-at, root-node, too-long, not-too-long}
 
 -- ---- The empty book
@@ -46,12 +47,26 @@ module _ {b : Book} (empty : (b .count ≡ 0) × Sized b) where
 stands-whole : (t : Text) → StandsIn t t 0
 stands-whole t = record { inside = omega arith; text-is = take-length t }
 
--- a text that passes the test is a source
-in-source : (old : Text) (l : Lens) → notOf source l old ≡ false → In (language source l) old
+-- a text that passes the test belongs
+passes-in : (side : Side) (text : Text) (l : Lens) → notOf side l text ≡ false → In (language side l) text
 unfolding notOf
-in-source old l e = matches-in (language source l) old (not-false (matches (language source l) old) e)
+passes-in side text l e = matches-in (language side l) text (not-false (matches (language side l) text) e)
 
 -- ---- The root
+
+-- a sheet that passes both tests belongs to the root, whose lens keeps the typing rules
+pub sheet-ready :
+    {bytes new : Text} {prepared : List ℕ} (ready : Ready bytes prepared)
+    → length new ≤ maxText
+    → notOf sheet (ready .accepted .root) new ≡ false
+    → SheetReady bytes new
+sheet-ready {bytes} {new} ready short inside =
+    let l = ready .accepted .root in
+    let e = ready .accepted .gives-root in
+    record {
+      new-short = short;
+      new-fits = record { tree = l; tree-is = root-at ready refl l e; typed = accepted bytes l e .0; belongs = passes-in sheet new l inside };
+    }
 
 module _ {bytes : Text} {prepared : List ℕ} (ready : Ready bytes prepared) {root : ℕ} (root-is : root ≡ nodeCount bytes - 1) where
   -- what was listed into an empty book are the source's entries
@@ -85,14 +100,14 @@ module _ {bytes : Text} {prepared : List ℕ} (ready : Ready bytes prepared) {ro
       ready-book l e within inside =
           record {
             over = record { sized = lists .sized; fits = all .untaken within .fits };
-            entries-fit = entries-fit-listed bytes l e (in-source old l inside) (listed within l e) (all .untaken within .counted);
+            entries-fit = entries-fit-listed bytes l e (passes-in source old l inside) (listed within l e) (all .untaken within .counted);
             old-short = short;
             listed = listed within;
           }
 
   -- the pad has room from the root down
-  pub root-lent : {new pad : List ℕ} → length new ≤ maxText → padNeeded bytes root ≤ length pad → Lent bytes root new pad
-  root-lent short room = record { new-short = short; pad-room = room }
+  pub root-lent : {new pad : List ℕ} → SheetReady bytes new → padNeeded bytes root ≤ length pad → Lent bytes root new pad
+  root-lent given room = record { new-short = given .new-short; new-fits = rw root-is (given .new-fits); pad-room = room }
 
   -- the book of the old source and a deck with its cards are what the root puts with
   pub to-put : {old deck : Text} {b : Book} → BookReady bytes old b → Dealt bytes old b deck → 4096 + 4100 * b .count ≤ length deck → ToWrite bytes prepared root deck b

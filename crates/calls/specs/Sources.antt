@@ -1,17 +1,23 @@
--- The book that put begins with.
+-- The sheet that is put or created from, and the book that put begins with.
 use mathlib.Core.Path.{_≡_}
 use mathlib.Core.Bool.{false}
-use Prim.Native.Nat.{_≤_}
+use Prim.Native.Nat.{_-_, _≤_}
 use lib.Dec.{ltb}
 use lib.ListN.{length}
 use Rattle.semantics.specs.Text.{Text}
-use Rattle.semantics.specs.Lens.{Lens, source, entries}
-use Rattle.semantics.specs.Table.{trees}
+use Rattle.semantics.specs.Lens.{Lens, source, sheet, entries}
+use Rattle.semantics.specs.Table.{nodeCount, trees}
 use Rattle.semantics.specs.Calls.{gives, program, maxText, maxEntries, notOf}
+use Rattle.lens.specs.Emitting.{Fits}
 use Rattle.books.specs.declared.Book.{Book}
 use Rattle.books.specs.Listed.{unused}
 use Rattle.books.specs.Looking.{BookOver, EntriesFit}
 use Rattle.listing.specs.declared.Listing.{Listing}
+
+-- A sheet of at most 4,096 bytes that belongs to the root.
+pub record SheetReady (bytes new : Text) : Type 0 where
+  pub new-short : length new ≤ maxText
+  pub new-fits : Fits bytes (nodeCount bytes - 1) sheet new
 
 -- The book of the old source, a text of at most 4,096 bytes: the entries of the root.
 pub record BookReady (bytes old : Text) (b : Book) : Type 0 where

@@ -10,12 +10,13 @@ use automaton::Side;
 use books::Book;
 use books::Old;
 ghost use mathlib.Core.Path.{_≡_};
-ghost use Prim.Native.Nat.{_≤_, min};
+ghost use Prim.Native.Nat.{min};
 ghost use lib.ListN.{length};
 ghost use Rattle.semantics.specs.Lens.{create};
 ghost use Rattle.semantics.specs.Calls.{createCall};
 ghost use Rattle.answers.specs.Answers.{Ready};
 ghost use Rattle.answers.specs.Results.{GivesText, GivesMade};
+ghost use Rattle.calls.specs.Sources.{SheetReady};
 
 // The source of a sheet, of a program that is accepted and prepared.
 pub fn create_with(bytes: &[u8], prepared: &[u64], sheet: &[u8], out: &mut [u8]) -> Answer
@@ -42,7 +43,7 @@ fn create_into(
     out: &mut [u8],
 ) -> Answer
     requires { ⌜ Ready (now bytes) (now prepared) ⌝ }
-    requires { ⌜ length (now sheet) ≤ 4096 ⌝ }
+    requires { ⌜ SheetReady (now bytes) (now sheet) ⌝ }
     requires { ⌜ length (now result) ≡ min (length (now out)) 4096 ⌝ }
     ensures { λ r. ⌜ GivesMade (now (bytes .entry)) (λ l. create l (now (sheet .entry))) (now (out .entry)) (now (out .exit)) r ⌝ }
 {

@@ -22,7 +22,7 @@ ghost use Rattle.semantics.specs.Lens.{put};
 ghost use Rattle.semantics.specs.Calls.{putCall};
 ghost use Rattle.answers.specs.Answers.{Ready};
 ghost use Rattle.answers.specs.Results.{GivesText, Makes, GivesMade};
-ghost use Rattle.calls.specs.Sources.{BookReady, ListsSource};
+ghost use Rattle.calls.specs.Sources.{SheetReady, BookReady, ListsSource};
 
 // The entries of an old source, in a book of their own.
 fn entries_of(bytes: &[u8], prepared: &[u64], source: &[u8]) -> Listing
@@ -103,7 +103,7 @@ fn write_from(
 ) -> Wrote
     requires { ⌜ Ready (now bytes) (now prepared) ⌝ }
     requires { ⌜ BookReady (now bytes) (now source) book ⌝ }
-    requires { ⌜ length (now sheet) ≤ 4096 ⌝ }
+    requires { ⌜ SheetReady (now bytes) (now sheet) ⌝ }
     requires { ⌜ 4096 + 4100 * book .count ≤ length (now deck) ⌝ }
     ensures { λ r. ⌜ Makes (now (bytes .entry)) (λ l. put l (now (sheet .entry)) (now (source .entry))) (now (result .entry)) (now (result .exit)) r ⌝ }
 {
@@ -123,7 +123,7 @@ fn from_small_deck(
 ) -> Wrote
     requires { ⌜ Ready (now bytes) (now prepared) ⌝ }
     requires { ⌜ BookReady (now bytes) (now source) book ⌝ }
-    requires { ⌜ length (now sheet) ≤ 4096 ⌝ }
+    requires { ⌜ SheetReady (now bytes) (now sheet) ⌝ }
     requires { ⌜ book .count ≤ 8 ⌝ }
     ensures { λ r. ⌜ Makes (now (bytes .entry)) (λ l. put l (now (sheet .entry)) (now (source .entry))) (now (result .entry)) (now (result .exit)) r ⌝ }
 {
@@ -141,7 +141,7 @@ fn from_full_deck(
 ) -> Wrote
     requires { ⌜ Ready (now bytes) (now prepared) ⌝ }
     requires { ⌜ BookReady (now bytes) (now source) book ⌝ }
-    requires { ⌜ length (now sheet) ≤ 4096 ⌝ }
+    requires { ⌜ SheetReady (now bytes) (now sheet) ⌝ }
     ensures { λ r. ⌜ Makes (now (bytes .entry)) (λ l. put l (now (sheet .entry)) (now (source .entry))) (now (result .entry)) (now (result .exit)) r ⌝ }
 {
     let mut deck = full_deck();
@@ -160,7 +160,7 @@ fn write_source(
 ) -> Wrote
     requires { ⌜ Ready (now bytes) (now prepared) ⌝ }
     requires { ⌜ BookReady (now bytes) (now source) book ⌝ }
-    requires { ⌜ length (now sheet) ≤ 4096 ⌝ }
+    requires { ⌜ SheetReady (now bytes) (now sheet) ⌝ }
     ensures { λ r. ⌜ Makes (now (bytes .entry)) (λ l. put l (now (sheet .entry)) (now (source .entry))) (now (result .entry)) (now (result .exit)) r ⌝ }
 {
     if large {
@@ -184,7 +184,7 @@ fn put_into(
 ) -> Answer
     requires { ⌜ Ready (now bytes) (now prepared) ⌝ }
     requires { ⌜ BookReady (now bytes) (now source) book ⌝ }
-    requires { ⌜ length (now sheet) ≤ 4096 ⌝ }
+    requires { ⌜ SheetReady (now bytes) (now sheet) ⌝ }
     requires { ⌜ length (now result) ≡ min (length (now out)) 4096 ⌝ }
     ensures { λ r. ⌜ GivesMade (now (bytes .entry)) (λ l. put l (now (sheet .entry)) (now (source .entry))) (now (out .entry)) (now (out .exit)) r ⌝ }
 {

@@ -17,6 +17,7 @@ ghost use Rattle.writer.specs.Writing.{padNeeded};
 ghost use Rattle.writer.specs.Writing as W;
 ghost use Rattle.answers.specs.Answers.{Ready};
 ghost use Rattle.answers.specs.Results.{Makes};
+ghost use Rattle.calls.specs.Sources.{SheetReady};
 
 // For programs with one lens repeat.
 fn small_pad() -> [u8; 12291]
@@ -43,7 +44,7 @@ fn on_small_pad(
 ) -> Wrote
     requires { ⌜ Ready (now bytes) (now prepared) ⌝ }
     requires { ⌜ W.Ready (now bytes) (now prepared) (nodeCount (now bytes) - 1) (now deck) book ⌝ }
-    requires { ⌜ OldInside old × (length (now sheet) ≤ 4096) ⌝ }
+    requires { ⌜ OldInside old × SheetReady (now bytes) (now sheet) ⌝ }
     requires { ⌜ padNeeded (now bytes) (nodeCount (now bytes) - 1) ≤ 12291 ⌝ }
     ensures { λ r. ⌜ Makes (now (bytes .entry)) (λ l. write l (oldText (now (deck .entry)) old) (now (sheet .entry)) (unused (trees (now (bytes .entry))) (now (deck .entry)) book) .text) (now (result .entry)) (now (result .exit)) r ⌝ }
 {
@@ -74,7 +75,7 @@ fn on_full_pad(
 ) -> Wrote
     requires { ⌜ Ready (now bytes) (now prepared) ⌝ }
     requires { ⌜ W.Ready (now bytes) (now prepared) (nodeCount (now bytes) - 1) (now deck) book ⌝ }
-    requires { ⌜ OldInside old × (length (now sheet) ≤ 4096) ⌝ }
+    requires { ⌜ OldInside old × SheetReady (now bytes) (now sheet) ⌝ }
     ensures { λ r. ⌜ Makes (now (bytes .entry)) (λ l. write l (oldText (now (deck .entry)) old) (now (sheet .entry)) (unused (trees (now (bytes .entry))) (now (deck .entry)) book) .text) (now (result .entry)) (now (result .exit)) r ⌝ }
 {
     let root = root_of(bytes);
@@ -107,7 +108,7 @@ pub fn write_root(
 ) -> Wrote
     requires { ⌜ Ready (now bytes) (now prepared) ⌝ }
     requires { ⌜ W.Ready (now bytes) (now prepared) (nodeCount (now bytes) - 1) (now deck) book ⌝ }
-    requires { ⌜ OldInside old × (length (now sheet) ≤ 4096) ⌝ }
+    requires { ⌜ OldInside old × SheetReady (now bytes) (now sheet) ⌝ }
     ensures { λ r. ⌜ Makes (now (bytes .entry)) (λ l. write l (oldText (now (deck .entry)) old) (now (sheet .entry)) (unused (trees (now (bytes .entry))) (now (deck .entry)) book) .text) (now (result .entry)) (now (result .exit)) r ⌝ }
 {
     if large {

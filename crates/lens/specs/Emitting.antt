@@ -49,6 +49,15 @@ pub record Fits (bytes : Text) (node : ℕ) (side : SideOf) (text : Text) : Type
   pub typed : WellTyped tree
   pub belongs : In (language side tree) text
 
+-- The join of two nodes keeps the typing rules, and the text belongs to it on that side.
+pub record FitsJoin (bytes : Text) (left right : ℕ) (side : SideOf) (text : Text) : Type 0 where
+  pub left-tree : Lens
+  pub right-tree : Lens
+  pub left-is : treeAt (trees bytes) left ≡ lens left-tree
+  pub right-is : treeAt (trees bytes) right ≡ lens right-tree
+  pub typed : WellTyped (join left-tree right-tree)
+  pub belongs : In (language side (join left-tree right-tree)) text
+
 -- The node is one of a table's that was read, and a word.
 pub record WordNode (bytes : Text) (prepared : List ℕ) (node : ℕ) : Type 0 where
   pub sized : AllSized bytes prepared

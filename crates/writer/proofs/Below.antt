@@ -2,20 +2,24 @@
 use mathlib.Core.Path.{_≡_}
 use mathlib.Core.List.{List, _++_}
 use Prim.Native.Nat.{ℕ, _-_, _≤_}
-use native.Mathlib.Nat.{le-refl}
+use native.Mathlib.Nat.{le-refl, le-of-lt, sub-zero}
 use native.Mathlib.Omega.{arith}
 use lib.ListN.{length, take, drop, length-take, length-drop}
 use Rattle.semantics.specs.Text.{Text}
-use Rattle.semantics.specs.Lens.{repeat, Written}
+use Rattle.semantics.specs.Lens.{join, repeat, sheet, language, cutAt, Written}
 use Rattle.semantics.specs.Table.{trees, lens}
-use Rattle.table.specs.Prepared.{OneLens}
-use Rattle.lens.specs.Cutting.{part-length}
-use Rattle.lens.specs.Emitting.{LensNode}
+use Rattle.table.specs.Prepared.{OneLens, TwoLenses}
+use Rattle.automaton.specs.declared.Side.the-variants.{Sheet}
+use Rattle.automaton.specs.Rows.{automatonAt}
+use Rattle.lens.specs.Cutting.{CutAt, part-length, rest-lent}
+use Rattle.lens.specs.Emitting.{LensNode, Fits}
+use Rattle.lens.specs.Fitting.{fits-join, fits-left, fits-right}
 use Rattle.books.specs.declared.Book.{Book}
 use Rattle.books.specs.Looking.{BookOver, SameEntries, same-all, cards-fit-same}
 use Rattle.writer.specs.declared.Done.{Done}
-use Rattle.writer.specs.Writing.{Ready, Lent, Progress}
+use Rattle.writer.specs.Writing.{Ready, Lent, LentJoin, Progress}
 use Rattle.writer.proofs.Repeats.{repeats-below, repeats-of-part}
+use Rattle.writer.proofs.ByKind.{describes-sheet}
 
 -- ---- A part of a list, as it is lent
 
@@ -52,16 +56,61 @@ pub ready-after :
     → Ready bytes prepared child deck (r .book)
 ready-after ready known p = ready-left ready known (p .over) (p .same-entries)
 
--- a part of the sheet, and the whole pad
-pub lent-below :
-    {bytes : Text} {node child : ℕ} {new new′ pad pad′ : List ℕ}
+-- the pad, after it was written
+pub lent-kept : {bytes : Text} {node : ℕ} {new pad pad′ : List ℕ} → Lent bytes node new pad → length pad′ ≡ length pad → Lent bytes node new pad′
+lent-kept lent same = record { new-short = lent .new-short; new-fits = lent .new-fits; pad-room = omega (arith, lent .pad-room) }
+
+-- the whole sheet and the whole pad
+pub lent-below : {bytes : Text} {node child : ℕ} {new pad : List ℕ} → Lent bytes node new pad → child ≤ node → Fits bytes child sheet new → Lent bytes child new pad
+lent-below {bytes} lent lower fits =
+    record { new-short = lent .new-short; new-fits = fits; pad-room = omega (arith, lent .pad-room, repeats-below bytes lower) }
+
+-- the same for the two nodes of a join
+pub lent-join :
+    {bytes : Text} {node left right : ℕ} {new pad : List ℕ}
     → Lent bytes node new pad
-    → child ≤ node
-    → length new′ ≤ length new
-    → length pad′ ≡ length pad
-    → Lent bytes child new′ pad′
-lent-below {bytes} lent lower shorter same =
-    record { new-short = omega (arith, lent .new-short); pad-room = omega (arith, lent .pad-room, repeats-below bytes lower) }
+    → TwoLenses (trees bytes) node left right (λ l m. lens (join l m))
+    → LentJoin bytes left right new pad
+lent-join {bytes} lent s =
+    record {
+      new-short = lent .new-short;
+      new-fits = fits-join (lent .new-fits) s;
+      left-room = omega (arith, lent .pad-room, repeats-below bytes (le-of-lt (s .left-lower)));
+      right-room = omega (arith, lent .pad-room, repeats-below bytes (le-of-lt (s .right-lower)));
+    }
+
+-- the two halves of the sheet
+module _
+    {bytes prepared : List ℕ} {left right : ℕ} {new pad flags flags′ : List ℕ} {i : ℕ}
+    (lent : LentJoin bytes left right new pad)
+    (known-left : LensNode bytes prepared left)
+    (known-right : LensNode bytes prepared right)
+    (cut : CutAt prepared (automatonAt prepared left Sheet) (automatonAt prepared right Sheet) new flags flags′ i) where
+  -- the place of the cut, by the definitions
+  cut-is : i ≡ cutAt (language sheet (lent .new-fits .left-tree)) (language sheet (lent .new-fits .right-tree)) new
+  cut-is =
+      let fits = lent .new-fits in
+      cut .place-is
+      (language sheet (fits .left-tree))
+      (language sheet (fits .right-tree))
+      (describes-sheet known-left (fits .left-tree) (fits .left-is))
+      (describes-sheet known-right (fits .right-tree) (fits .right-is))
+
+  pub lent-left : {pad′ : List ℕ} → length pad′ ≡ length pad → Lent bytes left (take (i - 0) new) pad′
+  lent-left same =
+      record {
+        new-short = omega (arith, lent .new-short, part-short (i - 0) 0 new);
+        new-fits = rw sub-zero (fits-left (lent .new-fits) cut-is);
+        pad-room = omega (arith, lent .left-room);
+      }
+
+  pub lent-right : {pad′ : List ℕ} → length pad′ ≡ length pad → Lent bytes right (take (length new - i) (drop i new)) pad′
+  lent-right same =
+      record {
+        new-short = omega (arith, lent .new-short, part-short (length new - i) i new);
+        new-fits = rw (rest-lent new i) (fits-right (lent .new-fits) cut-is);
+        pad-room = omega (arith, lent .right-room);
+      }
 
 -- a part of the sheet, and the pad behind the flags that a repeat keeps
 pub lent-behind :
@@ -69,11 +118,12 @@ pub lent-behind :
     → Lent bytes node new pad
     → OneLens (trees bytes) node child (λ l. lens (repeat l))
     → length new′ ≤ length new
+    → Fits bytes child sheet new′
     → free ≤ 8194
     → length pad′ ≡ length pad - free
     → Lent bytes child new′ pad′
-lent-behind {bytes} lent one shorter few same =
-    record { new-short = omega (arith, lent .new-short); pad-room = omega (arith, lent .pad-room, repeats-of-part bytes one) }
+lent-behind {bytes} lent one shorter fits few same =
+    record { new-short = omega (arith, lent .new-short); new-fits = fits; pad-room = omega (arith, lent .pad-room, repeats-of-part bytes one) }
 
 -- a repeat has room for its own flags, of a sheet and of an old text
 pub repeat-room :

@@ -1,8 +1,9 @@
 -- What a node writes, from what the nodes below it write: a law for each kind but the repeat.
-use mathlib.Core.Path.{_≡_, refl, sym, ap}
-use mathlib.Core.Logic.{inl, inr}
+use mathlib.Core.Path.{_≡_, refl, sym, ap, _∙_}
+use mathlib.Core.Bool.{Bool, true, false, _||_, false≢true}
+use mathlib.Core.Logic.{inl, inr, ⊎-elim}
 use mathlib.Core.List.{List, [], _∷_}
-use mathlib.Core.Option.{Option}
+use mathlib.Core.Option.{Option, none, some}
 use Prim.Native.Nat.{ℕ, _-_, _≤_, _<_}
 use native.Mathlib.Nat.{sub-zero}
 use native.Mathlib.Omega.{arith}
@@ -10,10 +11,13 @@ use lib.ListN.{length, take, drop}
 use types.Run.{OneOf, miss}
 use denote.Enum.Declared.{tagOf}
 use Rattle.semantics.specs.Text.{Text, orElse, apply}
-use Rattle.semantics.specs.Pattern.{matches}
+use Rattle.semantics.specs.Pattern.{In, matches}
 use Rattle.semantics.specs.Lens.{Lens, copy, const, key, join, union, match, source, sheet, language, cutAt, keyOf, Arm, putLeft, putRight, createLeft, createRight, armOf, andThen, writeArm, writeMatch, write}
 use Rattle.semantics.specs.Lens.{Book as Entries}
 use Rattle.semantics.specs.Table.{trees, treeAt, lens}
+use Rattle.laws.specs.Basics.{or-left, or-right}
+use Rattle.laws.specs.Membership.{matches-in, in-matches}
+use Rattle.laws.specs.WellTyped.{WellTyped}
 use Rattle.table.specs.declared.Kind.{Kind}
 use Rattle.table.specs.declared.Kind.the-variants.{Word, Range, PatternJoin, PatternUnion, PatternRepeat, Copy, Const, Key, LensJoin, LensUnion, LensRepeat, Match}
 use Rattle.table.specs.declared.Node.{Node}
@@ -27,8 +31,9 @@ use Rattle.lens.specs.declared.Wrote.{Wrote}
 use Rattle.lens.specs.Overlay.{Writes}
 use Rattle.lens.specs.Reading.{modeSide}
 use Rattle.lens.specs.Cutting.{CutAt, rest-lent}
-use Rattle.lens.specs.Emitting.{sideFor, LensNode}
+use Rattle.lens.specs.Emitting.{sideFor, LensNode, Fits}
 use Rattle.lens.specs.Nodes.{lens-read, shown-const, shown-join, shown-match, describes-lens, lens-below, left-below, right-below, word-below}
+use Rattle.lens.specs.Fitting.{fits-lens}
 use Rattle.books.specs.declared.Book.{Book}
 use Rattle.books.specs.declared.Old.{Old}
 use Rattle.books.specs.declared.Lookup.{Lookup}
@@ -187,10 +192,47 @@ arm-at bytes s inside putRight = (s .at-right, s .right-lower, inside)
 arm-at bytes s inside createLeft = (s .at-left, s .left-lower, inside-none)
 arm-at bytes s inside createRight = (s .at-right, s .right-lower, inside-none)
 
--- The arm that was chosen: a lower node, and what the union writes is what it writes.
+-- the sheet is one of the arm's, if it is one of either
+arm-matches :
+    (l m : Lens) (new : Text) (old : Option Bool) (in-left in-right : Bool)
+    → matches (language sheet l) new ≡ in-left
+    → matches (language sheet m) new ≡ in-right
+    → in-left || in-right ≡ true
+    → matches (language sheet (armLens (armOf old in-left in-right) l m)) new ≡ true
+unfolding armOf
+arm-matches l m new none true b p q e = p
+arm-matches l m new none false b p q e = q ∙ e
+arm-matches l m new (some true) true b p q e = p
+arm-matches l m new (some true) false b p q e = q ∙ e
+arm-matches l m new (some false) a true p q e = q
+arm-matches l m new (some false) true false p q e = p
+arm-matches l m new (some false) false false p q e = absurd (false≢true e)
+
+-- a sheet of the union is one of the arm's
+arm-belongs :
+    (l m : Lens) (new : Text) (old : Option Bool)
+    → In (language sheet (union l m)) new
+    → let arm = armOf old (matches (language sheet l) new) (matches (language sheet m) new) in In (language sheet (armLens arm l m)) new
+unfolding language In
+arm-belongs l m new old x =
+    let a = matches (language sheet l) new in
+    let b = matches (language sheet m) new in
+    let either = ⊎-elim (λ i. or-left a b (in-matches (language sheet l) new i)) (λ j. or-right a b (in-matches (language sheet m) new j)) x in
+    matches-in (language sheet (armLens (armOf old a b) l m)) new (arm-matches l m new old a b refl refl either)
+
+-- the arm keeps the typing rules
+arm-typed : (l m : Lens) (arm : Arm) → WellTyped (union l m) → WellTyped (armLens arm l m)
+unfolding WellTyped
+arm-typed l m putLeft typed = typed .1
+arm-typed l m putRight typed = typed .2
+arm-typed l m createLeft typed = typed .1
+arm-typed l m createRight typed = typed .2
+
+-- The arm that was chosen: a lower node to which the sheet belongs, and what the union writes is what it writes.
 pub record ArmAt (bytes prepared : List ℕ) (node : ℕ) (deck new : Text) (old : Old) (choice : Choice) : Type 0 where
   pub lower : choice .arm < node
   pub lens-node : LensNode bytes prepared (choice .arm)
+  pub new-fits : Fits bytes (choice .arm) sheet new
   pub old-inside : OldInside (choice .old)
   pub writes :
       {b : Book} {before after : Text} {done : Done}
@@ -201,11 +243,12 @@ pub arm-chosen :
     {bytes prepared : List ℕ} {node left right : ℕ} {deck new : Text} {old : Old} {choice : Choice}
     → LensNode bytes prepared node
     → TwoLenses (trees bytes) node left right (λ l m. lens (union l m))
+    → Fits bytes node sheet new
     → OldInside old
     → Chosen prepared left right new deck old choice
     → ArmAt bytes prepared node deck new old choice
 unfolding write
-arm-chosen {bytes} {prepared} {node} {left} {right} {deck} {new} {old} {choice} known s inside chosen = rw choice-is arm-is
+arm-chosen {bytes} {prepared} {node} {left} {right} {deck} {new} {old} {choice} known s fits inside chosen = rw choice-is arm-is
   where
     arm : Arm
     arm = armOf (apply (matches (language source (s .left))) (oldText deck old)) (matches (language sheet (s .left)) new) (matches (language sheet (s .right)) new)
@@ -223,9 +266,17 @@ arm-chosen {bytes} {prepared} {node} {left} {right} {deck} {new} {old} {choice} 
     arm-is : ArmAt bytes prepared node deck new old (choiceOf arm left right old)
     arm-is =
         let (at-arm, lower, old-inside) = arm-at bytes s inside arm in
+        let (typed, belongs) = fits-lens fits (union (s .left) (s .right)) (s .tree-is) in
         record {
           lower = lower;
           lens-node = lens-below known (armLens arm (s .left) (s .right)) lower at-arm;
+          new-fits =
+              record {
+                tree = armLens arm (s .left) (s .right);
+                tree-is = at-arm;
+                typed = arm-typed (s .left) (s .right) arm typed;
+                belongs = arm-belongs (s .left) (s .right) new (apply (matches (language source (s .left))) (oldText deck old)) belongs;
+              };
           old-inside = old-inside;
           writes = λ {b} w.
               node-writes

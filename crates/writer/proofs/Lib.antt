@@ -1,6 +1,6 @@
 -- Laws for the writers.
 pub mod Repeats
-mod Below
 mod Behind
 mod ByKind
+mod Below
 mod Parts

@@ -10,10 +10,11 @@ use lib.ListN.{length, take, drop, getD, length-take, length-drop, drop-of-lengt
 use lib.Seq.{length-take-le, take-take, drop-at, drop-drop, getD-take, getD-drop}
 use borrow.Author.Tests.{ltb-true, ltb-false, lt-ltb, le-ltb}
 use Rattle.semantics.specs.Text.{Text, orElse, apply}
-use Rattle.semantics.specs.Pattern.{Pattern, star, matches}
+use Rattle.semantics.specs.Pattern.{Pattern, star, In, matches}
 use Rattle.semantics.specs.Lens.{Lens, repeat, source, sheet, language, parts, Written, Writer, andThen, writeParts, write}
 use Rattle.semantics.specs.Lens.{Book as Entries}
 use Rattle.semantics.specs.Table.{trees, treeAt, lens}
+use Rattle.laws.specs.WellTyped.{WellTyped}
 use Rattle.table.specs.Prepared.{OneLens}
 use Rattle.automaton.specs.declared.Side.the-variants.{Source, Sheet}
 use Rattle.automaton.specs.Rows.{automatonAt, Describes}
@@ -22,8 +23,9 @@ use Rattle.lens.specs.declared.Wrote.the-variants.{Count}
 use Rattle.lens.specs.Overlay.{writes-nothing}
 use Rattle.lens.specs.Reading.{firstPart, first-part-some, parts-none, parts-next}
 use Rattle.lens.specs.Cutting.{SuffixFlags, rest-lent, suffix-flags-begin}
-use Rattle.lens.specs.Emitting.{LensNode}
+use Rattle.lens.specs.Emitting.{LensNode, Fits}
 use Rattle.lens.specs.Nodes.{same-lens}
+use Rattle.lens.specs.Fitting.{part-in, fits-repeat}
 use Rattle.books.specs.declared.Book.{Book}
 use Rattle.books.specs.declared.Old.{Old}
 use Rattle.books.specs.declared.Old.the-variants.{At, Nothing}
@@ -182,12 +184,14 @@ flags-stay e known h same = record { flag-is = λ i l w. rw (same i w) (known .f
 
 -- ---- The turns of the loop
 
--- The parts up to o of the sheet and p of the old text were written, and the flags tell the ends of the others.
+-- The parts up to o of the sheet and p of the old text were written, the sheet behind o has parts, and the flags tell the ends of the others.
 pub record Parting (bytes : Text) (child : ℕ) (deck old new : Text) (b : Book) (before pad out : Text) (done : Done) (o p : ℕ) : Type 0 where
   pub o-within : o ≤ length new
   pub p-within : p ≤ length old
   pub part-lens : Lens
   pub at-child : treeAt (trees bytes) child ≡ lens part-lens
+  pub part-typed : WellTyped part-lens
+  pub rest-belongs : In (star (language sheet part-lens)) (drop o new)
   pub sheet-flags : SuffixFlags (language sheet part-lens) new pad o
   pub source-flags : SuffixFlags (language source part-lens) old (drop (length new + 1) pad) p
   pub so-far : Written
@@ -199,6 +203,7 @@ pub parting-begins :
     {bytes prepared : List ℕ} {node child : ℕ} {deck old new : Text} {b : Book} {pad₀ pad flags₀ flags : List ℕ} (out : Text)
     → LensNode bytes prepared node
     → OneLens (trees bytes) node child (λ l. lens (repeat l))
+    → Fits bytes node sheet new
     → BookOver 4096 b
     → ((r : Pattern) → Describes r (automatonAt prepared node Sheet) prepared → Flags (λ i. matches r (drop i new)) (length new) pad₀ pad)
     → ((r : Pattern) → Describes r (automatonAt prepared node Source) prepared → Flags (λ i. matches r (drop i old)) (length old) flags₀ flags)
@@ -206,7 +211,7 @@ pub parting-begins :
     → let mid = length new + 1 in
     Parting bytes child deck old new b out (take mid pad ++ (flags ++ drop (length pad - mid) (drop mid pad))) out (leaving (Count 0) b) 0 0
 unfolding language andThen
-parting-begins {deck} {old} {new} {b} {pad} {flags} out known s over sheet-told source-told room =
+parting-begins {deck} {old} {new} {b} {pad} {flags} out known s fits over sheet-told source-told room =
     let mid = length new + 1 in
     let l = s .child in
     let reaches : length (drop mid pad) ≤ length pad - mid = rw length-drop (omega arith) in
@@ -217,6 +222,8 @@ parting-begins {deck} {old} {new} {b} {pad} {flags} out known s over sheet-told 
       p-within = omega arith;
       part-lens = l;
       at-child = s .at-child;
+      part-typed = fits-repeat fits s .0;
+      rest-belongs = fits-repeat fits s .1;
       sheet-flags =
           flags-stay
           0
@@ -228,6 +235,31 @@ parting-begins {deck} {old} {new} {b} {pad} {flags} out known s over sheet-told 
       so-far-is = refl;
       progress = record { bytes-are = writes-nothing out; book-is = λ h. refl; over = over; same-entries = same-all b };
     }
+
+-- the next part of the sheet ends where the first part of what is left does
+part-ends :
+    {bytes prepared : List ℕ} {child : ℕ} {deck old new : Text} {b : Book} {before pad out : Text} {done : Done} {o p e : ℕ}
+    → LensNode bytes prepared child
+    → (parting : Parting bytes child deck old new b before pad out done o p)
+    → o < length new
+    → PartEnd prepared child Sheet new pad o e
+    → e ≡ o + firstPart (language sheet (parting .part-lens)) (drop o new)
+part-ends known parting some-left sheet-end =
+    let l = parting .part-lens in
+    sheet-end .place-is (language sheet l) (describes-sheet known l (parting .at-child)) (parting .sheet-flags) some-left
+
+-- it belongs to the node that is repeated
+pub part-fits :
+    {bytes prepared : List ℕ} {child : ℕ} {deck old new : Text} {b : Book} {before pad out : Text} {done : Done} {o p e : ℕ}
+    → LensNode bytes prepared child
+    → Parting bytes child deck old new b before pad out done o p
+    → o < length new
+    → PartEnd prepared child Sheet new pad o e
+    → Fits bytes child sheet (take (e - o) (drop o new))
+part-fits {new} {o} {e} known parting some-left sheet-end =
+    let l = parting .part-lens in
+    let belongs = part-in (language sheet l) new o e some-left (part-ends known parting some-left sheet-end) (parting .rest-belongs) .0 in
+    record { tree = l; tree-is = parting .at-child; typed = parting .part-typed; belongs = belongs }
 
 -- one part more: behind the flags, the pad is as its writer left it
 pub parting-next :
@@ -250,7 +282,7 @@ parting-next {bytes} {child} {deck} {new} {b} {before} {pad} {done} {o} {p} {e} 
     let free = mid + length old + 1 in
     let l = parting .part-lens in
     let part = oldText deck (oldBetween (start + p) (start + q)) in
-    let e-is = sheet-end .place-is (language sheet l) (describes-sheet known l (parting .at-child)) (parting .sheet-flags) some-left in
+    let e-is = part-ends known parting some-left sheet-end in
     let q-is = source-end .place-is (language source l) (describes-source known l (parting .at-child)) (rw (rest-lent pad mid) (parting .source-flags)) in
     let q-end : length old ≤ p → q ≡ p = λ h. omega (arith, source-end .from, source-end .within) in
     let step = left-next l deck new start end o e p q inside some-left e-is q-is q-end (source-end .within) in
@@ -259,6 +291,8 @@ parting-next {bytes} {child} {deck} {new} {b} {before} {pad} {done} {o} {p} {e} 
       p-within = source-end .within;
       part-lens = l;
       at-child = parting .at-child;
+      part-typed = parting .part-typed;
+      rest-belongs = part-in (language sheet l) new o e some-left e-is (parting .rest-belongs) .1;
       sheet-flags = flags-stay e (parting .sheet-flags) (sheet-end .from) (λ i h. kept-before pad rest free i (omega arith) room);
       source-flags =
           flags-stay

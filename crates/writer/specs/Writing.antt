@@ -6,14 +6,14 @@ use mathlib.Core.Option.{Option}
 use Prim.Native.Nat.{ℕ, zero, suc, _+_, _*_, _≤_}
 use lib.ListN.{length}
 use Rattle.semantics.specs.Text.{Text}
-use Rattle.semantics.specs.Lens.{Lens, copy, const, key, join, union, repeat, match, Written, andThen, write}
+use Rattle.semantics.specs.Lens.{Lens, copy, const, key, join, union, repeat, match, sheet, Written, andThen, write}
 use Rattle.semantics.specs.Table.{trees, treeAt, Tree, pattern, lens, broken}
 use Rattle.table.specs.declared.Kind.{Kind}
 use Rattle.table.specs.Prepared.{Shows}
 use Rattle.lens.specs.declared.Wrote.{Wrote}
 use Rattle.lens.specs.declared.Wrote.the-variants.{Count, Full}
 use Rattle.lens.specs.Overlay.{Writes}
-use Rattle.lens.specs.Emitting.{LensNode}
+use Rattle.lens.specs.Emitting.{LensNode, Fits, FitsJoin}
 use Rattle.books.specs.declared.Book.{Book}
 use Rattle.books.specs.Listed.{unused}
 use Rattle.books.specs.Looking.{BookOver, SameEntries, CardsFit}
@@ -50,10 +50,18 @@ repeatsBelow bytes (suc k) = repeatsBelow bytes k + cond (isRepeat (treeAt (tree
 abbrev pub padNeeded : Text → ℕ → ℕ
 padNeeded bytes node = 8194 * repeatsBelow bytes (node + 1) + 4097
 
--- The sheet is no longer than a text may be, and the pad has room for the writer of the node.
+-- The sheet is no longer than a text may be and belongs to the node, and the pad has room for the node's writer.
 pub record Lent (bytes : Text) (node : ℕ) (new pad : List ℕ) : Type 0 where
   pub new-short : length new ≤ 4096
+  pub new-fits : Fits bytes node sheet new
   pub pad-room : padNeeded bytes node ≤ length pad
+
+-- The sheet is no longer than a text may be and belongs to the join of the two nodes, and the pad has room for the writer of each.
+pub record LentJoin (bytes : Text) (left right : ℕ) (new pad : List ℕ) : Type 0 where
+  pub new-short : length new ≤ 4096
+  pub new-fits : FitsJoin bytes left right sheet new
+  pub left-room : padNeeded bytes left ≤ length pad
+  pub right-room : padNeeded bytes right ≤ length pad
 
 -- The answer tells whether a node of that kind is a lens repeat.
 pub record TellsRepeat (kind : Kind) (answer : Bool) : Type 0 where

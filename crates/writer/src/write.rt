@@ -27,7 +27,7 @@ ghost use Rattle.semantics.specs.Table.{trees, lens};
 ghost use Rattle.table.specs.Prepared.{OneLens};
 ghost use Rattle.books.specs.Looking.{oldText};
 ghost use Rattle.steps.specs.Steps.{OldInside};
-ghost use Rattle.writer.specs.Writing.{Ready, Lent, WithinBuffer, WritesNode, WritesBehind, WritesJoin, WritesMatch};
+ghost use Rattle.writer.specs.Writing.{Ready, Lent, LentJoin, WithinBuffer, WritesNode, WritesBehind, WritesJoin, WritesMatch};
 
 // A sheet is put onto an old text.
 pub fn put(
@@ -155,7 +155,7 @@ fn write_join(
     out: &mut [u8],
 ) -> Done
     requires { ⌜ Ready (now bytes) (now prepared) left (now deck) book × Ready (now bytes) (now prepared) right (now deck) book ⌝ }
-    requires { ⌜ Lent (now bytes) left (now new) (now pad) × Lent (now bytes) right (now new) (now pad) × OldInside old ⌝ }
+    requires { ⌜ LentJoin (now bytes) left right (now new) (now pad) × OldInside old ⌝ }
     ensures { λ r. ⌜ WritesJoin (now (bytes .entry)) left right (now (deck .entry)) (oldText (now (deck .entry)) old) (now (new .entry)) book (now (out .entry)) (now (out .exit)) r ⌝ }
 {
     let i = cut_of(prepared, left, right, Side::Sheet, new, pad);

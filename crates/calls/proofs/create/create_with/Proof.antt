@@ -7,6 +7,7 @@ use lib.ListN.{length-take}
 use Rattle.semantics.specs.Calls.{createCall}
 use Rattle.automaton.specs.Rows.{sideOf}
 use Rattle.answers.proofs.Giving.{program-gives, refused, passed, too-long, not-too-long, not-of}
+use Rattle.calls.proofs.Sourcing.{sheet-ready}
 use Rattle.calls.proofs.create.create_with.Statement.{statement}
 use Rattle.calls.proofs.create.create_with.Tie as tie
 
@@ -43,7 +44,8 @@ part-result-end : tie.Need-part-result-end
 part-result-end c = search needs
 
 create-into-requires : tie.Need-create-into-requires
-create-into-requires c κs = (c .before .before .before .before .before .before .before .before .before .before .before .pre, (c .before .before .before .before .before .before .if1 .left, simp length-take (omega (arith, c .before .before .before .no-text .ensures, c .before .before .room-in .ensures))))
+unfolding sideOf
+create-into-requires c κs = (c .before .before .before .before .before .before .before .before .before .before .before .pre, (sheet-ready (c .before .before .before .before .before .before .before .before .before .before .before .pre) (c .before .before .before .before .before .before .if1 .left) (not-of (c .before .before .before .before .before .before .before .before .before .before .before .pre .accepted) (c .before .before .before .before .before .belongs-to-root .ensures) ∙ c .before .before .before .before .if2 .left), simp length-take (omega (arith, c .before .before .before .no-text .ensures, c .before .before .room-in .ensures))))
 
 same-length : tie.Need-same-length
 same-length c = search needs

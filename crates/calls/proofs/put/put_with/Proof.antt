@@ -7,7 +7,7 @@ use lib.ListN.{length-take}
 use Rattle.semantics.specs.Calls.{putCall}
 use Rattle.automaton.specs.Rows.{sideOf}
 use Rattle.answers.proofs.Giving.{program-gives, refused, passed, not-of}
-use Rattle.calls.proofs.Sourcing.{first-long, second-long, neither-long}
+use Rattle.calls.proofs.Sourcing.{sheet-ready, first-long, second-long, neither-long}
 use Rattle.calls.proofs.put.put_with.Statement.{statement}
 use Rattle.calls.proofs.put.put_with.Tie as tie
 
@@ -72,7 +72,7 @@ part-result-end c = search needs
 
 put-into-requires : tie.Need-put-into-requires
 unfolding sideOf
-put-into-requires c κs = (c .before .before .before .before .before .before .before .before .before .before .before .before .before .before .before .before .before .before .pre, (c .before .before .before .before .before .before .entries-of .ensures .book-ready (c .before .before .before .before .before .before .before .before .before .before .before .before .before .before .before .before .before .before .pre .accepted .root) (c .before .before .before .before .before .before .before .before .before .before .before .before .before .before .before .before .before .before .pre .accepted .gives-root) (c .before .before .before .before .before .if5 .left) (not-of (c .before .before .before .before .before .before .before .before .before .before .before .before .before .before .before .before .before .before .pre .accepted) (c .before .before .before .before .before .before .before .before .before .before .belongs-to-root .ensures) ∙ c .before .before .before .before .before .before .before .before .before .if3 .left), (c .before .before .before .before .before .before .before .before .before .before .before .before .if1 .left, simp length-take (omega (arith, c .before .before .before .no-text .ensures, c .before .before .room-in .ensures)))))
+put-into-requires c κs = (c .before .before .before .before .before .before .before .before .before .before .before .before .before .before .before .before .before .before .pre, (c .before .before .before .before .before .before .entries-of .ensures .book-ready (c .before .before .before .before .before .before .before .before .before .before .before .before .before .before .before .before .before .before .pre .accepted .root) (c .before .before .before .before .before .before .before .before .before .before .before .before .before .before .before .before .before .before .pre .accepted .gives-root) (c .before .before .before .before .before .if5 .left) (not-of (c .before .before .before .before .before .before .before .before .before .before .before .before .before .before .before .before .before .before .pre .accepted) (c .before .before .before .before .before .before .before .before .before .before .belongs-to-root .ensures) ∙ c .before .before .before .before .before .before .before .before .before .if3 .left), (sheet-ready (c .before .before .before .before .before .before .before .before .before .before .before .before .before .before .before .before .before .before .pre) (c .before .before .before .before .before .before .before .before .before .before .before .before .if1 .left) (not-of (c .before .before .before .before .before .before .before .before .before .before .before .before .before .before .before .before .before .before .pre .accepted) (c .before .before .before .before .before .before .before .before .belongs-to-root2 .ensures) ∙ c .before .before .before .before .before .before .before .if4 .left), simp length-take (omega (arith, c .before .before .before .no-text .ensures, c .before .before .room-in .ensures)))))
 
 same-length : tie.Need-same-length
 same-length c = search needs

@@ -1,20 +1,21 @@
 -- The proof of the cycle of calls {create, put, write_behind, write_join, write_match, write_node, write_parts}: the node falls. A node has the
 -- measure 4 * node; between it and the measures of lower nodes lie those of what it calls. Assumes nothing.
 use Prim.Native.Nat.{ℕ, suc, _+_, _-_, _*_, _≤_, _<_, max}
-use native.Mathlib.Nat.{le-refl, le-of-lt, le-max-left, le-max-right, max-le, suc-max-suc}
+use native.Mathlib.Nat.{le-of-lt, le-max-left, le-max-right, max-le, suc-max-suc}
 use native.Mathlib.Omega.{arith}
 use mathlib.Core.Path.{_≡_, refl, _∙_}
 use borrow.Author.Needs.{needs}
 use lib.ListN.{length, take, drop}
 use Rattle.automaton.specs.declared.Side.the-variants.{Source, Sheet}
 use Rattle.lens.specs.Nodes.{shown-join, shown-union, shown-repeat, shown-match, node-prepared, child-below, left-below, right-below}
+use Rattle.lens.specs.Fitting.{fits-match}
 use Rattle.books.specs.Looking.{oldText}
 use Rattle.steps.proofs.Stepping.{rest-size, inside-at, inside-none}
 use Rattle.writer.specs.Writing.{Lent}
 use Rattle.writer.proofs.Behind.{progress-within, node-within, behind-full, behind-next, behind-within}
-use Rattle.writer.proofs.Below.{ready-left, ready-below, ready-after, lent-below, lent-behind, part-short, rest-back, repeat-room}
+use Rattle.writer.proofs.Below.{ready-left, ready-below, ready-after, lent-kept, lent-below, lent-join, lent-left, lent-right, lent-behind, part-short, rest-back, repeat-room}
 use Rattle.writer.proofs.ByKind.{default-below, leaf-writes, join-writes, match-writes, halves-write, arm-chosen, looked-up-key, found-writes}
-use Rattle.writer.proofs.Parts.{Parting, span-inside, span-reaches, between-inside, parting-begins, parting-next, parting-ends}
+use Rattle.writer.proofs.Parts.{Parting, span-inside, span-reaches, between-inside, parting-begins, part-fits, parting-next, parting-ends}
 use borrow.Fn.Kinds.{In}
 use borrow.Fn.PlainCycle.{Measures, is, falls, and}
 use Rattle.writer.proofs.write.create.Reads as create
@@ -267,7 +268,7 @@ write-join-cut-of-requires t c κs =
     let start = c .before .before .before .before .before .before .before in
     let (ready-first, ready-second) = start .pre .1 .0 in
     let lent = start .pre .1 .1 .0 in
-    (node-prepared (ready-first .lens-node) Sheet, (node-prepared (ready-second .lens-node) Sheet, omega (arith, lent .new-short, lent .pad-room)))
+    (node-prepared (ready-first .lens-node) Sheet, (node-prepared (ready-second .lens-node) Sheet, omega (arith, lent .new-short, lent .left-room)))
 
 write-join-sub-front : (t : ℕ) → write-join-lts.Need-sub-front (write-join-calls t) (write-join-at t) write-join.Post
 write-join-sub-front t c = search needs
@@ -298,17 +299,17 @@ write-join-halves-of-requires t c κs =
     let at-cut-of = c .before .before .before .before .before in
     let start = at-cut-of .before .before .before .before .before .before .before .before in
     let (ready-first, ready-second) = start .pre .1 .0 in
-    let (lent-first, lent-second, inside) = start .pre .1 .1 in
-    (node-prepared (ready-first .lens-node) Source, (node-prepared (ready-second .lens-node) Source, (inside, omega (arith, ready-first .deck-size), omega (arith, lent-first .pad-room, at-cut-of .cut-of .ensures .same-length))))
+    let (lent, inside) = start .pre .1 .1 in
+    (node-prepared (ready-first .lens-node) Source, (node-prepared (ready-second .lens-node) Source, (inside, omega (arith, ready-first .deck-size), omega (arith, lent .left-room, at-cut-of .cut-of .ensures .same-length))))
 
 write-join-write-node-requires : (t : ℕ) → write-join-lts.Need-write-node-requires (write-join-calls t) (write-join-at t) write-join.Post
 write-join-write-node-requires t c κs =
     let at-halves-of = c .before .before .before .before in
     let at-cut-of = at-halves-of .before .before .before .before .before .before in
     let start = at-cut-of .before .before .before .before .before .before .before .before in
+    let (ready-first, ready-second) = start .pre .1 .0 in
     let same-pad = at-halves-of .halves-of .kept .1 .1 .1 .1 .1 .0 ∙ at-cut-of .cut-of .ensures .same-length in
-    let short = part-short (at-cut-of .cut-of .result - 0) 0 (start .args .new .now) in
-    (omega (arith, left-falls (start .args .left) (start .args .right), start .pre .0), (start .pre .1 .0 .0, (lent-below (start .pre .1 .1 .0) (le-refl _) short same-pad, at-halves-of .halves-of .ensures .first-inside)))
+    (omega (arith, left-falls (start .args .left) (start .args .right), start .pre .0), (ready-first, (lent-left (start .pre .1 .1 .0) (ready-first .lens-node) (ready-second .lens-node) (at-cut-of .cut-of .ensures) same-pad, at-halves-of .halves-of .ensures .first-inside)))
 
 write-join-write-behind-requires : (t : ℕ) → write-join-lts.Need-write-behind-requires (write-join-calls t) (write-join-at t) write-join.Post
 write-join-write-behind-requires t c κs =
@@ -320,9 +321,8 @@ write-join-write-behind-requires t c κs =
     let known = ready-first .lens-node in
     let written = at-write-node .write-node .ensures in
     let ready = ready-after ready-second (ready-second .lens-node) (written .writes (known .tree) (known .tree-is)) in
-    let short = part-short (length (start .args .new .now) - at-cut-of .cut-of .result) (at-cut-of .cut-of .result) (start .args .new .now) in
     let same-pad = at-write-node .write-node .kept .1 .1 .1 .1 .1 .1 .1 .0 ∙ at-halves-of .halves-of .kept .1 .1 .1 .1 .1 .0 ∙ at-cut-of .cut-of .ensures .same-length in
-    (omega (arith, right-falls (start .args .left) (start .args .right), start .pre .0), (ready, ((lent-below (start .pre .1 .1 .1) (le-refl _) short same-pad, at-halves-of .halves-of .ensures .second-inside), node-within known written)))
+    (omega (arith, right-falls (start .args .left) (start .args .right), start .pre .0), (ready, ((lent-right (start .pre .1 .1 .0) known (ready-second .lens-node) (at-cut-of .cut-of .ensures) same-pad, at-halves-of .halves-of .ensures .second-inside), node-within known written)))
 
 write-join-same-length : (t : ℕ) → write-join-lts.Need-same-length (write-join-calls t) (write-join-at t) write-join.Post
 write-join-same-length t c =
@@ -384,7 +384,7 @@ write-match-put-requires t c κs =
     let ready = start .pre .1 .0 in
     let looked = looked-up-key (at-card-of .card-of .ensures) (start .pre .1 .1 .new-short) (ready .cards-fit) (at-take .take .ensures) (ready .lens-node .tree) (ready .lens-node .tree-is) in
     let left = ready-left ready (ready .lens-node) (looked .over) (looked .same-entries) in
-    (omega (arith, start .pre .0), (left, (lent-below (start .pre .1 .1) (le-refl _) (le-refl _) (at-card-of .card-of .kept .1 .1 .1 .1 .0), looked .inside _ _ (at-found .found .given .1))))
+    (omega (arith, start .pre .0), (left, (lent-kept (start .pre .1 .1) (at-card-of .card-of .kept .1 .1 .1 .1 .0), looked .inside _ _ (at-found .found .given .1))))
 
 write-match-enum-told : (t : ℕ) → write-match-lts.Need-enum-told (write-match-calls t) (write-match-at t) write-match.Post
 write-match-enum-told t c = search needs
@@ -397,7 +397,7 @@ write-match-create-requires t c κs =
     let ready = start .pre .1 .0 in
     let looked = looked-up-key (at-card-of .card-of .ensures) (start .pre .1 .1 .new-short) (ready .cards-fit) (at-take .take .ensures) (ready .lens-node .tree) (ready .lens-node .tree-is) in
     let left = ready-left ready (ready .lens-node) (looked .over) (looked .same-entries) in
-    (omega (arith, start .pre .0), (left, lent-below (start .pre .1 .1) (le-refl _) (le-refl _) (at-card-of .card-of .kept .1 .1 .1 .1 .0)))
+    (omega (arith, start .pre .0), (left, lent-kept (start .pre .1 .1) (at-card-of .card-of .kept .1 .1 .1 .1 .0)))
 
 write-match-same-length : (t : ℕ) → write-match-lts.Need-same-length (write-match-calls t) (write-match-at t) write-match.Post
 write-match-same-length t c = search needs
@@ -455,7 +455,7 @@ write-node-write-join-requires t c κs =
     let s = shown-join (at-node .node .ensures) (at-kind .kind .given .1) in
     let first = ready-below ready (left-below known s) in
     let second = ready-below ready (right-below known s) in
-    (omega (arith, join-falls (s .left-lower) (s .right-lower), start .pre .0), ((first, second), (lent-below lent (le-of-lt (s .left-lower)) (le-refl _) refl, lent-below lent (le-of-lt (s .right-lower)) (le-refl _) refl, inside)))
+    (omega (arith, join-falls (s .left-lower) (s .right-lower), start .pre .0), ((first, second), (lent-join lent s, inside)))
 
 write-node-enum-known-kind-2 : (t : ℕ) → write-node-lts.Need-enum-known-kind-2 (write-node-calls t) (write-node-at t) write-node.Post
 write-node-enum-known-kind-2 t c = search needs
@@ -479,8 +479,9 @@ write-node-write-node-requires t c κs =
     let start = at-node .before .before .before .before .before .before .before in
     let ready = start .pre .1 .0 in
     let known = ready .lens-node in
-    let arm = arm-chosen (known) (shown-union (at-node .node .ensures) (at-kind2 .kind2 .given .1)) (start .pre .1 .1 .1) (at-choose .choose .ensures) in
-    (omega (arith, arm .lower, start .pre .0), (ready-below ready (arm .lens-node), (lent-below (start .pre .1 .1 .0) (le-of-lt (arm .lower)) (le-refl _) refl, arm .old-inside)))
+    let lent = start .pre .1 .1 .0 in
+    let arm = arm-chosen known (shown-union (at-node .node .ensures) (at-kind2 .kind2 .given .1)) (lent .new-fits) (start .pre .1 .1 .1) (at-choose .choose .ensures) in
+    (omega (arith, arm .lower, start .pre .0), (ready-below ready (arm .lens-node), (lent-below lent (le-of-lt (arm .lower)) (arm .new-fits), arm .old-inside)))
 
 write-node-enum-known-kind-3 : (t : ℕ) → write-node-lts.Need-enum-known-kind-3 (write-node-calls t) (write-node-at t) write-node.Post
 write-node-enum-known-kind-3 t c = search needs
@@ -504,7 +505,8 @@ write-node-write-match-requires t c κs =
     let ready = start .pre .1 .0 in
     let known = ready .lens-node in
     let s = shown-match (at-node .node .ensures) (at-kind4 .kind4 .given .1) in
-    (omega (arith, s .lower, start .pre .0), (ready-below ready (child-below known s), lent-below (start .pre .1 .1 .0) (le-of-lt (s .lower)) (le-refl _) refl))
+    let lent = start .pre .1 .1 .0 in
+    (omega (arith, s .lower, start .pre .0), (ready-below ready (child-below known s), lent-below lent (le-of-lt (s .lower)) (fits-match (lent .new-fits) s)))
 
 write-node-write-leaf-requires : (t : ℕ) → write-node-lts.Need-write-leaf-requires (write-node-calls t) (write-node-at t) write-node.Post
 write-node-write-leaf-requires t c κs =
@@ -536,7 +538,7 @@ write-node-returns-2 t c =
     let at-kind2 = at-choose .before .before in
     let at-node = at-kind2 .before .before in
     let start = at-node .before .before .before .before .before .before .before in
-    let arm = arm-chosen (start .pre .1 .0 .lens-node) (shown-union (at-node .node .ensures) (at-kind2 .kind2 .given .1)) (start .pre .1 .1 .1) (at-choose .choose .ensures) in
+    let arm = arm-chosen (start .pre .1 .0 .lens-node) (shown-union (at-node .node .ensures) (at-kind2 .kind2 .given .1)) (start .pre .1 .1 .0 .new-fits) (start .pre .1 .1 .1) (at-choose .choose .ensures) in
     arm .writes (at-write-node .write-node .ensures)
 
 write-node-same-length-5 : (t : ℕ) → write-node-lts.Need-same-length-5 (write-node-calls t) (write-node-at t) write-node.Post
@@ -662,8 +664,8 @@ write-parts-loop-holds t c =
     let lent = start .pre .1 .1 .0 in
     let room : length (start .args .new .now) + 1 ≤ length (at-flag-ends .flag-ends .last .1 .1 .1 .1 .0) = omega (arith, lent .new-short, repeat-room lent (start .pre .1 .0 .1), at-flag-ends .flag-ends .kept .1 .1 .1 .1 .0) in
     let same-pad = rest-back (at-flag-ends .flag-ends .last .1 .1 .1 .1 .0) (at-flag-ends2 .flag-ends2 .last .1 .1 .1 .1 .0) (length (start .args .new .now) + 1) room (at-flag-ends2 .flag-ends2 .kept .1 .1 .1 .1 .0) ∙ at-flag-ends .flag-ends .kept .1 .1 .1 .1 .0 in
-    let parting = parting-begins (start .args .out .now) (ready .lens-node) one (ready .over) (at-flag-ends .flag-ends .ensures) (at-flag-ends2 .flag-ends2 .ensures) room in
-    (parting, (lent-below lent (le-refl _) (le-refl _) same-pad, (refl, refl)))
+    let parting = parting-begins (start .args .out .now) (ready .lens-node) one (lent .new-fits) (ready .over) (at-flag-ends .flag-ends .ensures) (at-flag-ends2 .flag-ends2 .ensures) room in
+    (parting, (lent-kept lent same-pad, (refl, refl)))
 
 write-parts-part-end-requires : (t : ℕ) → write-parts-lts.Need-part-end-requires (write-parts-calls t) (write-parts-at t) write-parts.Post write-parts-Inv-loop write-parts-μ-loop
 write-parts-part-end-requires t c κs =
@@ -767,7 +769,8 @@ write-parts-write-behind-requires t c κs =
     let at-old-between = c .before .before in
     let at-part-end2 = at-old-between .before .before in
     let at-part-end = at-part-end2 .before .before .before in
-    let at-loop = at-part-end .before .before .before in
+    let at-loop-test = at-part-end .before .before in
+    let at-loop = at-loop-test .before in
     let at-span-of = at-loop .before .before .before .before .before .before .before .before .before .before in
     let start = at-span-of .before .before .before .before .before .before .before in
     let (ready, one) = start .pre .1 .0 in
@@ -776,8 +779,9 @@ write-parts-write-behind-requires t c κs =
     let lent = at-loop .loop .inv .1 .0 in
     let reaches = span-reaches (start .args .deck .now) (start .pre .1 .1 .1) (at-span-of .span-of .ensures) in
     let short = part-short (at-part-end .part-end .result - at-loop .loop .o) (at-loop .loop .o) (start .args .new .now) in
+    let fits = part-fits child (at-loop .loop .inv .0) (at-loop-test .loop-test .taken) (at-part-end .part-end .ensures) in
     let inside = between-inside (at-span-of .span-of .result .start + at-loop .loop .p) (at-span-of .span-of .result .start + at-part-end2 .part-end2 .result) (omega (arith, at-part-end2 .part-end2 .ensures .within, reaches)) in
-    (omega (arith, start .pre .0), (ready-after ready child progress, ((lent-behind lent one short (omega (arith, lent .new-short, reaches)) (rest-size (at-loop .loop .pad) _), rw (at-old-between .old-between .ensures) inside), progress-within progress)))
+    (omega (arith, start .pre .0), (ready-after ready child progress, ((lent-behind lent one short fits (omega (arith, lent .new-short, reaches)) (rest-size (at-loop .loop .pad) _), rw (at-old-between .old-between .ensures) inside), progress-within progress)))
 
 write-parts-loop-less : (t : ℕ) → write-parts-lts.Need-loop-less (write-parts-calls t) (write-parts-at t) write-parts.Post write-parts-Inv-loop write-parts-μ-loop
 write-parts-loop-less t c =
@@ -804,7 +808,7 @@ write-parts-loop-again t c =
     let same-pad = rest-back (at-loop .loop .pad) (at-write-behind .write-behind .last .1 .1 .1 .1 .1 .1 .1 .0) _ room (at-write-behind .write-behind .kept .1 .1 .1 .1 .1 .1 .1 .0) in
     let wrote = rw (at-old-between .old-between .ensures) at (at-write-behind .write-behind .ensures) in
     let parting = parting-next (span .start) (span .end) child (omega (arith, span-inside (start .pre .1 .1 .1) (at-span-of .span-of .ensures), start .pre .1 .0 .0 .deck-size)) (at-loop .loop .inv .0) (at-loop-test .loop-test .taken) (at-part-end .part-end .ensures) (at-part-end2 .part-end2 .ensures) wrote _ room in
-    (parting, (lent-below lent (le-refl _) (le-refl _) same-pad, (same-pad ∙ at-loop .loop .inv .1 .1 .0, at-write-behind .write-behind .kept .1 .1 .1 .1 .1 .1 .1 .1 .0 ∙ at-loop .loop .inv .1 .1 .1)))
+    (parting, (lent-kept lent same-pad, (same-pad ∙ at-loop .loop .inv .1 .1 .0, at-write-behind .write-behind .kept .1 .1 .1 .1 .1 .1 .1 .1 .0 ∙ at-loop .loop .inv .1 .1 .1)))
 
 write-parts-same-length : (t : ℕ) → write-parts-lts.Need-same-length (write-parts-calls t) (write-parts-at t) write-parts.Post write-parts-Inv-loop write-parts-μ-loop
 write-parts-same-length t c =
