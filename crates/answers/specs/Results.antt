@@ -1,11 +1,13 @@
 -- What the calls that give a text have in common: the text is made in a slice of the call's own, and then copied out.
 use mathlib.Core.Path.{_≡_}
-use mathlib.Core.Bool.{Bool}
-use Prim.Native.Nat.{ℕ, _≤_, min}
+use mathlib.Core.Bool.{Bool, true}
+use mathlib.Core.List.{List}
+use Prim.Native.Nat.{ℕ, _-_, _≤_, min}
 use lib.ListN.{length}
 use Rattle.semantics.specs.Text.{Text}
 use Rattle.semantics.specs.Pattern.{matches}
 use Rattle.semantics.specs.Lens.{Lens, language}
+use Rattle.semantics.specs.Table.{nodeCount}
 use Rattle.semantics.specs.Calls.{gives, program, maxText, output, bufferAfter}
 use Rattle.semantics.specs.Calls.{Answer as Outcome}
 use Rattle.automaton.specs.declared.Side.{Side}
@@ -13,6 +15,7 @@ use Rattle.automaton.specs.Rows.{sideOf}
 use Rattle.lens.specs.declared.Wrote.{Wrote}
 use Rattle.lens.specs.declared.Wrote.the-variants.{Count}
 use Rattle.lens.specs.Overlay.{Writes}
+use Rattle.lens.specs.Parsed.{Parsed}
 use Rattle.answers.specs.declared.Answer.{Answer}
 use Rattle.answers.specs.Answers.{answerFor}
 
@@ -33,9 +36,10 @@ pub record Finishes (wrote : Wrote) (result before after : Text) (answer : Answe
       → Writes text start result wrote
       → GivesText (output (length before) text) before after answer
 
--- It tells whether the text belongs to the root's language on that side.
-pub record Decides (bytes : Text) (side : Side) (text : Text) (answer : Bool) : Type 0 where
+-- It tells whether the text belongs to the root's language on that side; if so, the path is its least.
+pub record RootPath (bytes : Text) (side : Side) (text : Text) (path : List ℕ) (answer : Bool) : Type 0 where
   pub decides : (l : Lens) → program bytes ≡ gives l → answer ≡ matches (language (sideOf side) l) text
+  pub parsed : answer ≡ true → Parsed bytes (nodeCount bytes - 1) (sideOf side) 0 path text
 
 -- What the root makes is written into a slice.
 pub record Makes (bytes : Text) (make : Lens → Text) (before after : Text) (wrote : Wrote) : Type 0 where

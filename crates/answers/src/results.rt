@@ -2,18 +2,18 @@
 use crate::Answer;
 use automaton::Side;
 use automaton::automaton_of;
-use language::belongs;
 use lens::Wrote;
 use lens::texts::write_text;
+use paths::find_path;
 use table::parts::node_count;
 ghost use mathlib.Core.Path.{_≡_};
-ghost use Prim.Native.Nat.{_-_, min};
+ghost use Prim.Native.Nat.{_-_, _≤_, min};
 ghost use lib.ListN.{length};
 ghost use Rattle.semantics.specs.Table.{nodeCount};
 ghost use Rattle.semantics.specs.Calls.{output};
 ghost use Rattle.answers.specs.declared.Answer.the-variants.{Refusal};
 ghost use Rattle.answers.specs.Answers.{IsAccepted, Ready};
-ghost use Rattle.answers.specs.Results.{GivesText, Counted, Finishes, Decides};
+ghost use Rattle.answers.specs.Results.{GivesText, Counted, Finishes, RootPath};
 
 // The root is the last node.
 pub fn root_of(bytes: &[u8]) -> usize
@@ -23,14 +23,22 @@ pub fn root_of(bytes: &[u8]) -> usize
     node_count(bytes) - 1
 }
 
-// Whether a text belongs to the root's language on a side.
-pub fn belongs_to_root(bytes: &[u8], prepared: &[u64], side: Side, text: &[u8]) -> bool
+// Whether a text belongs to the root's language on a side, and its path if it does.
+pub fn root_path(
+    bytes: &[u8],
+    prepared: &[u64],
+    side: Side,
+    text: &[u8],
+    path: &mut [u8],
+) -> bool
     requires { ⌜ Ready (now bytes) (now prepared) ⌝ }
-    ensures { λ r. ⌜ Decides (now (bytes .entry)) side (now (text .entry)) r ⌝ }
+    requires { ⌜ (length (now text) ≤ 4096) × (length (now path) ≡ length (now text)) ⌝ }
+    ensures { λ r. ⌜ RootPath (now (bytes .entry)) side (now (text .entry)) (now (path .exit)) r ⌝ }
 {
     let root = root_of(bytes);
     let a = automaton_of(prepared, root, side);
-    belongs(prepared, a, text)
+    let mut marks = no_marks();
+    find_path(prepared, a, text, &mut marks, path)
 }
 
 // How long a result may be: no longer than the buffer that is lent, and no longer than 4,096.
@@ -47,11 +55,11 @@ pub fn no_text() -> [u8; 4096]
     [0u8; 4096]
 }
 
-// Room for the flags of a text.
-pub fn no_flags() -> [u8; 4097]
-    ensures { λ r. ⌜ 4097 ≡ length r ⌝ }
+// Room for the sets that finding the path of a text keeps.
+pub fn no_marks() -> [u64; 128]
+    ensures { λ r. ⌜ 128 ≡ length r ⌝ }
 {
-    [0u8; 4097]
+    [0u64; 128]
 }
 
 // A refusal that concerns no node: that of a text, of its entries or of a result.
