@@ -50,14 +50,14 @@ stuck {r} {t} known none c u =
 
 module _ {r : Pattern} {a : Automaton} {prepared : List ℕ} (room : Room a prepared) (d : Describes r a prepared) where
   -- A set has room for each position of the pattern, and the count of rows is that of positions.
-  few : (p : ℕ) → p < positions r → p < 128
+  pub few : (p : ℕ) → p < positions r → p < 128
   few p l = omega (arith, d .count-is, room .few)
 
-  counted : (p : ℕ) → p < a .count → p < positions r
+  pub counted : (p : ℕ) → p < a .count → p < positions r
   counted p l = omega (arith, d .count-is)
 
   -- A byte may stand at a position by its row as by the pattern.
-  stands-is : (p c : ℕ) → p < positions r → standsIn prepared (a .start + p) c ≡ standsAt r p c
+  pub stands-is : (p c : ℕ) → p < positions r → standsIn prepared (a .start + p) c ≡ standsAt r p c
   unfolding standsIn standsAt
   stands-is p c l = let row = d .row-is p l in rw (row .low-is, row .high-is)
 

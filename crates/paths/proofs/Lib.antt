@@ -1,1 +1,4 @@
 -- What the proofs of this crate's functions cite.
+pub mod Stepping
+pub mod Keeping
+pub mod Readings

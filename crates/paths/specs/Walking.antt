@@ -3,7 +3,7 @@ use mathlib.Core.Path.{_≡_}
 use mathlib.Core.Bool.{Bool, true, false}
 use mathlib.Core.List.{List, [], _∷_, _++_}
 use mathlib.Core.Logic.{_↔_}
-use Prim.Native.Nat.{ℕ, _+_, _-_, _*_, _≤_, _<_, min}
+use Prim.Native.Nat.{ℕ, suc, _+_, _-_, _*_, _≤_, _<_, min}
 use lib.ListN.{length, take, drop}
 use Rattle.semantics.specs.Text.{Text}
 use Rattle.semantics.specs.Pattern.{Pattern, In, matches}
@@ -50,7 +50,7 @@ pub record Stored (before : List ℕ) (i : ℕ) (set : Set) (after : List ℕ) :
 
 -- The slice has, for each byte from i to before `end`, the set behind it: that of byte `start` comes first.
 pub record Filled (prepared : List ℕ) (a : Automaton) (text : Text) (start i end : ℕ) (sets : List ℕ) : Type 0 where
-  pub behind : (r : Pattern) → Describes r a prepared → (j : ℕ) → i ≤ j → j < end → Behind r (drop (j + 1) text) (setAt sets (2 * (j - start)))
+  pub behind : (r : Pattern) → Describes r a prepared → (j : ℕ) → i ≤ j → j < end → Behind r (drop (suc j) text) (setAt sets (2 * (j - start)))
 
 -- The set is the one behind the text's first n bytes.
 pub record BehindAt (prepared : List ℕ) (a : Automaton) (text : Text) (n : ℕ) (set : Set) : Type 0 where
@@ -86,6 +86,7 @@ pub record Walked (prepared : List ℕ) (a : Automaton) (text : Text) (path : Li
 
 -- The walk came to `end`, or the text does not belong.
 pub record WalkedTo (prepared : List ℕ) (a : Automaton) (text : Text) (end : ℕ) (path : List ℕ) (walk : Walk) : Type 0 where
+  pub to-end : walk .at ≤ end
   pub walked : walk .at ≡ end → Walked prepared a text path walk
   pub stuck : ¬ (walk .at ≡ end) → (r : Pattern) → Describes r a prepared → matches r text ≡ false
 

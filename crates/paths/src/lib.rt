@@ -151,7 +151,7 @@ fn mark_blocks(
     marks: &mut [u64],
 )
     requires { ⌜ Room a (now prepared) ⌝ }
-    requires { ⌜ (128 ≤ length (now sets)) × (length (now text) ≤ 32 * length (now marks)) × (length (now text) < 1048576) ⌝ }
+    requires { ⌜ (128 ≤ length (now sets)) × (2 * ((length (now text) + 63) / 64) ≤ length (now marks)) × (length (now text) < 1048576) ⌝ }
     ensures { λ _. ⌜ Marked (now (prepared .entry)) a (now (text .entry)) first (now (marks .exit)) ⌝ }
 {
     let mut behind = a.last;
@@ -210,7 +210,7 @@ fn walk_blocks(
     path: &mut [u8],
 ) -> bool
     requires { ⌜ Room a (now prepared) ⌝ }
-    requires { ⌜ (128 ≤ length (now sets)) × (length (now text) ≤ 32 * length (now marks)) × (length (now text) < 1048576) ⌝ }
+    requires { ⌜ (128 ≤ length (now sets)) × (2 * ((length (now text) + 63) / 64) ≤ length (now marks)) × (length (now text) < 1048576) ⌝ }
     requires { ⌜ length (now path) ≡ length (now text) ⌝ }
     requires { ⌜ Walked (now prepared) a (now text) (now path) walk ⌝ }
     requires { ⌜ Marked (now prepared) a (now text) (walk .at / 64) (now marks) ⌝ }
@@ -248,7 +248,7 @@ pub fn find_path(
     path: &mut [u8],
 ) -> bool
     requires { ⌜ Room a (now prepared) ⌝ }
-    requires { ⌜ (length (now text) ≤ 32 * length (now marks)) × (length (now text) < 1048576) ⌝ }
+    requires { ⌜ (2 * ((length (now text) + 63) / 64) ≤ length (now marks)) × (length (now text) < 1048576) ⌝ }
     requires { ⌜ length (now path) ≡ length (now text) ⌝ }
     ensures { λ found. ⌜ PathFound (now (prepared .entry)) a (now (text .entry)) (now (path .exit)) found ⌝ }
 {

@@ -1,45 +1,41 @@
+-- `paths::border` meets its contract. The loop's invariant: the first i positions are below n. Assumes nothing.
+use Prim.Native.Nat.{_-_}
+use native.Mathlib.Omega.{arith}
+use borrow.Author.Needs.{needs}
+use lib.ListN.{length}
+use Rattle.paths.proofs.Readings.{Bordered, bordered-none, bordered-more, bordered-here, bordered-all}
 use Rattle.paths.proofs.border.Statement.{statement}
 use Rattle.paths.proofs.border.Tie as tie
-use Rattle.paths.proofs.border.Reads as reads
-use Rattle.paths.proofs.border.Lts as lts
 
 abbrev Inv-loop : tie.InvT-loop
-Inv-loop path n i₀ i = ?
+Inv-loop path n i₀ i = Bordered n path i
 
 abbrev μ-loop : tie.MeasureT-loop
-μ-loop path n i₀ i = ?
+μ-loop path n i₀ i = length path - i
 
--- src/lib.rt:271:5
 loop-holds : tie.Need-loop-holds Inv-loop μ-loop
-loop-holds c = ?
+loop-holds c = bordered-none
 
--- src/lib.rt:272:17
 shared-slice-read-if1 : tie.Need-shared-slice-read-if1 Inv-loop μ-loop
-shared-slice-read-if1 c = ?
+shared-slice-read-if1 c = search needs
 
--- src/lib.rt:272:17
 cast-if1 : tie.Need-cast-if1 Inv-loop μ-loop
-cast-if1 c = ?
+cast-if1 c = omega (arith, c .shared-slice-known .given (c .before .before .loop .i))
 
--- src/lib.rt:273:13
 returns : tie.Need-returns Inv-loop μ-loop
-returns c = ?
+returns c = bordered-here (c .before .before .before .loop .inv) (c .before .before .loop-test .taken) (c .if1 .taken)
 
--- src/lib.rt:275:9
 add-i : tie.Need-add-i Inv-loop μ-loop
-add-i c = ?
+add-i c = search needs
 
--- src/lib.rt:271:5
 loop-less : tie.Need-loop-less Inv-loop μ-loop
-loop-less c = ?
+loop-less c = search needs
 
--- src/lib.rt:271:5
 loop-again : tie.Need-loop-again Inv-loop μ-loop
-loop-again c = ?
+loop-again c = bordered-more (c .before .before .before .loop .inv) (c .before .before .loop-test .taken) (c .if1 .left)
 
--- src/lib.rt:267:1
 returns-2 : tie.Need-returns-2 Inv-loop μ-loop
-returns-2 c = ?
+returns-2 c = bordered-all (c .before .loop .inv) (c .loop-test .left)
 
 pub border-spec : {M : Type 1} → statement M
 border-spec =

@@ -1,55 +1,50 @@
+-- `paths::fill_block` meets its contract. The loop's invariant: the set is the one behind the first i bytes, and those behind the bytes from i on are kept. Assumes
+-- nothing.
+use mathlib.Core.Path.{_≡_, _∙_}
+use Prim.Native.Nat.{_≤_}
+use native.Mathlib.Omega.{arith}
+use borrow.Author.Needs.{needs}
+use lib.ListN.{length}
+use Rattle.paths.specs.Walking.{BehindAt, Filled}
+use Rattle.paths.proofs.Keeping.{behind-more, filled-none, filled-more, filled-all}
 use Rattle.paths.proofs.fill_block.Statement.{statement}
 use Rattle.paths.proofs.fill_block.Tie as tie
-use Rattle.paths.proofs.fill_block.Reads as reads
-use Rattle.paths.proofs.fill_block.Lts as lts
-use Rattle.language.proofs.step_back.Reads as step-back-reads
-use Rattle.paths.proofs.keep.Reads as keep-reads
 
 abbrev Inv-loop : tie.InvT-loop
-Inv-loop prepared a text start end sets₀ set₀ i₀ sets set i = ?
+Inv-loop prepared a text start end sets₀ set₀ i₀ sets set i = (length sets ≡ length sets₀) × (start ≤ i) × (i ≤ end) × BehindAt prepared a text i set × Filled prepared a text start i end sets
 
 abbrev μ-loop : tie.MeasureT-loop
-μ-loop prepared a text start end sets₀ set₀ i₀ sets set i = ?
+μ-loop prepared a text start end sets₀ set₀ i₀ sets set i = i
 
--- src/lib.rt:126:5
 loop-holds : tie.Need-loop-holds Inv-loop μ-loop
-loop-holds c = ?
+loop-holds c = (search needs, search needs, search needs, c .before .before .before .pre .1 .1, filled-none)
 
--- src/lib.rt:127:9
 sub-i : tie.Need-sub-i Inv-loop μ-loop
-sub-i c = ?
+sub-i c = search needs
 
--- src/lib.rt:128:20
 sub-keep : tie.Need-sub-keep Inv-loop μ-loop
-sub-keep c = ?
+sub-keep c = search needs
 
--- src/lib.rt:128:9
 keep-requires : tie.Need-keep-requires Inv-loop μ-loop
-keep-requires c κs = ?
+keep-requires c κs = search needs
 
--- src/lib.rt:129:43
 shared-slice-read-step-back : tie.Need-shared-slice-read-step-back Inv-loop μ-loop
-shared-slice-read-step-back c = ?
+shared-slice-read-step-back c = search needs
 
--- src/lib.rt:129:9
 step-back-requires : tie.Need-step-back-requires Inv-loop μ-loop
-step-back-requires c κs = ?
+step-back-requires c κs = search needs
 
--- src/lib.rt:126:5
 loop-less : tie.Need-loop-less Inv-loop μ-loop
-loop-less c = ?
+loop-less c = search needs
 
--- src/lib.rt:126:5
 loop-again : tie.Need-loop-again Inv-loop μ-loop
-loop-again c = ?
+loop-again c = (c .before .before .before .before .keep .ensures .same-length ∙ c .before .before .before .before .before .before .before .loop .inv .0, omega arith, omega arith, behind-more (omega arith) (omega (arith, c .before .before .before .before .before .before .before .before .before .before .before .pre .1 .0 .1)) (c .before .before .before .before .before .before .before .loop .inv .3) (c .step-back .ensures), filled-more (omega arith) (omega arith) (c .before .before .before .before .before .before .before .loop .inv .4) (c .before .before .before .before .before .before .before .loop .inv .3) (c .before .before .before .before .keep .ensures))
 
--- src/lib.rt:110:1
 same-length : tie.Need-same-length Inv-loop μ-loop
-same-length c = ?
+same-length c = search needs
 
--- src/lib.rt:110:1
 returns : tie.Need-returns Inv-loop μ-loop
-returns c = ?
+returns c = filled-all (omega (arith, c .before .loop .inv .1)) (c .before .loop .inv .3) (c .before .loop .inv .4)
 
 pub fill-block-spec : {M : Type 1} → statement M
 fill-block-spec =

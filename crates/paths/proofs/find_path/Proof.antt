@@ -1,54 +1,42 @@
+-- `paths::find_path` meets its contract. Assumes nothing.
+use mathlib.Core.Path.{_∙_}
+use native.Mathlib.Omega.{arith}
+use borrow.Author.Needs.{needs}
+use Rattle.paths.proofs.Stepping.{walked-all}
 use borrow.Author.Needs.{needs}
 use Rattle.paths.proofs.find_path.Statement.{statement}
 use Rattle.paths.proofs.find_path.Tie as tie
-use Rattle.paths.proofs.find_path.Reads as reads
-use Rattle.paths.proofs.find_path.Lts as lts
-use Rattle.paths.proofs.mark_blocks.Reads as mark-blocks-reads
-use Rattle.paths.proofs.no_sets.Reads as no-sets-reads
-use Rattle.paths.proofs.walk_alone.Reads as walk-alone-reads
-use Rattle.paths.proofs.walk_blocks.Reads as walk-blocks-reads
 
--- src/lib.rt:255:9
 walk-alone-requires : tie.Need-walk-alone-requires
 walk-alone-requires c κs = search needs
 
--- src/lib.rt:257:9
 same-length : tie.Need-same-length
 same-length c = search needs
 
--- src/lib.rt:257:9
 returns : tie.Need-returns
-returns c = ?
+returns c = walked-all (c .before .before .before .before .walk-alone .ensures) (c .if1 .taken) (c .before .before .before .before .walk-alone .kept .1 .1 .1 .0 ∙ c .before .before .before .before .before .before .before .before .before .before .pre .1 .1)
 
--- src/lib.rt:259:20
 no-sets-requires : tie.Need-no-sets-requires
 no-sets-requires c κs = search needs
 
--- src/lib.rt:260:50
 slice-aggregate-mark-blocks : tie.Need-slice-aggregate-mark-blocks
 slice-aggregate-mark-blocks c = search needs
 
--- src/lib.rt:260:5
 mark-blocks-requires : tie.Need-mark-blocks-requires
 mark-blocks-requires c κs = search needs
 
--- src/lib.rt:261:42
 slice-aggregate-walk-blocks : tie.Need-slice-aggregate-walk-blocks
 slice-aggregate-walk-blocks c = search needs
 
--- src/lib.rt:261:5
 walk-blocks-requires : tie.Need-walk-blocks-requires
-walk-blocks-requires c κs = ?
+walk-blocks-requires c κs = (c .before .before .before .before .before .before .before .before .before .before .before .before .before .before .before .before .before .before .before .before .before .pre .0, ((omega (arith, c .before .before .before .before .before .before .before .before .before .before .no-sets .ensures, c .before .before .before .before .before .before .mark-blocks .kept .1 .1 .1 .1 .0), omega (arith, c .before .before .before .before .before .before .before .before .before .before .before .before .before .before .before .before .before .before .before .before .before .pre .1 .0 .0, c .before .before .before .before .before .before .mark-blocks .kept .1 .1 .1 .1 .1 .0), c .before .before .before .before .before .before .before .before .before .before .before .before .before .before .before .before .before .before .before .before .before .pre .1 .0 .1), (c .before .before .before .before .before .before .before .before .before .before .before .before .before .before .before .walk-alone .kept .1 .1 .1 .0 ∙ c .before .before .before .before .before .before .before .before .before .before .before .before .before .before .before .before .before .before .before .before .before .pre .1 .1, (c .before .before .before .before .before .before .before .before .before .before .before .before .before .before .before .walk-alone .ensures, c .before .before .before .before .before .before .mark-blocks .ensures))))
 
--- src/lib.rt:243:1
 same-length-2 : tie.Need-same-length-2
 same-length-2 c = search needs
 
--- src/lib.rt:243:1
 same-length-3 : tie.Need-same-length-3
 same-length-3 c = search needs
 
--- src/lib.rt:243:1
 returns-2 : tie.Need-returns-2
 returns-2 c = search needs
 

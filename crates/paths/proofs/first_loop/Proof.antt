@@ -1,54 +1,49 @@
+-- `paths::first_loop` meets its contract. The loop's invariant: no step among the first i positions goes from a last position to a first one. Assumes nothing.
+use mathlib.Core.Path.{sym, _∙_}
+use Prim.Native.Nat.{_-_}
+use native.Mathlib.Omega.{arith}
+use borrow.Author.Needs.{needs}
+use lib.ListN.{length}
+use Rattle.positions.specs.Positions.{holds}
+use Rattle.paths.proofs.Readings.{Unlooped, unlooped-one, unlooped-more, unlooped-here, unlooped-all}
 use Rattle.paths.proofs.first_loop.Statement.{statement}
 use Rattle.paths.proofs.first_loop.Tie as tie
-use Rattle.paths.proofs.first_loop.Reads as reads
-use Rattle.paths.proofs.first_loop.Lts as lts
-use Rattle.paths.proofs.loops.Reads as loops-reads
 
 abbrev Inv-loop : tie.InvT-loop
-Inv-loop path last first i₀ i = ?
+Inv-loop path last first i₀ i = Unlooped (holds last) (holds first) path i
 
 abbrev μ-loop : tie.MeasureT-loop
-μ-loop path last first i₀ i = ?
+μ-loop path last first i₀ i = length path - i
 
--- src/lib.rt:296:5
 loop-holds : tie.Need-loop-holds Inv-loop μ-loop
-loop-holds c = ?
+loop-holds c = unlooped-one (c .before .pre)
 
--- src/lib.rt:297:36
 sub-loops : tie.Need-sub-loops Inv-loop μ-loop
-sub-loops c = ?
+sub-loops c = search needs
 
--- src/lib.rt:297:31
 shared-slice-read-loops : tie.Need-shared-slice-read-loops Inv-loop μ-loop
-shared-slice-read-loops c = ?
+shared-slice-read-loops c = search needs
 
--- src/lib.rt:297:44
 shared-slice-read-loops-2 : tie.Need-shared-slice-read-loops-2 Inv-loop μ-loop
-shared-slice-read-loops-2 c = ?
+shared-slice-read-loops-2 c = search needs
 
--- src/lib.rt:297:12
 loops-requires : tie.Need-loops-requires Inv-loop μ-loop
-loops-requires c κs = ?
+loops-requires c κs = search needs
 
--- src/lib.rt:298:13
 returns : tie.Need-returns Inv-loop μ-loop
-returns c = ?
+returns c = unlooped-here (c .before .before .before .before .before .loop .inv) (c .before .before .before .before .loop-test .taken) (sym (c .before .loops .ensures) ∙ c .if1 .taken)
 
--- src/lib.rt:300:9
 add-i : tie.Need-add-i Inv-loop μ-loop
-add-i c = ?
+add-i c = search needs
 
--- src/lib.rt:296:5
 loop-less : tie.Need-loop-less Inv-loop μ-loop
-loop-less c = ?
+loop-less c = search needs
 
--- src/lib.rt:296:5
 loop-again : tie.Need-loop-again Inv-loop μ-loop
-loop-again c = ?
+loop-again c = unlooped-more (c .before .before .before .before .before .loop .inv) (c .before .before .before .before .loop-test .taken) (sym (c .before .loops .ensures) ∙ c .if1 .left)
 
--- src/lib.rt:291:1
 returns-2 : tie.Need-returns-2 Inv-loop μ-loop
-returns-2 c = ?
+returns-2 c = unlooped-all (c .before .loop .inv) (c .loop-test .left)
 
 pub first-loop-spec : {M : Type 1} → statement M
 first-loop-spec =

@@ -1,64 +1,56 @@
+-- `paths::mark_blocks` meets its contract. The loop's invariant: the set is the one behind the blocks below k, and those behind the blocks from k on are kept.
+-- Assumes nothing.
+use mathlib.Core.Path.{_≡_, _∙_}
+use Prim.Native.Nat.{_+_, _*_, _/_, _≤_, min}
+use native.Mathlib.Omega.{arith}
+use borrow.Author.Needs.{needs}
+use lib.ListN.{length}
+use Rattle.paths.specs.Walking.{BehindAt, Marked}
+use Rattle.paths.proofs.Keeping.{behind-end, behind-whole, behind-start, behind-block, marked-none, marked-more, marked-from}
 use Rattle.paths.proofs.mark_blocks.Statement.{statement}
 use Rattle.paths.proofs.mark_blocks.Tie as tie
-use Rattle.paths.proofs.mark_blocks.Reads as reads
-use Rattle.paths.proofs.mark_blocks.Lts as lts
-use Rattle.paths.proofs.block_end.Reads as block-end-reads
-use Rattle.paths.proofs.fill_block.Reads as fill-block-reads
-use Rattle.paths.proofs.keep.Reads as keep-reads
 
 abbrev Inv-loop : tie.InvT-loop
-Inv-loop prepared a text first sets₀ marks₀ behind₀ k₀ sets marks behind k = ?
+Inv-loop prepared a text first sets₀ marks₀ behind₀ k₀ sets marks behind k = (length sets ≡ length sets₀) × (length marks ≡ length marks₀) × (k ≤ (length text + 63) / 64) × BehindAt prepared a text (min (64 * k) (length text)) behind × Marked prepared a text k marks
 
 abbrev μ-loop : tie.MeasureT-loop
-μ-loop prepared a text first sets₀ marks₀ behind₀ k₀ sets marks behind k = ?
+μ-loop prepared a text first sets₀ marks₀ behind₀ k₀ sets marks behind k = k
 
--- src/lib.rt:158:18
 add-k : tie.Need-add-k Inv-loop μ-loop
-add-k c = ?
+add-k c = search needs
 
--- src/lib.rt:159:5
 loop-holds : tie.Need-loop-holds Inv-loop μ-loop
-loop-holds c = ?
+loop-holds c = (search needs, search needs, omega arith, behind-whole _ (omega arith) (behind-end (c .before .before .before .before .before .pre .0)), marked-none (omega arith))
 
--- src/lib.rt:160:9
 sub-k : tie.Need-sub-k Inv-loop μ-loop
-sub-k c = ?
+sub-k c = search needs
 
--- src/lib.rt:161:9
 keep-requires : tie.Need-keep-requires Inv-loop μ-loop
-keep-requires c κs = ?
+keep-requires c κs = search needs
 
--- src/lib.rt:162:13
 block-end-requires : tie.Need-block-end-requires Inv-loop μ-loop
-block-end-requires c κs = ?
+block-end-requires c κs = search needs
 
--- src/lib.rt:163:48
 mul-fill-block : tie.Need-mul-fill-block Inv-loop μ-loop
-mul-fill-block c = ?
+mul-fill-block c = search needs
 
--- src/lib.rt:163:9
 fill-block-requires : tie.Need-fill-block-requires Inv-loop μ-loop
-fill-block-requires c κs = ?
+fill-block-requires c κs = (c .before .before .before .before .before .before .before .before .before .before .before .before .before .pre .0, ((omega (arith, c .before .block-end .ensures), omega (arith, c .before .block-end .ensures), omega (arith, c .before .block-end .ensures, c .before .before .before .before .before .before .before .before .before .before .before .before .before .pre .1 .0, c .before .before .before .before .before .before .before .loop .inv .0)), behind-block (omega arith) (c .before .block-end .ensures) (c .before .before .before .before .before .before .before .loop .inv .3)))
 
--- src/lib.rt:159:5
 loop-less : tie.Need-loop-less Inv-loop μ-loop
-loop-less c = ?
+loop-less c = search needs
 
--- src/lib.rt:159:5
 loop-again : tie.Need-loop-again Inv-loop μ-loop
-loop-again c = ?
+loop-again c = (c .before .before .fill-block .kept .1 .1 .1 .1 .1 .1 .0 ∙ c .before .before .before .before .before .before .before .before .before .before .loop .inv .0, c .before .before .before .before .before .before .before .keep .ensures .same-length ∙ c .before .before .before .before .before .before .before .before .before .before .loop .inv .1, omega arith, behind-start _ (omega arith) (c .before .before .fill-block .ensures .0), marked-more (omega arith) (c .before .before .before .before .before .before .before .before .before .before .loop .inv .4) (c .before .before .before .before .before .before .before .before .before .before .loop .inv .3) (c .before .before .before .before .before .before .before .keep .ensures))
 
--- src/lib.rt:145:1
 same-length : tie.Need-same-length Inv-loop μ-loop
-same-length c = ?
+same-length c = search needs
 
--- src/lib.rt:145:1
 same-length-2 : tie.Need-same-length-2 Inv-loop μ-loop
-same-length-2 c = ?
+same-length-2 c = search needs
 
--- src/lib.rt:145:1
 returns : tie.Need-returns Inv-loop μ-loop
-returns c = ?
+returns c = marked-from (omega arith) (c .before .loop .inv .4)
 
 pub mark-blocks-spec : {M : Type 1} → statement M
 mark-blocks-spec =

@@ -1,26 +1,22 @@
+-- `paths::past` meets its contract. Assumes nothing.
+use mathlib.Core.Path.{refl, _∙_}
+use borrow.Author.Needs.{needs}
+use Rattle.language.proofs.Steps.{counted}
 use borrow.Author.Needs.{needs}
 use Rattle.paths.proofs.past.Statement.{statement}
 use Rattle.paths.proofs.past.Tie as tie
-use Rattle.paths.proofs.past.Reads as reads
-use Rattle.paths.proofs.past.Lts as lts
-use Rattle.automaton.proofs.follow.Reads as follow-reads
-use Rattle.positions.proofs.Set.has.Reads as has-reads
 
--- src/lib.rt:63:15
 add-row : tie.Need-add-row
 add-row c = search needs
 
--- src/lib.rt:66:15
 has-requires : tie.Need-has-requires
 has-requires c κs = search needs
 
--- src/lib.rt:67:14
 follow-requires : tie.Need-follow-requires
 follow-requires c κs = search needs
 
--- src/lib.rt:57:1
 returns : tie.Need-returns
-returns c = ?
+returns c = record { at-is = refl; here-is = λ r d. c .before .has .ensures ∙ d .last-is _; set-is = λ r d q. rw (c .follow .ensures) (d .row-is _ (counted (c .before .before .before .before .before .pre .0) d _ (c .before .before .before .before .before .pre .1)) .follow-is q) }
 
 pub past-spec : {M : Type 1} → statement M
 past-spec = tie.close (tie.spec add-row has-requires follow-requires returns)

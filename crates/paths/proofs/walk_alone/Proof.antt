@@ -1,67 +1,58 @@
+-- `paths::walk_alone` meets its contract. The loop's invariant: the path has come as far as the walk says. Assumes nothing.
+use mathlib.Core.Path.{_≡_, _∙_}
+use Prim.Native.Nat.{_-_}
+use native.Mathlib.Omega.{arith}
+use borrow.Author.Needs.{needs}
+use lib.ListN.{length, length-set}
+use Rattle.paths.specs.Walking.{Walked}
+use Rattle.paths.proofs.Stepping.{walked-begins, walked-more, takes-alone}
 use Rattle.paths.proofs.walk_alone.Statement.{statement}
 use Rattle.paths.proofs.walk_alone.Tie as tie
-use Rattle.paths.proofs.walk_alone.Reads as reads
-use Rattle.paths.proofs.walk_alone.Lts as lts
-use Rattle.paths.proofs.alone.Reads as alone-reads
-use Rattle.paths.proofs.past.Reads as past-reads
 
 abbrev Inv-loop : tie.InvT-loop
-Inv-loop prepared a text path₀ walk₀ path walk = ?
+Inv-loop prepared a text path₀ walk₀ path walk = (length path ≡ length path₀) × Walked prepared a text path walk
 
 abbrev μ-loop : tie.MeasureT-loop
-μ-loop prepared a text path₀ walk₀ path walk = ?
+μ-loop prepared a text path₀ walk₀ path walk = length text - walk .at
 
--- src/lib.rt:85:5
 loop-holds : tie.Need-loop-holds Inv-loop μ-loop
-loop-holds c = ?
+loop-holds c = (search needs, walked-begins)
 
--- src/lib.rt:88:41
 shared-slice-read-alone : tie.Need-shared-slice-read-alone Inv-loop μ-loop
-shared-slice-read-alone c = ?
+shared-slice-read-alone c = search needs
 
--- src/lib.rt:88:13
 alone-requires : tie.Need-alone-requires Inv-loop μ-loop
-alone-requires c κs = ?
+alone-requires c κs = search needs
 
--- src/lib.rt:90:13
 same-length : tie.Need-same-length Inv-loop μ-loop
-same-length c = ?
+same-length c = search needs
 
--- src/lib.rt:90:13
 returns : tie.Need-returns Inv-loop μ-loop
-returns c = ?
+returns c = c .before .before .before .before .before .before .loop .inv .1
 
--- src/lib.rt:92:19
 cast-path : tie.Need-cast-path Inv-loop μ-loop
-cast-path c = ?
+cast-path c = search needs
 
--- src/lib.rt:92:9
 slice-write-path : tie.Need-slice-write-path Inv-loop μ-loop
-slice-write-path c = ?
+slice-write-path c = search needs
 
--- src/lib.rt:93:37
 add-past : tie.Need-add-past Inv-loop μ-loop
-add-past c = ?
+add-past c = search needs
 
--- src/lib.rt:93:9
 past-requires : tie.Need-past-requires Inv-loop μ-loop
-past-requires c κs = ?
+past-requires c κs = (c .before .before .before .before .before .before .before .before .before .before .before .pre .0, c .before .alone .ensures .reads (c .if2 .left) .inside)
 
--- src/lib.rt:85:5
 loop-less : tie.Need-loop-less Inv-loop μ-loop
-loop-less c = ?
+loop-less c = omega (arith, c .past .ensures .at-is)
 
--- src/lib.rt:85:5
 loop-again : tie.Need-loop-again Inv-loop μ-loop
-loop-again c = ?
+loop-again c = (simp length-set (omega (arith, c .before .before .before .before .before .before .before .loop .inv .0)), walked-more (c .before .before .before .before .before .before .before .loop .inv .1) (c .before .before .before .before .before .if1 .taken) (c .before .before .before .before .before .before .before .loop .inv .0 ∙ c .before .before .before .before .before .before .before .before .before .before .before .before .pre .1) (c .past .ensures) (λ r d. takes-alone (c .before .before .before .before .before .before .before .before .before .before .before .before .pre .0) d _ (c .before .before .before .before .before .before .before .loop .inv .1 .so-far r d .set-is) (c .before .before .alone .ensures .reads (c .before .if2 .left)) (c .before .before .alone .ensures .no-other (c .before .if2 .left))))
 
--- src/lib.rt:74:1
 same-length-2 : tie.Need-same-length-2 Inv-loop μ-loop
-same-length-2 c = ?
+same-length-2 c = search needs
 
--- src/lib.rt:74:1
 returns-2 : tie.Need-returns-2 Inv-loop μ-loop
-returns-2 c = ?
+returns-2 c = c .before .before .loop .inv .1
 
 pub walk-alone-spec : {M : Type 1} → statement M
 walk-alone-spec =

@@ -1,85 +1,70 @@
+-- `paths::walk_block` meets its contract. The loop's invariant: the path has come as far as the walk says, within the block. Assumes nothing.
+use mathlib.Core.Path.{_≡_, _∙_}
+use Prim.Native.Nat.{_-_, _≤_}
+use native.Mathlib.Omega.{arith}
+use borrow.Author.Needs.{needs}
+use lib.ListN.{length, length-set}
+use Rattle.paths.specs.Walking.{Walked}
+use Rattle.paths.proofs.Stepping.{walked-more, walked-stuck, takes-lowest, takes-none}
 use Rattle.paths.proofs.walk_block.Statement.{statement}
 use Rattle.paths.proofs.walk_block.Tie as tie
-use Rattle.paths.proofs.walk_block.Reads as reads
-use Rattle.paths.proofs.walk_block.Lts as lts
-use Rattle.automaton.proofs.set_at.Reads as set-at-reads
-use Rattle.paths.proofs.lowest.Reads as lowest-reads
-use Rattle.paths.proofs.past.Reads as past-reads
-use Rattle.positions.proofs.Set.intersect.Reads as intersect-reads
 
 abbrev Inv-loop : tie.InvT-loop
-Inv-loop prepared a text start end sets path₀ walk₀ path walk = ?
+Inv-loop prepared a text start end sets path₀ walk₀ path walk = (length path ≡ length path₀) × (start ≤ walk .at) × (walk .at ≤ end) × Walked prepared a text path walk
 
 abbrev μ-loop : tie.MeasureT-loop
-μ-loop prepared a text start end sets path₀ walk₀ path walk = ?
+μ-loop prepared a text start end sets path₀ walk₀ path walk = end - walk .at
 
--- src/lib.rt:188:5
 loop-holds : tie.Need-loop-holds Inv-loop μ-loop
-loop-holds c = ?
+loop-holds c = (search needs, c .before .before .before .before .pre .1 .0 .0, c .before .before .before .before .pre .1 .0 .1, c .before .before .before .before .pre .1 .1 .1 .1)
 
--- src/lib.rt:191:51
 sub-set-at : tie.Need-sub-set-at Inv-loop μ-loop
-sub-set-at c = ?
+sub-set-at c = search needs
 
--- src/lib.rt:191:46
 mul-set-at : tie.Need-mul-set-at Inv-loop μ-loop
-mul-set-at c = ?
+mul-set-at c = search needs
 
--- src/lib.rt:191:33
 set-at-requires : tie.Need-set-at-requires Inv-loop μ-loop
-set-at-requires c κs = ?
+set-at-requires c κs = search needs
 
--- src/lib.rt:191:13
 intersect-requires : tie.Need-intersect-requires Inv-loop μ-loop
-intersect-requires c κs = ?
+intersect-requires c κs = search needs
 
--- src/lib.rt:192:42
 shared-slice-read-lowest : tie.Need-shared-slice-read-lowest Inv-loop μ-loop
-shared-slice-read-lowest c = ?
+shared-slice-read-lowest c = search needs
 
--- src/lib.rt:192:13
 lowest-requires : tie.Need-lowest-requires Inv-loop μ-loop
-lowest-requires c κs = ?
+lowest-requires c κs = search needs
 
--- src/lib.rt:194:13
 same-length : tie.Need-same-length Inv-loop μ-loop
-same-length c = ?
+same-length c = search needs
 
--- src/lib.rt:194:13
 returns : tie.Need-returns Inv-loop μ-loop
-returns c = ?
+returns c = record { to-end = c .before .before .before .before .before .before .before .before .loop .inv .2; walked = λ e. absurd (omega (arith, c .before .before .before .before .before .before .if1 .taken)); stuck = λ ne r d. walked-stuck (c .before .before .before .before .before .before .before .before .loop .inv .3) (omega (arith, c .before .before .before .before .before .before .if1 .taken, c .before .before .before .before .before .before .before .before .before .before .before .before .before .pre .1 .0 .2)) r d (takes-none (c .before .before .before .before .before .before .before .before .before .before .before .before .before .pre .0) d _ (c .before .before .before .before .before .before .before .before .loop .inv .3 .so-far r d .set-is) (rw (c .before .before .before .before .set-at .ensures) (c .before .before .before .before .before .before .before .before .before .before .before .before .before .pre .1 .1 .0 .behind r d _ (c .before .before .before .before .before .before .before .before .loop .inv .1) (c .before .before .before .before .before .before .if1 .taken))) (c .before .before .before .intersect .ensures) (λ q reads. c .before .lowest .ensures .none-lower q (omega arith) (omega (arith, reads .inside, c .before .before .before .before .before .before .before .before .before .before .before .before .before .pre .0 .few, c .if2 .taken)) reads)) }
 
--- src/lib.rt:196:19
 cast-path : tie.Need-cast-path Inv-loop μ-loop
-cast-path c = ?
+cast-path c = search needs
 
--- src/lib.rt:196:9
 slice-write-path : tie.Need-slice-write-path Inv-loop μ-loop
-slice-write-path c = ?
+slice-write-path c = search needs
 
--- src/lib.rt:197:37
 add-past : tie.Need-add-past Inv-loop μ-loop
-add-past c = ?
+add-past c = search needs
 
--- src/lib.rt:197:9
 past-requires : tie.Need-past-requires Inv-loop μ-loop
-past-requires c κs = ?
+past-requires c κs = (c .before .before .before .before .before .before .before .before .before .before .before .before .before .pre .0, c .before .lowest .ensures .reads (c .if2 .left) .inside)
 
--- src/lib.rt:188:5
 loop-less : tie.Need-loop-less Inv-loop μ-loop
-loop-less c = ?
+loop-less c = omega (arith, c .past .ensures .at-is)
 
--- src/lib.rt:188:5
 loop-again : tie.Need-loop-again Inv-loop μ-loop
-loop-again c = ?
+loop-again c = (simp length-set (omega (arith, c .before .before .before .before .before .before .before .before .before .loop .inv .0)), omega (arith, c .past .ensures .at-is, c .before .before .before .before .before .before .before .before .before .loop .inv .1), omega (arith, c .past .ensures .at-is, c .before .before .before .before .before .before .before .if1 .taken), walked-more (c .before .before .before .before .before .before .before .before .before .loop .inv .3) (omega (arith, c .before .before .before .before .before .before .before .if1 .taken, c .before .before .before .before .before .before .before .before .before .before .before .before .before .before .pre .1 .0 .2)) (c .before .before .before .before .before .before .before .before .before .loop .inv .0 ∙ c .before .before .before .before .before .before .before .before .before .before .before .before .before .before .pre .1 .1 .1 .0) (c .past .ensures) (λ r d. takes-lowest (c .before .before .before .before .before .before .before .before .before .before .before .before .before .before .pre .0) d _ (c .before .before .before .before .before .before .before .before .before .loop .inv .3 .so-far r d .set-is) (rw (c .before .before .before .before .before .set-at .ensures) (c .before .before .before .before .before .before .before .before .before .before .before .before .before .before .pre .1 .1 .0 .behind r d _ (c .before .before .before .before .before .before .before .before .before .loop .inv .1) (c .before .before .before .before .before .before .before .if1 .taken))) (c .before .before .before .before .intersect .ensures) (c .before .before .lowest .ensures .reads (c .before .if2 .left)) (λ q l. c .before .before .lowest .ensures .none-lower q (omega arith) l)))
 
--- src/lib.rt:170:1
 same-length-2 : tie.Need-same-length-2 Inv-loop μ-loop
-same-length-2 c = ?
+same-length-2 c = search needs
 
--- src/lib.rt:170:1
 returns-2 : tie.Need-returns-2 Inv-loop μ-loop
-returns-2 c = ?
+returns-2 c = record { to-end = c .before .before .loop .inv .2; walked = λ e. c .before .before .loop .inv .3; stuck = λ ne. absurd (ne (omega (arith, c .if1 .left, c .before .before .loop .inv .2))) }
 
 pub walk-block-spec : {M : Type 1} → statement M
 walk-block-spec =

@@ -1,81 +1,69 @@
+-- `paths::walk_blocks` meets its contract. The loop's invariant: the path has come as far as the walk says. Assumes nothing.
+use mathlib.Core.Path.{_≡_, sym, _∙_}
+use mathlib.Core.Bool.{false≢true}
+use Prim.Native.Nat.{_-_, _/_}
+use native.Mathlib.Omega.{arith}
+use borrow.Author.Needs.{needs}
+use lib.ListN.{length}
+use Rattle.paths.specs.Walking.{Walked, Marked}
+use Rattle.paths.proofs.Stepping.{walked-all}
+use Rattle.paths.proofs.Keeping.{marked-from}
 use Rattle.paths.proofs.walk_blocks.Statement.{statement}
 use Rattle.paths.proofs.walk_blocks.Tie as tie
-use Rattle.paths.proofs.walk_blocks.Reads as reads
-use Rattle.paths.proofs.walk_blocks.Lts as lts
-use Rattle.automaton.proofs.set_at.Reads as set-at-reads
-use Rattle.paths.proofs.block_end.Reads as block-end-reads
-use Rattle.paths.proofs.fill_block.Reads as fill-block-reads
-use Rattle.paths.proofs.walk_block.Reads as walk-block-reads
 
 abbrev Inv-loop : tie.InvT-loop
-Inv-loop prepared a text sets₀ marks path₀ walk₀ sets path walk = ?
+Inv-loop prepared a text sets₀ marks path₀ walk₀ sets path walk = (length sets ≡ length sets₀) × (length path ≡ length path₀) × Walked prepared a text path walk × Marked prepared a text (walk .at / 64) marks
 
 abbrev μ-loop : tie.MeasureT-loop
-μ-loop prepared a text sets₀ marks path₀ walk₀ sets path walk = ?
+μ-loop prepared a text sets₀ marks path₀ walk₀ sets path walk = length text - walk .at
 
--- src/lib.rt:220:5
 loop-holds : tie.Need-loop-holds Inv-loop μ-loop
-loop-holds c = ?
+loop-holds c = (search needs, search needs, c .before .before .before .before .before .pre .1 .1 .1 .0, c .before .before .before .before .before .pre .1 .1 .1 .1)
 
--- src/lib.rt:222:13
 block-end-requires : tie.Need-block-end-requires Inv-loop μ-loop
-block-end-requires c κs = ?
+block-end-requires c κs = search needs
 
--- src/lib.rt:223:36
 mul-set-at : tie.Need-mul-set-at Inv-loop μ-loop
-mul-set-at c = ?
+mul-set-at c = search needs
 
--- src/lib.rt:223:13
 set-at-requires : tie.Need-set-at-requires Inv-loop μ-loop
-set-at-requires c κs = ?
+set-at-requires c κs = search needs
 
--- src/lib.rt:224:39
 mul-fill-block : tie.Need-mul-fill-block Inv-loop μ-loop
-mul-fill-block c = ?
+mul-fill-block c = search needs
 
--- src/lib.rt:224:9
 fill-block-requires : tie.Need-fill-block-requires Inv-loop μ-loop
-fill-block-requires c κs = ?
+fill-block-requires c κs = (c .before .before .before .before .before .before .before .before .before .before .before .before .pre .0, ((omega (arith, c .before .before .block-end .ensures), omega (arith, c .before .before .block-end .ensures), omega (arith, c .before .before .block-end .ensures, c .before .before .before .before .before .before .before .before .before .before .before .before .pre .1 .0 .0, c .before .before .before .before .before .before .loop .inv .0)), rw (c .before .before .block-end .ensures, c .before .set-at .ensures) (c .before .before .before .before .before .before .loop .inv .3 .behind _ (omega arith) (omega (arith, c .before .before .before .before .if1 .taken)))))
 
--- src/lib.rt:225:46
 mul-walk-block : tie.Need-mul-walk-block Inv-loop μ-loop
-mul-walk-block c = ?
+mul-walk-block c = search needs
 
--- src/lib.rt:225:9
 walk-block-requires : tie.Need-walk-block-requires Inv-loop μ-loop
-walk-block-requires c κs = ?
+walk-block-requires c κs = (c .before .before .before .before .before .before .before .before .before .before .before .before .before .before .before .before .before .pre .0, ((omega arith, omega (arith, c .before .before .before .before .before .before .before .block-end .ensures, c .before .before .before .before .before .before .before .before .before .if1 .taken), omega (arith, c .before .before .before .before .before .before .before .block-end .ensures), omega (arith, c .before .before .before .before .before .before .before .block-end .ensures, c .before .before .before .before .before .before .before .before .before .before .before .before .before .before .before .before .before .pre .1 .0 .0, c .before .before .before .before .before .before .before .before .before .before .before .loop .inv .0, c .before .before .before .before .fill-block .kept .1 .1 .1 .1 .1 .1 .0)), (c .before .before .before .before .fill-block .ensures .1, (c .before .before .before .before .before .before .before .before .before .before .before .loop .inv .1 ∙ c .before .before .before .before .before .before .before .before .before .before .before .before .before .before .before .before .before .pre .1 .1 .0, c .before .before .before .before .before .before .before .before .before .before .before .loop .inv .2))))
 
--- src/lib.rt:227:13
 same-length : tie.Need-same-length Inv-loop μ-loop
-same-length c = ?
+same-length c = c .before .before .before .before .before .before .before .before .before .fill-block .kept .1 .1 .1 .1 .1 .1 .0 ∙ c .before .before .before .before .before .before .before .before .before .before .before .before .before .before .before .before .loop .inv .0
 
--- src/lib.rt:227:13
 same-length-2 : tie.Need-same-length-2 Inv-loop μ-loop
-same-length-2 c = ?
+same-length-2 c = c .before .before .before .before .walk-block .kept .1 .1 .1 .1 .1 .1 .1 .0 ∙ c .before .before .before .before .before .before .before .before .before .before .before .before .before .before .before .before .loop .inv .1
 
--- src/lib.rt:227:13
 returns : tie.Need-returns Inv-loop μ-loop
-returns c = ?
+returns c = record { found-is = λ r d. sym (c .before .before .before .before .walk-block .ensures .stuck (λ e. omega (arith, c .if2 .taken)) r d); path-is = λ e. absurd (false≢true e) }
 
--- src/lib.rt:220:5
 loop-less : tie.Need-loop-less Inv-loop μ-loop
-loop-less c = ?
+loop-less c = omega (arith, c .before .before .before .before .walk-block .ensures .to-end, c .before .before .before .before .before .before .before .before .before .before .before .before .block-end .ensures, c .if2 .left, c .before .before .before .before .before .before .before .before .before .before .before .before .before .before .if1 .taken)
 
--- src/lib.rt:220:5
 loop-again : tie.Need-loop-again Inv-loop μ-loop
-loop-again c = ?
+loop-again c = (c .before .before .before .before .before .before .before .before .before .fill-block .kept .1 .1 .1 .1 .1 .1 .0 ∙ c .before .before .before .before .before .before .before .before .before .before .before .before .before .before .before .before .loop .inv .0, c .before .before .before .before .walk-block .kept .1 .1 .1 .1 .1 .1 .1 .0 ∙ c .before .before .before .before .before .before .before .before .before .before .before .before .before .before .before .before .loop .inv .1, c .before .before .before .before .walk-block .ensures .walked (omega (arith, c .before .before .before .before .walk-block .ensures .to-end, c .if2 .left)), marked-from (omega (arith, c .before .before .before .before .before .before .before .before .before .before .before .before .block-end .ensures, c .before .before .before .before .walk-block .ensures .to-end, c .if2 .left, c .before .before .before .before .before .before .before .before .before .before .before .before .before .before .if1 .taken)) (c .before .before .before .before .before .before .before .before .before .before .before .before .before .before .before .before .loop .inv .3))
 
--- src/lib.rt:203:1
 same-length-3 : tie.Need-same-length-3 Inv-loop μ-loop
-same-length-3 c = ?
+same-length-3 c = search needs
 
--- src/lib.rt:203:1
 same-length-4 : tie.Need-same-length-4 Inv-loop μ-loop
-same-length-4 c = ?
+same-length-4 c = search needs
 
--- src/lib.rt:203:1
 returns-2 : tie.Need-returns-2 Inv-loop μ-loop
-returns-2 c = ?
+returns-2 c = walked-all (c .before .before .loop .inv .2) (omega (arith, c .if1 .left, c .before .before .loop .inv .2 .within)) (c .before .before .loop .inv .1 ∙ c .before .before .before .before .before .before .before .before .pre .1 .1 .0)
 
 pub walk-blocks-spec : {M : Type 1} → statement M
 walk-blocks-spec =
