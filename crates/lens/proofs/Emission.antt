@@ -1,29 +1,44 @@
 -- What is read at a node, from what is read at the nodes below it.
 use mathlib.Core.Path.{_≡_, refl, sym, ap, subst, _∙_}
-use mathlib.Core.Bool.{Bool, true, false, cond}
+use mathlib.Core.Bool.{Bool, true, false}
 use mathlib.Core.List.{List, _++_}
-use Prim.Native.Nat.{ℕ, _+_, _-_, _≤_, _<_}
+use Prim.Native.Nat.{ℕ, _+_, _-_, _≤_}
 use native.Mathlib.Nat.{sub-zero}
 use native.Mathlib.Omega.{arith}
-use lib.ListN.{length, take, drop, length-take, length-drop}
+use lib.ListN.{length, take, drop, length-drop}
 use Rattle.semantics.specs.Text.{Text}
-use Rattle.semantics.specs.Pattern.{matches}
 use Rattle.semantics.specs.Lens.{Lens, copy, const, key, join, union, match, language}
-use Rattle.semantics.specs.Table.{lens, treeAt, trees}
-use Rattle.table.specs.declared.Kind.the-variants.{Copy, Const, Key, LensJoin, LensUnion, Match}
+use Rattle.semantics.specs.Table.{positions, lens, treeAt, trees}
+use Rattle.laws.specs.Paths.{border, goesLeft}
+use Rattle.table.specs.declared.Kind.the-variants.{Copy, Const, Key, LensJoin, Match}
 use Rattle.table.specs.declared.Node.{Node}
 use Rattle.table.specs.Prepared.{TwoLenses}
 use Rattle.table.specs.Rules.{NodeRead}
 use Rattle.automaton.specs.declared.Automaton.{Automaton}
-use Rattle.automaton.specs.Rows.{automatonAt}
+use Rattle.automaton.specs.Rows.{automatonAt, Describes}
 use Rattle.lens.specs.declared.Mode.{Mode}
 use Rattle.lens.specs.declared.Wrote.{Wrote}
 use Rattle.lens.specs.declared.Wrote.the-variants.{Count, Full}
 use Rattle.lens.specs.Overlay.{Writes, overlay-length, writes-full, writes-lent, writes-within}
 use Rattle.lens.specs.Reading.{reading, modeSide, copied, reading-copy, reading-const, reading-key, reading-join, reading-left, reading-right, reading-match}
-use Rattle.lens.specs.Cutting.{CutAt, rest-lent}
-use Rattle.lens.specs.Emitting.{sideFor, ArmIs, WordIs, LensNode, Emits, EmitsJoin}
-use Rattle.lens.specs.Nodes.{same-lens, shown-copy, shown-const, shown-key, shown-join, shown-union, shown-match, describes-lens, left-below}
+use Rattle.lens.specs.Cutting.{rest-lent}
+use Rattle.lens.specs.Emitting.{sideFor, WordIs, LensNode, Emits, EmitsJoin}
+use Rattle.lens.specs.Parsed.{
+  Parsed,
+  ParsedJoin,
+  join-length,
+  border-few,
+  border-inside,
+  border-left-lent,
+  border-right-lent,
+  border-is-cut,
+  union-few,
+  union-left,
+  union-in-left,
+  union-right,
+  union-not-left,
+}
+use Rattle.lens.specs.Nodes.{same-lens, shown-copy, shown-const, shown-key, shown-join, shown-match, describes-lens, left-below}
 
 -- ---- By the kind of the node
 
@@ -67,33 +82,57 @@ module _ {bytes : Text} {prepared : List ℕ} {node : ℕ} {r : Node} {mode : Mo
       let s = shown-match read e in
       its-lens (match a (s .child)) (s .tree-is) (rw (reading-match mode a (s .child) text) (w .writes (s .child) (s .at-child)))
 
-  pub emits-union :
-      {a b arm : ℕ}
-      → r .kind ≡ LensUnion a b
-      → ArmIs prepared a b (sideFor mode) text arm
-      → Emits bytes arm mode text before after answer
-      → Emits bytes node mode text before after answer
-  emits-union {a} {b} {arm} e arm-is w =
-      its-lens (union (s .left) (s .right)) (s .tree-is) (go (matches (language (modeSide mode) (s .left)) text) refl)
-    where
-      s : TwoLenses (trees bytes) node a b (λ l m. lens (union l m))
-      s = shown-union read e
+-- the arm of a union that the path goes by, where the arms' positions are told apart by the left one's automaton
+module _
+    {bytes : Text}
+    {prepared : List ℕ}
+    {node left right : ℕ}
+    {base : ℕ}
+    {path : List ℕ}
+    {text : Text}
+    {a : Automaton}
+    (mode : Mode)
+    (known : LensNode bytes prepared node)
+    (s : TwoLenses (trees bytes) node left right (λ l m. lens (union l m)))
+    (parsed : Parsed bytes node (modeSide mode) base path text)
+    (a-is : a ≡ automatonAt prepared left (sideFor mode)) where
+  -- the automaton is that of the left arm's language
+  described : Describes (language (modeSide mode) (s .left)) a prepared
+  described = rw a-is (describes-lens (left-below known s) mode (s .left) (s .at-left))
 
-      is-arm : arm ≡ cond (matches (language (modeSide mode) (s .left)) text) a b
-      is-arm =
-          arm-is .arm-is
-          (language (modeSide mode) (s .left))
-          (describes-lens (left-below known s) mode (s .left) (s .at-left))
+  -- the right arm's positions begin where the left one's end
+  begins : base + a .count ≡ base + positions (language (modeSide mode) (s .left))
+  begins = ap (λ n. base + n) (described .count-is)
 
-      go : (in-left : Bool) → matches (language (modeSide mode) (s .left)) text ≡ in-left → Writes (reading mode (union (s .left) (s .right)) text) before after answer
-      go true t =
-          rw
-          (reading-left mode (s .left) (s .right) text t)
-          (w .writes (s .left) (ap (treeAt (trees bytes)) (is-arm ∙ rw t) ∙ s .at-left))
-      go false t =
-          rw
-          (reading-right mode (s .left) (s .right) text t)
-          (w .writes (s .right) (ap (treeAt (trees bytes)) (is-arm ∙ rw t) ∙ s .at-right))
+  -- there are few of them
+  pub arm-few : base + a .count ≤ 128
+  arm-few = rw begins (union-few parsed s)
+
+  module _ {goes-left : Bool} (told : goes-left ≡ goesLeft (base + a .count) (a .nullable) path) where
+    pub left-parsed : goes-left ≡ true → Parsed bytes left (modeSide mode) base path text
+    left-parsed e = union-left parsed s begins (described .nullable-is) (sym told ∙ e)
+
+    pub right-parsed : goes-left ≡ false → Parsed bytes right (modeSide mode) (base + a .count) path text
+    right-parsed e = union-right parsed s begins (described .nullable-is) (sym told ∙ e)
+
+    module _ {before after : Text} {answer : Wrote} where
+      pub emits-left : goes-left ≡ true → Emits bytes left mode text before after answer → Emits bytes node mode text before after answer
+      emits-left e w =
+          its-lens
+          (union (s .left) (s .right))
+          (s .tree-is)
+          (rw
+          (reading-left mode (s .left) (s .right) text (union-in-left parsed s begins (described .nullable-is) (sym told ∙ e)))
+          (w .writes (s .left) (s .at-left)))
+
+      pub emits-right : goes-left ≡ false → Emits bytes right mode text before after answer → Emits bytes node mode text before after answer
+      emits-right e w =
+          its-lens
+          (union (s .left) (s .right))
+          (s .tree-is)
+          (rw
+          (reading-right mode (s .left) (s .right) text (union-not-left parsed s begins (described .nullable-is) (sym told ∙ e)))
+          (w .writes (s .right) (s .at-right)))
 
 -- ---- A text behind another
 
@@ -142,71 +181,84 @@ pub sum-within :
     → n + m ≤ length after
 sum-within {n} after rest h k kept = omega (arith, h, k, kept, ap length (rest-lent after n), length-drop n after)
 
--- a part of a text is no longer than the text
-pub shorter : (n o : ℕ) (t : Text) {most : ℕ} → length t < most → length (take n (drop o t)) < most
-shorter n o t h = simp (length-take, length-drop) (omega arith)
-
 -- the two halves of a text, the second directly behind what the first gave
 module _
     {bytes : Text}
     {prepared : List ℕ}
-    {left right i : ℕ}
-    {mode : Mode}
-    {a b : Automaton}
-    {text flags flags′ before after : Text}
-    {answer : Wrote}
-    (known-left : LensNode bytes prepared left)
-    (known-right : LensNode bytes prepared right)
-    (a-is : a ≡ automatonAt prepared left (sideFor mode))
-    (b-is : b ≡ automatonAt prepared right (sideFor mode))
-    (cut : CutAt prepared a b text flags flags′ i)
-    (first : Emits bytes left mode (take (i - 0) text) before after answer)
-  where
+    {left right base : ℕ}
+    {path : List ℕ}
+    {text : Text}
+    {a : Automaton}
+    (mode : Mode)
+    (known : LensNode bytes prepared left)
+    (parsed : ParsedJoin bytes left right (modeSide mode) base path text)
+    (a-is : a ≡ automatonAt prepared left (sideFor mode)) where
+  -- the right half's positions begin where the left one's end
+  half-begins : base + a .count ≡ base + positions (language (modeSide mode) (parsed .first))
+  half-begins =
+      let first : Describes (language (modeSide mode) (parsed .first)) a prepared = rw a-is (describes-lens known mode (parsed .first) (parsed .at-left)) in
+      ap (λ n. base + n) (first .count-is)
+
+  -- there are few of them
+  pub half-few : base + a .count ≤ 128
+  half-few = rw half-begins (border-few parsed)
+
+  module _ {i : ℕ} (i-is : i ≡ border (base + a .count) path) where
+    -- the halves are within text and path, and parsed
+    pub half-inside : (i ≤ length text) × (i ≤ length path)
+    half-inside = (border-inside parsed half-begins i-is, omega (arith, border-inside parsed half-begins i-is, join-length parsed))
+
+    pub left-half : Parsed bytes left (modeSide mode) base (take (i - 0) path) (take (i - 0) text)
+    left-half = border-left-lent parsed half-begins i-is
+
+    pub right-half :
+        Parsed bytes right (modeSide mode) (base + a .count) (take (length path - i) (drop i path)) (take (length text - i) (drop i text))
+    right-half = border-right-lent parsed half-begins i-is
+
+    -- what they give together is what the join gives
     halves :
         (l m : Lens)
         → treeAt (trees bytes) left ≡ lens l
         → treeAt (trees bytes) right ≡ lens m
         → reading mode (join l m) text ≡ reading mode l (take i text) ++ reading mode m (drop i text)
     halves l m e f =
-        reading-join mode l m text i
-        (cut .place-is
-        (language (modeSide mode) l)
-        (language (modeSide mode) m)
-        (rw a-is (describes-lens known-left mode l e))
-        (rw b-is (describes-lens known-right mode m f)))
+        let l-is : parsed .first ≡ l = same-lens (parsed .first) l (sym (parsed .at-left) ∙ e) in
+        let m-is : parsed .second ≡ m = same-lens (parsed .second) m (sym (parsed .at-right) ∙ f) in
+        reading-join mode l m text i (rw (← l-is, ← m-is) (border-is-cut parsed half-begins i-is))
 
-    left-written : (l : Lens) → treeAt (trees bytes) left ≡ lens l → Writes (reading mode l (take i text)) before after answer
-    left-written l e = rw sub-zero at (first .writes l e)
+    module _ {before after : Text} {answer : Wrote} (first : Emits bytes left mode (take (i - 0) text) before after answer) where
+      left-written : (l : Lens) → treeAt (trees bytes) left ≡ lens l → Writes (reading mode l (take i text)) before after answer
+      left-written l e = rw sub-zero at (first .writes l e)
 
-    pub join-full : answer ≡ Full → EmitsJoin bytes left right mode text before after Full
-    join-full full =
-        record {
-          writes = λ l m e f.
-              rw (halves l m e f) (writes-full (reading mode l (take i text)) (reading mode m (drop i text)) before after (rw full at (left-written l e)));
-        }
+      pub join-full : answer ≡ Full → EmitsJoin bytes left right mode text before after Full
+      join-full full =
+          record {
+            writes = λ l m e f.
+                rw (halves l m e f) (writes-full (reading mode l (take i text)) (reading mode m (drop i text)) before after (rw full at (left-written l e)));
+          }
 
-    pub join-next :
-        {n : ℕ} {rest : Text} {answer′ : Wrote}
-        → answer ≡ Count n
-        → Emits bytes right mode (take (length text - i) (drop i text)) (take (length after - n) (drop n after)) rest answer′
-        → (w : Wrote)
-        → answer′ ≡ w
-        → EmitsJoin bytes left right mode text before (take n after ++ (rest ++ drop (length after - n) (drop n after))) (further n w)
-    join-next {n} {rest} {answer′} count second w w-is =
-        record {
-          writes = λ l m e f.
-              rw
-              (halves l m e f)
-              (writes-further
-              (reading mode l (take i text))
-              (reading mode m (drop i text))
-              before
-              after
-              rest
-              n
-              answer′
-              w
-              (rw count at (left-written l e))
-              (rw (rest-lent text i) at (second .writes m f))
-              w-is);
-        }
+      pub join-next :
+          {n : ℕ} {rest : Text} {answer′ : Wrote}
+          → answer ≡ Count n
+          → Emits bytes right mode (take (length text - i) (drop i text)) (take (length after - n) (drop n after)) rest answer′
+          → (w : Wrote)
+          → answer′ ≡ w
+          → EmitsJoin bytes left right mode text before (take n after ++ (rest ++ drop (length after - n) (drop n after))) (further n w)
+      join-next {n} {rest} {answer′} count second w w-is =
+          record {
+            writes = λ l m e f.
+                rw
+                (halves l m e f)
+                (writes-further
+                (reading mode l (take i text))
+                (reading mode m (drop i text))
+                before
+                after
+                rest
+                n
+                answer′
+                w
+                (rw count at (left-written l e))
+                (rw (rest-lent text i) at (second .writes m f))
+                w-is);
+          }

@@ -1,11 +1,10 @@
 -- What is read off a text at a node: the sheet of a source, or the key of a sheet.
 use mathlib.Core.Path.{_≡_}
 use mathlib.Core.List.{List}
-use mathlib.Core.Bool.{cond}
 use Prim.Native.Nat.{ℕ, _+_, _*_, _≤_, _<_}
 use lib.ListN.{length}
 use Rattle.semantics.specs.Text.{Text}
-use Rattle.semantics.specs.Pattern.{Pattern, word, In, matches}
+use Rattle.semantics.specs.Pattern.{word, In}
 use Rattle.semantics.specs.Lens.{Lens, join, language}
 use Rattle.semantics.specs.Lens.{Side as SideOf}
 use Rattle.semantics.specs.Table.{nodeCount, pattern, lens, treeAt, trees}
@@ -13,7 +12,7 @@ use Rattle.laws.specs.WellTyped.{WellTyped}
 use Rattle.table.specs.Rules.{AllSized}
 use Rattle.automaton.specs.declared.Side.{Side}
 use Rattle.automaton.specs.declared.Side.the-variants.{Source, Sheet}
-use Rattle.automaton.specs.Rows.{automatonAt, Room, Describes}
+use Rattle.automaton.specs.Rows.{automatonAt, Room}
 use Rattle.automaton.specs.Built.{Built}
 use Rattle.lens.specs.declared.Mode.{Mode}
 use Rattle.lens.specs.declared.Mode.the-variants.{Get, Key}
@@ -30,10 +29,6 @@ sideFor Key = Sheet
 pub record Prepared (prepared : List ℕ) (node : ℕ) (side : Side) : Type 0 where
   pub words : 16 * node + 16 ≤ length prepared
   pub room : Room (automatonAt prepared node side) prepared
-
--- The arm is the left one if the text belongs to it, otherwise the right.
-pub record ArmIs (prepared : List ℕ) (left right : ℕ) (side : Side) (text : Text) (arm : ℕ) : Type 0 where
-  pub arm-is : (r : Pattern) → Describes r (automatonAt prepared left side) prepared → arm ≡ cond (matches r text) left right
 
 -- The node is one of a prepared program's, and a lens.
 pub record LensNode (bytes : Text) (prepared : List ℕ) (node : ℕ) : Type 0 where

@@ -11,7 +11,7 @@ use borrow.Author.Tests.{eqb-true, ltb-true}
 use types.Run.{OneOf, miss}
 use denote.Enum.Declared.{tagOf}
 use Rattle.semantics.specs.Text.{Text}
-use Rattle.semantics.specs.Pattern.{Pattern, word, range, concat, alt, star, matches}
+use Rattle.semantics.specs.Pattern.{word, range, concat, alt, star}
 use Rattle.semantics.specs.Lens.{Lens, copy, key, join, union, repeat, match, language}
 use Rattle.semantics.specs.Table.{at, nodeCount, pool, Tree, pattern, lens, broken, treeAt, trees}
 use Rattle.table.specs.declared.Kind.{Kind}
@@ -21,14 +21,13 @@ use Rattle.table.specs.Prepared.{OnePattern, OneLens, TwoLenses, ConstParts, Wo
 use Rattle.table.specs.Rules.{AllSized, NodeRead}
 use Rattle.table.proofs.Kind.{the-type}
 use Rattle.table.proofs.RightSizes.{Right, right-of}
-use Rattle.automaton.specs.declared.Automaton.{Automaton}
 use Rattle.automaton.specs.declared.Side.{Side}
 use Rattle.automaton.specs.Rows.{sideOf, automatonAt, Describes}
 use Rattle.automaton.specs.Built.{Built, treeLanguage}
 use Rattle.lens.specs.declared.Mode.{Mode}
 use Rattle.lens.specs.declared.Mode.the-variants.{Get, Key as KeyMode}
 use Rattle.lens.specs.Reading.{modeSide}
-use Rattle.lens.specs.Emitting.{sideFor, Prepared, ArmIs, WordNode, WordIs, LensNode}
+use Rattle.lens.specs.Emitting.{sideFor, Prepared, WordNode, WordIs, LensNode}
 
 -- a tree is one lens, and a word's has one text
 pub same-lens : (l m : Lens) → lens l ≡ lens m → l ≡ m
@@ -219,28 +218,3 @@ module _ {bytes : Text} {prepared : List ℕ} {node : ℕ} (known : LensNode byt
 
   pub sheet-below : {a b c : ℕ} → ConstParts (trees bytes) node a b c → WordNode bytes prepared b
   sheet-below s = word-below known (s .sheet-word) (s .sheet-lower) (s .at-sheet)
-
-  -- the arm that is read is a lower node, and a lens
-  pub arm-below :
-      (mode : Mode) {a b arm : ℕ} {text : Text} {make : Lens → Lens → Tree}
-      → TwoLenses (trees bytes) node a b make
-      → ArmIs prepared a b (sideFor mode) text arm
-      → (arm < node) × LensNode bytes prepared arm
-  arm-below mode {a} {b} {text} s arm = rw (arm .arm-is r (describes-lens (left-below s) mode (s .left) (s .at-left))) (go (matches r text))
-    where
-      r : Pattern
-      r = language (modeSide mode) (s .left)
-
-      go : (in-left : Bool) → (cond in-left a b < node) × LensNode bytes prepared (cond in-left a b)
-      go true = (s .left-lower, left-below s)
-      go false = (s .right-lower, right-below s)
-
--- the arm by the answer of the test
-pub arm-chosen : {prepared : List ℕ} {left right : ℕ} {side : Side} {text : Text} {a : Automaton} {in-left : Bool}
-    → ((r : Pattern) → Describes r a prepared → in-left ≡ matches r text)
-    → a ≡ automatonAt prepared left side
-    → (b : Bool)
-    → in-left ≡ b
-    → ArmIs prepared left right side text (cond b left right)
-arm-chosen {prepared} {left} {right} {text} told a-is b e =
-    record { arm-is = λ r d. ap (λ t. cond t left right) (sym e ∙ told r (rw a-is d)) }

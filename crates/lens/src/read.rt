@@ -1,26 +1,27 @@
 // What is read off a text at a node: the sheet of a source, or the key of a sheet.
 use crate::Mode;
 use crate::Wrote;
-use crate::cuts::cut_at;
-use crate::cuts::first_part;
 use crate::texts::write_text;
 use automaton::Automaton;
 use automaton::Side;
 use automaton::automaton_of;
-use language::belongs;
-use language::suffixes;
+use paths::border;
+use paths::find_path;
+use paths::first_loop;
+use paths::goes_left;
 use table::Kind;
 use table::Table;
 ghost use mathlib.Core.Path.{_≡_};
-ghost use Prim.Native.Nat.{_<_};
+ghost use Prim.Native.Nat.{_+_, _*_, _/_, _≤_, _<_};
 ghost use lib.ListN.{length};
 ghost use Rattle.semantics.specs.Table.{trees, lens};
 ghost use Rattle.semantics.specs.Lens.{repeat};
 ghost use Rattle.table.specs.Prepared.{OneLens};
 ghost use Rattle.automaton.specs.Rows.{automatonAt};
 ghost use Rattle.lens.specs.Overlay.{Writes};
-ghost use Rattle.lens.specs.Reading.{copied};
-ghost use Rattle.lens.specs.Emitting.{sideFor, Prepared, ArmIs, WordNode, WordIs, LensNode, Emits, EmitsJoin};
+ghost use Rattle.lens.specs.Reading.{modeSide, copied};
+ghost use Rattle.lens.specs.Emitting.{sideFor, Prepared, WordNode, WordIs, LensNode, Fits, Emits, EmitsJoin};
+ghost use Rattle.lens.specs.Parsed.{Parsed, ParsedJoin};
 
 // The side of the text that is read.
 fn side_of(mode: Mode) -> Side
@@ -38,18 +39,6 @@ fn automaton_for(prepared: &[u64], node: usize, mode: Mode) -> Automaton
     ensures { λ r. ⌜ r ≡ automatonAt (now (prepared .entry)) node (sideFor mode) ⌝ }
 {
     automaton_of(prepared, node, side_of(mode))
-}
-
-// The left arm of a union if the text belongs to it on that side, otherwise the right.
-pub fn arm_of(prepared: &[u64], left: usize, right: usize, side: Side, text: &[u8]) -> usize
-    requires { ⌜ Prepared (now prepared) left side ⌝ }
-    ensures { λ r. ⌜ ArmIs (now (prepared .entry)) left right side (now (text .entry)) r ⌝ }
-{
-    let a = automaton_of(prepared, left, side);
-    if belongs(prepared, a, text) {
-        return left;
-    }
-    right
 }
 
 // The bytes of a word, in the table's pool.
@@ -77,18 +66,20 @@ fn emit_copy(mode: Mode, text: &[u8], out: &mut [u8]) -> Wrote
     }
 }
 
-// What is read off a text at a node, written from the buffer's first byte on.
+// What is read off a text at a node, written from the buffer's first byte on. The path tells how the text is cut; the node's positions are numbered from
+// `base` on.
 pub fn emit(
     bytes: &[u8],
     prepared: &[u64],
     node: usize,
     mode: Mode,
+    base: usize,
     text: &[u8],
-    flags: &mut [u8],
+    path: &[u8],
     out: &mut [u8],
 ) -> Wrote
     requires { ⌜ LensNode (now bytes) (now prepared) node ⌝ }
-    requires { ⌜ length (now text) < length (now flags) ⌝ }
+    requires { ⌜ Parsed (now bytes) node (modeSide mode) base (now path) (now text) ⌝ }
     ensures { λ r. ⌜ Emits (now (bytes .entry)) node mode (now (text .entry)) (now (out .entry)) (now (out .exit)) r ⌝ }
 {
     let read = Table::node(bytes, prepared, node);
@@ -103,16 +94,20 @@ pub fn emit(
         Kind::Const { sheet, .. } => emit_copy(mode, word_of(bytes, prepared, sheet), out),
         Kind::Key { .. } => write_text(text, out),
         Kind::LensJoin { left, right } => {
-            emit_join(bytes, prepared, left, right, mode, text, flags, out)
+            emit_join(bytes, prepared, left, right, mode, base, text, path, out)
         }
         Kind::LensUnion { left, right } => {
-            let arm = arm_of(prepared, left, right, side_of(mode), text);
-            emit(bytes, prepared, arm, mode, text, flags, out)
+            let a = automaton_for(prepared, left, mode);
+            let n = base + a.count;
+            if goes_left(path, n, a.nullable) {
+                return emit(bytes, prepared, left, mode, base, text, path, out);
+            }
+            emit(bytes, prepared, right, mode, n, text, path, out)
         }
         Kind::LensRepeat { child } => {
-            emit_repeat(bytes, prepared, node, child, mode, text, flags, out)
+            emit_repeat(bytes, prepared, node, child, mode, base, text, path, out)
         }
-        Kind::Match { child } => emit(bytes, prepared, child, mode, text, flags, out),
+        Kind::Match { child } => emit(bytes, prepared, child, mode, base, text, path, out),
     }
 }
 
@@ -123,19 +118,29 @@ fn emit_join(
     left: usize,
     right: usize,
     mode: Mode,
+    base: usize,
     text: &[u8],
-    flags: &mut [u8],
+    path: &[u8],
     out: &mut [u8],
 ) -> Wrote
     requires { ⌜ LensNode (now bytes) (now prepared) left ⌝ }
     requires { ⌜ LensNode (now bytes) (now prepared) right ⌝ }
-    requires { ⌜ length (now text) < length (now flags) ⌝ }
+    requires { ⌜ ParsedJoin (now bytes) left right (modeSide mode) base (now path) (now text) ⌝ }
     ensures { λ r. ⌜ EmitsJoin (now (bytes .entry)) left right mode (now (text .entry)) (now (out .entry)) (now (out .exit)) r ⌝ }
 {
     let a = automaton_for(prepared, left, mode);
-    let b = automaton_for(prepared, right, mode);
-    let i = cut_at(prepared, a, b, text, flags);
-    let Wrote::Count(n) = emit(bytes, prepared, left, mode, &text[0..i], flags, out) else {
+    let mid = base + a.count;
+    let i = border(path, mid);
+    let Wrote::Count(n) = emit(
+        bytes,
+        prepared,
+        left,
+        mode,
+        base,
+        &text[0..i],
+        &path[0..i],
+        out,
+    ) else {
         return Wrote::Full;
     };
     let Wrote::Count(m) = emit(
@@ -143,8 +148,9 @@ fn emit_join(
         prepared,
         right,
         mode,
+        mid,
         &text[i..],
-        flags,
+        &path[i..],
         &mut out[n..],
     ) else {
         return Wrote::Full;
@@ -152,37 +158,40 @@ fn emit_join(
     Wrote::Count(n + m)
 }
 
-// The parts of a text, one by one, each directly behind the one before. The flags behind a part are kept for the next.
+// The parts of a text, one by one, each directly behind the one before.
 fn emit_repeat(
     bytes: &[u8],
     prepared: &[u64],
     node: usize,
     child: usize,
     mode: Mode,
+    base: usize,
     text: &[u8],
-    flags: &mut [u8],
+    path: &[u8],
     out: &mut [u8],
 ) -> Wrote
     requires { ⌜ LensNode (now bytes) (now prepared) node ⌝ }
     requires { ⌜ OneLens (trees (now bytes)) node child (λ l. lens (repeat l)) ⌝ }
-    requires { ⌜ length (now text) < length (now flags) ⌝ }
+    requires { ⌜ Parsed (now bytes) node (modeSide mode) base (now path) (now text) ⌝ }
     ensures { λ r. ⌜ Emits (now (bytes .entry)) node mode (now (text .entry)) (now (out .entry)) (now (out .exit)) r ⌝ }
 {
-    let whole = automaton_for(prepared, node, mode);
-    suffixes(prepared, whole, text, flags);
     let part = automaton_for(prepared, child, mode);
+    let ends = part.last;
+    let begins = part.first;
+    let last = ends.moved(base);
+    let first = begins.moved(base);
     let mut o = 0;
     let mut n = 0;
     while o < text.len() {
-        let end = o + first_part(prepared, part, &text[o..], &flags[o..]);
-        let past = end + 1;
+        let end = o + first_loop(&path[o..], last, first);
         let Wrote::Count(m) = emit(
             bytes,
             prepared,
             child,
             mode,
+            base,
             &text[o..end],
-            &mut flags[o..past],
+            &path[o..end],
             &mut out[n..],
         ) else {
             return Wrote::Full;
@@ -191,4 +200,28 @@ fn emit_repeat(
         n += m;
     }
     Wrote::Count(n)
+}
+
+// The same for a text that stands by itself, of a node that it belongs to: its path is found first, in the room that is lent.
+pub fn read_text(
+    bytes: &[u8],
+    prepared: &[u64],
+    node: usize,
+    mode: Mode,
+    text: &[u8],
+    marks: &mut [u64],
+    path: &mut [u8],
+    out: &mut [u8],
+) -> Wrote
+    requires { ⌜ LensNode (now bytes) (now prepared) node ⌝ }
+    requires { ⌜ Fits (now bytes) node (modeSide mode) (now text) ⌝ }
+    requires { ⌜ (length (now text) ≤ length (now path)) × (2 * ((length (now text) + 63) / 64) ≤ length (now marks)) × (length (now text) < 1048576) ⌝ }
+    ensures { λ r. ⌜ Emits (now (bytes .entry)) node mode (now (text .entry)) (now (out .entry)) (now (out .exit)) r ⌝ }
+{
+    let a = automaton_for(prepared, node, mode);
+    let n = text.len();
+    if !find_path(prepared, a, text, marks, &mut path[0..n]) {
+        return Wrote::Full;
+    }
+    emit(bytes, prepared, node, mode, 0, text, &path[0..n], out)
 }

@@ -1,5 +1,6 @@
 -- The proof of the cycle of calls {emit, emit_join, emit_repeat}: the node falls. `emit` at a node has the measure 2 * node + 1; between it and
--- the measures of lower nodes lie those of the join of two of them, and of the repeat that the node is. Assumes nothing.
+-- the measures of lower nodes lie those of the join of two of them, and of the repeat that the node is. In the loop of the repeat, what is
+-- written so far is what the parts so far give, and the rest is parsed. Assumes nothing.
 use Prim.Native.Nat.{ℕ, suc, _+_, _-_, _*_, _≤_, _<_, max}
 use native.Mathlib.Nat.{le-max-left, le-max-right, max-le, suc-max-suc}
 use native.Mathlib.Omega.{arith}
@@ -7,10 +8,55 @@ use borrow.Author.Needs.{needs}
 use lib.ListN.{length}
 use mathlib.Core.Path.{refl}
 use Rattle.lens.specs.declared.Wrote.the-variants.{Count, Full}
-use Rattle.lens.specs.Nodes.{lens-read, shown-const, shown-join, shown-union, shown-repeat, shown-match, node-prepared, child-below, left-below, right-below, sheet-below, arm-below}
-use Rattle.lens.proofs.Emission.{emits-copy, emits-const, emits-key, emits-join, emits-union, emits-match, emitted-within, emitted-length, sum-within, shorter, join-full, join-next}
-use Rattle.lens.proofs.Repeats.{Repeating, repeat-begins, repeat-ends, repeat-room, repeat-length, repeat-lends, part-within, part-flagged, repeat-full, repeat-next}
-use Rattle.lens.specs.Emitting.{sideFor}
+use Rattle.lens.specs.Nodes.{
+  lens-read,
+  shown-const,
+  shown-join,
+  shown-union,
+  shown-repeat,
+  shown-match,
+  node-prepared,
+  child-below,
+  left-below,
+  right-below,
+  sheet-below,
+}
+use Rattle.lens.specs.Parsed.{parsed-match, parsed-join}
+use Rattle.lens.proofs.Emission.{
+  emits-copy,
+  emits-const,
+  emits-key,
+  emits-join,
+  emits-match,
+  arm-few,
+  left-parsed,
+  right-parsed,
+  emits-left,
+  emits-right,
+  emitted-within,
+  emitted-length,
+  sum-within,
+  half-few,
+  half-inside,
+  left-half,
+  right-half,
+  join-full,
+  join-next,
+}
+use Rattle.lens.proofs.Repeats.{
+  Repeating,
+  repeat-begins,
+  repeat-ends,
+  repeat-room,
+  repeat-length,
+  path-within,
+  path-left,
+  part-moves,
+  part-within,
+  part-parsed,
+  repeat-full,
+  repeat-next,
+}
 use borrow.Fn.Kinds.{In}
 use borrow.Fn.PlainCycle.{Measures, is, falls, and}
 use Rattle.lens.proofs.read.emit.Reads as emit
@@ -22,15 +68,14 @@ use Rattle.lens.proofs.read.+emit+emit_join+emit_repeat.Lts-emit_join a
 use Rattle.lens.proofs.read.emit_repeat.Reads as emit-repeat
 use Rattle.lens.proofs.read.emit_repeat.Kinds as emit-repeat-kinds
 use Rattle.lens.proofs.read.+emit+emit_join+emit_repeat.Lts-emit_repeat as emit-repeat-lts
-use Rattle.language.proofs.suffixes.Reads as suffixes-reads
-use Rattle.lens.proofs.cuts.cut_at.Reads as cut-at-reads
-use Rattle.lens.proofs.cuts.first_part.Reads as first-part-reads
-use Rattle.lens.proofs.read.arm_of.Reads as arm-of-reads
 use Rattle.lens.proofs.read.automaton_for.Reads as automaton-for-reads
 use Rattle.lens.proofs.read.emit_copy.Reads as emit-copy-reads
-use Rattle.lens.proofs.read.side_of.Reads as side-of-reads
 use Rattle.lens.proofs.read.word_of.Reads as word-of-reads
 use Rattle.lens.proofs.texts.write_text.Reads as write-text-reads
+use Rattle.paths.proofs.border.Reads as border-reads
+use Rattle.paths.proofs.first_loop.Reads as first-loop-reads
+use Rattle.paths.proofs.goes_left.Reads as goes-left-reads
+use Rattle.positions.proofs.Set.moved.Reads as moved-reads
 use Rattle.table.proofs.Table.node.Reads as node-reads
 use Rattle.lens.proofs.read.+emit+emit_join+emit_repeat.{statement}
 use Rattle.lens.proofs.read.+emit+emit_join+emit_repeat.Tie.{close}
@@ -76,13 +121,13 @@ emit-repeat-below t =
     and 5 emit-repeat-kinds.ps (falls 5 emit-repeat-kinds.ps _<_ μ-emit-repeat t) emit-repeat.Pre
 
 abbrev emit-calls : ℕ → emit-lts.Claims
-emit-calls t = (node-reads.Asked, node-reads.Learnt, emit-copy-reads.Asked, emit-copy-reads.Learnt, word-of-reads.Asked, word-of-reads.Learnt, write-text-reads.Asked, write-text-reads.Learnt, emit-join-below t, emit-join.Post, side-of-reads.Asked, side-of-reads.Learnt, arm-of-reads.Asked, arm-of-reads.Learnt, emit-below t, emit.Post, emit-repeat-below t, emit-repeat.Post)
+emit-calls t = (node-reads.Asked, node-reads.Learnt, emit-copy-reads.Asked, emit-copy-reads.Learnt, word-of-reads.Asked, word-of-reads.Learnt, write-text-reads.Asked, write-text-reads.Learnt, emit-join-below t, emit-join.Post, automaton-for-reads.Asked, automaton-for-reads.Learnt, goes-left-reads.Asked, goes-left-reads.Learnt, emit-below t, emit.Post, emit-repeat-below t, emit-repeat.Post)
 
 abbrev emit-join-calls : ℕ → emit-join-lts.Claims
-emit-join-calls t = (automaton-for-reads.Asked, automaton-for-reads.Learnt, cut-at-reads.Asked, cut-at-reads.Learnt, emit-below t, emit.Post)
+emit-join-calls t = (automaton-for-reads.Asked, automaton-for-reads.Learnt, border-reads.Asked, border-reads.Learnt, emit-below t, emit.Post)
 
 abbrev emit-repeat-calls : ℕ → emit-repeat-lts.Claims
-emit-repeat-calls t = (automaton-for-reads.Asked, automaton-for-reads.Learnt, suffixes-reads.Asked, suffixes-reads.Learnt, first-part-reads.Asked, first-part-reads.Learnt, emit-below t, emit.Post)
+emit-repeat-calls t = (automaton-for-reads.Asked, automaton-for-reads.Learnt, moved-reads.Asked, moved-reads.Learnt, first-loop-reads.Asked, first-loop-reads.Learnt, emit-below t, emit.Post)
 
 emit-node-requires : (t : ℕ) → emit-lts.Need-node-requires (emit-calls t) (emit-at t) emit.Post
 emit-node-requires t c κs = search needs
@@ -131,84 +176,146 @@ emit-enum-known-kind-2 t c = search needs
 
 emit-emit-join-requires : (t : ℕ) → emit-lts.Need-emit-join-requires (emit-calls t) (emit-at t) emit.Post
 emit-emit-join-requires t c κs =
-    let at-kind2 = c .before .before .before in
+    let at-kind2 = c .before .before in
     let at-node = at-kind2 .before .before in
     let start = at-node .before .before .before .before .before .before in
-    let s = shown-join (at-node .node .ensures) (at-kind2 .kind2 .given .1) in (omega (arith, join-falls (s .left-lower) (s .right-lower), start .pre .0), (left-below (start .pre .1 .0) s, (right-below (start .pre .1 .0) s, start .pre .1 .1)))
+    let known = start .pre .1 .0 in
+    let s = shown-join (at-node .node .ensures) (at-kind2 .kind2 .given .1) in
+    let lower = join-falls (s .left-lower) (s .right-lower) in
+    (omega (arith, lower, start .pre .0), (left-below known s, (right-below known s, parsed-join (start .pre .1 .1) s)))
 
 emit-enum-known-kind-3 : (t : ℕ) → emit-lts.Need-enum-known-kind-3 (emit-calls t) (emit-at t) emit.Post
 emit-enum-known-kind-3 t c = search needs
 
-emit-side-of-requires : (t : ℕ) → emit-lts.Need-side-of-requires (emit-calls t) (emit-at t) emit.Post
-emit-side-of-requires t c κs = search needs
+emit-automaton-for-requires : (t : ℕ) → emit-lts.Need-automaton-for-requires (emit-calls t) (emit-at t) emit.Post
+emit-automaton-for-requires t c κs =
+    let at-node = c .before .before .before in
+    let start = at-node .before .before .before .before .before .before in
+    node-prepared (left-below (start .pre .1 .0) (shown-union (at-node .node .ensures) (c .before .kind3 .given .1))) _
 
-emit-arm-of-requires : (t : ℕ) → emit-lts.Need-arm-of-requires (emit-calls t) (emit-at t) emit.Post
-emit-arm-of-requires t c κs =
-    let at-kind3 = c .before .before in
+emit-add-n : (t : ℕ) → emit-lts.Need-add-n (emit-calls t) (emit-at t) emit.Post
+emit-add-n t c =
+    let at-kind3 = c .before .before .before in
     let at-node = at-kind3 .before .before in
     let start = at-node .before .before .before .before .before .before in
-    node-prepared (left-below (start .pre .1 .0) (shown-union (at-node .node .ensures) (at-kind3 .kind3 .given .1))) _
+    let known = start .pre .1 .0 in
+    let s = shown-union (at-node .node .ensures) (at-kind3 .kind3 .given .1) in
+    let a-is = c .before .automaton-for .ensures in
+    omega (arith, arm-few (start .args .mode) known s (start .pre .1 .1) a-is)
+
+emit-goes-left-requires : (t : ℕ) → emit-lts.Need-goes-left-requires (emit-calls t) (emit-at t) emit.Post
+emit-goes-left-requires t c κs = search needs
 
 emit-emit-requires : (t : ℕ) → emit-lts.Need-emit-requires (emit-calls t) (emit-at t) emit.Post
 emit-emit-requires t c κs =
-    let at-arm-of = c .before .before in
-    let at-side-of = at-arm-of .before in
-    let at-kind3 = at-side-of .before .before in
+    let at-goes-left = c .before .before in
+    let at-automaton-for = at-goes-left .before .before in
+    let at-kind3 = at-automaton-for .before .before in
     let at-node = at-kind3 .before .before in
     let start = at-node .before .before .before .before .before .before in
-    let below = arm-below (start .pre .1 .0) (start .args .mode) (shown-union (at-node .node .ensures) (at-kind3 .kind3 .given .1)) (rw (at-side-of .side-of .ensures) at (at-arm-of .arm-of .ensures)) in (omega (arith, below .0, start .pre .0), (below .1, start .pre .1 .1))
+    let known = start .pre .1 .0 in
+    let s = shown-union (at-node .node .ensures) (at-kind3 .kind3 .given .1) in
+    let a-is = at-automaton-for .automaton-for .ensures in
+    let parsed = left-parsed (start .args .mode) known s (start .pre .1 .1) a-is (at-goes-left .goes-left .ensures) (c .before .if1 .taken) in
+    (omega (arith, s .left-lower, start .pre .0), (left-below known s, parsed))
+
+emit-same-length : (t : ℕ) → emit-lts.Need-same-length (emit-calls t) (emit-at t) emit.Post
+emit-same-length t c = search needs
+
+emit-returns : (t : ℕ) → emit-lts.Need-returns (emit-calls t) (emit-at t) emit.Post
+emit-returns t c =
+    let at-emit = c .before .before in
+    let at-if1 = at-emit .before .before in
+    let at-goes-left = at-if1 .before in
+    let at-automaton-for = at-goes-left .before .before in
+    let at-kind3 = at-automaton-for .before .before in
+    let at-node = at-kind3 .before .before in
+    let start = at-node .before .before .before .before .before .before in
+    let known = start .pre .1 .0 in
+    let s = shown-union (at-node .node .ensures) (at-kind3 .kind3 .given .1) in
+    let a-is = at-automaton-for .automaton-for .ensures in
+    emits-left (start .args .mode) known s (start .pre .1 .1) a-is (at-goes-left .goes-left .ensures) (at-if1 .if1 .taken) (at-emit .emit .ensures)
+
+emit-emit-requires-2 : (t : ℕ) → emit-lts.Need-emit-requires-2 (emit-calls t) (emit-at t) emit.Post
+emit-emit-requires-2 t c κs =
+    let at-goes-left = c .before .before in
+    let at-automaton-for = at-goes-left .before .before in
+    let at-kind3 = at-automaton-for .before .before in
+    let at-node = at-kind3 .before .before in
+    let start = at-node .before .before .before .before .before .before in
+    let known = start .pre .1 .0 in
+    let s = shown-union (at-node .node .ensures) (at-kind3 .kind3 .given .1) in
+    let a-is = at-automaton-for .automaton-for .ensures in
+    let parsed = right-parsed (start .args .mode) known s (start .pre .1 .1) a-is (at-goes-left .goes-left .ensures) (c .before .if1 .left) in
+    (omega (arith, s .right-lower, start .pre .0), (right-below known s, parsed))
 
 emit-enum-known-kind-4 : (t : ℕ) → emit-lts.Need-enum-known-kind-4 (emit-calls t) (emit-at t) emit.Post
 emit-enum-known-kind-4 t c = search needs
 
 emit-emit-repeat-requires : (t : ℕ) → emit-lts.Need-emit-repeat-requires (emit-calls t) (emit-at t) emit.Post
 emit-emit-repeat-requires t c κs =
-    let at-kind4 = c .before .before .before in
+    let at-kind4 = c .before .before in
     let at-node = at-kind4 .before .before in
     let start = at-node .before .before .before .before .before .before in
-    (omega (arith, start .pre .0), ((start .pre .1 .0), (shown-repeat (at-node .node .ensures) (at-kind4 .kind4 .given .1), start .pre .1 .1)))
+    (omega (arith, start .pre .0), (start .pre .1 .0, (shown-repeat (at-node .node .ensures) (at-kind4 .kind4 .given .1), start .pre .1 .1)))
 
 emit-enum-known-kind-5 : (t : ℕ) → emit-lts.Need-enum-known-kind-5 (emit-calls t) (emit-at t) emit.Post
 emit-enum-known-kind-5 t c = search needs
 
-emit-emit-requires-2 : (t : ℕ) → emit-lts.Need-emit-requires-2 (emit-calls t) (emit-at t) emit.Post
-emit-emit-requires-2 t c κs =
-    let at-kind5 = c .before .before .before in
+emit-emit-requires-3 : (t : ℕ) → emit-lts.Need-emit-requires-3 (emit-calls t) (emit-at t) emit.Post
+emit-emit-requires-3 t c κs =
+    let at-kind5 = c .before .before in
     let at-node = at-kind5 .before .before in
     let start = at-node .before .before .before .before .before .before in
-    let s = shown-match (at-node .node .ensures) (at-kind5 .kind5 .given .1) in (omega (arith, s .lower, start .pre .0), (child-below (start .pre .1 .0) s, start .pre .1 .1))
-
-emit-returns : (t : ℕ) → emit-lts.Need-returns (emit-calls t) (emit-at t) emit.Post
-emit-returns t c = lens-read _ (c .before .before .before .before .before .before .before .before .pre .1 .0) (c .before .before .node .ensures) (c .enum-told .given .1) refl
+    let s = shown-match (at-node .node .ensures) (at-kind5 .kind5 .given .1) in
+    (omega (arith, s .lower, start .pre .0), (child-below (start .pre .1 .0) s, parsed-match (start .pre .1 .1) s))
 
 emit-returns-2 : (t : ℕ) → emit-lts.Need-returns-2 (emit-calls t) (emit-at t) emit.Post
-emit-returns-2 t c = lens-read _ (c .before .before .before .before .before .before .before .before .pre .1 .0) (c .before .before .node .ensures) (c .enum-told2 .given .1) refl
+emit-returns-2 t c =
+    let at-node = c .before .before in
+    let start = at-node .before .before .before .before .before .before in
+    lens-read _ (start .pre .1 .0) (at-node .node .ensures) (c .enum-told .given .1) refl
 
 emit-returns-3 : (t : ℕ) → emit-lts.Need-returns-3 (emit-calls t) (emit-at t) emit.Post
-emit-returns-3 t c = lens-read _ (c .before .before .before .before .before .before .before .before .pre .1 .0) (c .before .before .node .ensures) (c .enum-told3 .given .1) refl
+emit-returns-3 t c =
+    let at-node = c .before .before in
+    let start = at-node .before .before .before .before .before .before in
+    lens-read _ (start .pre .1 .0) (at-node .node .ensures) (c .enum-told2 .given .1) refl
 
 emit-returns-4 : (t : ℕ) → emit-lts.Need-returns-4 (emit-calls t) (emit-at t) emit.Post
-emit-returns-4 t c = lens-read _ (c .before .before .before .before .before .before .before .before .pre .1 .0) (c .before .before .node .ensures) (c .enum-told4 .given .1) refl
+emit-returns-4 t c =
+    let at-node = c .before .before in
+    let start = at-node .before .before .before .before .before .before in
+    lens-read _ (start .pre .1 .0) (at-node .node .ensures) (c .enum-told3 .given .1) refl
 
 emit-returns-5 : (t : ℕ) → emit-lts.Need-returns-5 (emit-calls t) (emit-at t) emit.Post
-emit-returns-5 t c = lens-read _ (c .before .before .before .before .before .before .before .before .pre .1 .0) (c .before .before .node .ensures) (c .enum-told5 .given .1) refl
-
-emit-same-length : (t : ℕ) → emit-lts.Need-same-length (emit-calls t) (emit-at t) emit.Post
-emit-same-length t c = search needs
+emit-returns-5 t c =
+    let at-node = c .before .before in
+    let start = at-node .before .before .before .before .before .before in
+    lens-read _ (start .pre .1 .0) (at-node .node .ensures) (c .enum-told4 .given .1) refl
 
 emit-returns-6 : (t : ℕ) → emit-lts.Need-returns-6 (emit-calls t) (emit-at t) emit.Post
 emit-returns-6 t c =
-    let at-emit-copy = c .before .before in
-    let at-enum-told6 = at-emit-copy .before .before in
-    let at-node = at-enum-told6 .before .before in
+    let at-node = c .before .before in
     let start = at-node .before .before .before .before .before .before in
-    emits-copy (start .pre .1 .0) (at-node .node .ensures) (at-enum-told6 .enum-told6 .given .1) (at-emit-copy .emit-copy .ensures)
+    lens-read _ (start .pre .1 .0) (at-node .node .ensures) (c .enum-told5 .given .1) refl
 
 emit-same-length-2 : (t : ℕ) → emit-lts.Need-same-length-2 (emit-calls t) (emit-at t) emit.Post
 emit-same-length-2 t c = search needs
 
 emit-returns-7 : (t : ℕ) → emit-lts.Need-returns-7 (emit-calls t) (emit-at t) emit.Post
 emit-returns-7 t c =
+    let at-emit-copy = c .before .before in
+    let at-enum-told6 = at-emit-copy .before .before in
+    let at-node = at-enum-told6 .before .before in
+    let start = at-node .before .before .before .before .before .before in
+    emits-copy (start .pre .1 .0) (at-node .node .ensures) (at-enum-told6 .enum-told6 .given .1) (at-emit-copy .emit-copy .ensures)
+
+emit-same-length-3 : (t : ℕ) → emit-lts.Need-same-length-3 (emit-calls t) (emit-at t) emit.Post
+emit-same-length-3 t c = search needs
+
+emit-returns-8 : (t : ℕ) → emit-lts.Need-returns-8 (emit-calls t) (emit-at t) emit.Post
+emit-returns-8 t c =
     let at-emit-copy2 = c .before .before in
     let at-word-of = at-emit-copy2 .before .before in
     let at-kind = at-word-of .before .before in
@@ -216,27 +323,24 @@ emit-returns-7 t c =
     let start = at-node .before .before .before .before .before .before in
     emits-const (start .pre .1 .0) (at-node .node .ensures) (at-kind .kind .given .1) (at-word-of .word-of .ensures) (at-emit-copy2 .emit-copy2 .ensures)
 
-emit-same-length-3 : (t : ℕ) → emit-lts.Need-same-length-3 (emit-calls t) (emit-at t) emit.Post
-emit-same-length-3 t c = search needs
+emit-same-length-4 : (t : ℕ) → emit-lts.Need-same-length-4 (emit-calls t) (emit-at t) emit.Post
+emit-same-length-4 t c = search needs
 
-emit-returns-8 : (t : ℕ) → emit-lts.Need-returns-8 (emit-calls t) (emit-at t) emit.Post
-emit-returns-8 t c =
+emit-returns-9 : (t : ℕ) → emit-lts.Need-returns-9 (emit-calls t) (emit-at t) emit.Post
+emit-returns-9 t c =
     let at-write-text = c .before .before in
     let at-enum-told7 = at-write-text .before .before in
     let at-node = at-enum-told7 .before .before in
     let start = at-node .before .before .before .before .before .before in
     emits-key (start .pre .1 .0) (at-node .node .ensures) (at-enum-told7 .enum-told7 .given .1) (at-write-text .write-text .ensures)
 
-emit-same-length-4 : (t : ℕ) → emit-lts.Need-same-length-4 (emit-calls t) (emit-at t) emit.Post
-emit-same-length-4 t c = search needs
-
 emit-same-length-5 : (t : ℕ) → emit-lts.Need-same-length-5 (emit-calls t) (emit-at t) emit.Post
 emit-same-length-5 t c = search needs
 
-emit-returns-9 : (t : ℕ) → emit-lts.Need-returns-9 (emit-calls t) (emit-at t) emit.Post
-emit-returns-9 t c =
-    let at-emit-join = c .before .before .before .before in
-    let at-kind2 = at-emit-join .before .before .before .before in
+emit-returns-10 : (t : ℕ) → emit-lts.Need-returns-10 (emit-calls t) (emit-at t) emit.Post
+emit-returns-10 t c =
+    let at-emit-join = c .before .before in
+    let at-kind2 = at-emit-join .before .before .before in
     let at-node = at-kind2 .before .before in
     let start = at-node .before .before .before .before .before .before in
     emits-join (start .pre .1 .0) (at-node .node .ensures) (at-kind2 .kind2 .given .1) (at-emit-join .emit-join .ensures)
@@ -244,53 +348,47 @@ emit-returns-9 t c =
 emit-same-length-6 : (t : ℕ) → emit-lts.Need-same-length-6 (emit-calls t) (emit-at t) emit.Post
 emit-same-length-6 t c = search needs
 
+emit-returns-11 : (t : ℕ) → emit-lts.Need-returns-11 (emit-calls t) (emit-at t) emit.Post
+emit-returns-11 t c =
+    let at-emit2 = c .before .before in
+    let at-if1 = at-emit2 .before .before in
+    let at-goes-left = at-if1 .before in
+    let at-automaton-for = at-goes-left .before .before in
+    let at-kind3 = at-automaton-for .before .before in
+    let at-node = at-kind3 .before .before in
+    let start = at-node .before .before .before .before .before .before in
+    let known = start .pre .1 .0 in
+    let s = shown-union (at-node .node .ensures) (at-kind3 .kind3 .given .1) in
+    let a-is = at-automaton-for .automaton-for .ensures in
+    emits-right (start .args .mode) known s (start .pre .1 .1) a-is (at-goes-left .goes-left .ensures) (at-if1 .if1 .left) (at-emit2 .emit2 .ensures)
+
 emit-same-length-7 : (t : ℕ) → emit-lts.Need-same-length-7 (emit-calls t) (emit-at t) emit.Post
 emit-same-length-7 t c = search needs
 
-emit-returns-10 : (t : ℕ) → emit-lts.Need-returns-10 (emit-calls t) (emit-at t) emit.Post
-emit-returns-10 t c =
-    let at-emit = c .before .before .before .before in
-    let at-arm-of = at-emit .before .before .before in
-    let at-side-of = at-arm-of .before in
-    let at-kind3 = at-side-of .before .before in
-    let at-node = at-kind3 .before .before in
-    let start = at-node .before .before .before .before .before .before in
-    emits-union (start .pre .1 .0) (at-node .node .ensures) (at-kind3 .kind3 .given .1) (rw (at-side-of .side-of .ensures) at (at-arm-of .arm-of .ensures)) (at-emit .emit .ensures)
+emit-returns-12 : (t : ℕ) → emit-lts.Need-returns-12 (emit-calls t) (emit-at t) emit.Post
+emit-returns-12 t c = search needs
 
 emit-same-length-8 : (t : ℕ) → emit-lts.Need-same-length-8 (emit-calls t) (emit-at t) emit.Post
 emit-same-length-8 t c = search needs
 
-emit-same-length-9 : (t : ℕ) → emit-lts.Need-same-length-9 (emit-calls t) (emit-at t) emit.Post
-emit-same-length-9 t c = search needs
-
-emit-returns-11 : (t : ℕ) → emit-lts.Need-returns-11 (emit-calls t) (emit-at t) emit.Post
-emit-returns-11 t c = search needs
-
-emit-same-length-10 : (t : ℕ) → emit-lts.Need-same-length-10 (emit-calls t) (emit-at t) emit.Post
-emit-same-length-10 t c = search needs
-
-emit-same-length-11 : (t : ℕ) → emit-lts.Need-same-length-11 (emit-calls t) (emit-at t) emit.Post
-emit-same-length-11 t c = search needs
-
-emit-returns-12 : (t : ℕ) → emit-lts.Need-returns-12 (emit-calls t) (emit-at t) emit.Post
-emit-returns-12 t c =
-    let at-emit2 = c .before .before .before .before in
-    let at-kind5 = at-emit2 .before .before .before .before in
+emit-returns-13 : (t : ℕ) → emit-lts.Need-returns-13 (emit-calls t) (emit-at t) emit.Post
+emit-returns-13 t c =
+    let at-emit3 = c .before .before in
+    let at-kind5 = at-emit3 .before .before .before in
     let at-node = at-kind5 .before .before in
     let start = at-node .before .before .before .before .before .before in
-    emits-match (start .pre .1 .0) (at-node .node .ensures) (at-kind5 .kind5 .given .1) (at-emit2 .emit2 .ensures)
+    emits-match (start .pre .1 .0) (at-node .node .ensures) (at-kind5 .kind5 .given .1) (at-emit3 .emit3 .ensures)
 
 emit-join-automaton-for-requires : (t : ℕ) → emit-join-lts.Need-automaton-for-requires (emit-join-calls t) (emit-join-at t) emit-join.Post
 emit-join-automaton-for-requires t c κs = node-prepared (c .before .before .before .before .before .pre .1 .0) _
 
-emit-join-automaton-for-requires-2 : (t : ℕ) → emit-join-lts.Need-automaton-for-requires-2 (emit-join-calls t) (emit-join-at t) emit-join.Post
-emit-join-automaton-for-requires-2 t c κs = node-prepared (c .before .before .before .before .before .before .pre .1 .1 .0) _
+emit-join-add-mid : (t : ℕ) → emit-join-lts.Need-add-mid (emit-join-calls t) (emit-join-at t) emit-join.Post
+emit-join-add-mid t c =
+    let start = c .before .before .before .before .before .before .before in
+    omega (arith, half-few (start .args .mode) (start .pre .1 .0) (start .pre .1 .1 .1) (c .before .automaton-for .ensures))
 
-emit-join-cut-at-requires : (t : ℕ) → emit-join-lts.Need-cut-at-requires (emit-join-calls t) (emit-join-at t) emit-join.Post
-emit-join-cut-at-requires t c κs =
-    let at-automaton-for = c .before .before in
-    let start = at-automaton-for .before .before .before .before .before .before in
-    (rw (at-automaton-for .automaton-for .ensures) ((node-prepared (start .pre .1 .0) (sideFor (start .args .mode))) .room), (rw (c .before .automaton-for2 .ensures) ((node-prepared (start .pre .1 .1 .0) (sideFor (start .args .mode))) .room), start .pre .1 .1 .1))
+emit-join-border-requires : (t : ℕ) → emit-join-lts.Need-border-requires (emit-join-calls t) (emit-join-at t) emit-join.Post
+emit-join-border-requires t c κs = search needs
 
 emit-join-sub-emit : (t : ℕ) → emit-join-lts.Need-sub-emit (emit-join-calls t) (emit-join-at t) emit-join.Post
 emit-join-sub-emit t c = search needs
@@ -299,13 +397,39 @@ emit-join-part-emit-start : (t : ℕ) → emit-join-lts.Need-part-emit-start (em
 emit-join-part-emit-start t c = search needs
 
 emit-join-part-emit-end : (t : ℕ) → emit-join-lts.Need-part-emit-end (emit-join-calls t) (emit-join-at t) emit-join.Post
-emit-join-part-emit-end t c = search needs
+emit-join-part-emit-end t c =
+    let at-automaton-for = c .before .before in
+    let start = at-automaton-for .before .before .before .before .before .before in
+    let known = start .pre .1 .0 in
+    let parsed = start .pre .1 .1 .1 in
+    let a-is = at-automaton-for .automaton-for .ensures in
+    (half-inside (start .args .mode) known parsed a-is (c .border .ensures)) .0
+
+emit-join-sub-emit-2 : (t : ℕ) → emit-join-lts.Need-sub-emit-2 (emit-join-calls t) (emit-join-at t) emit-join.Post
+emit-join-sub-emit-2 t c = search needs
+
+emit-join-part-emit-start-2 : (t : ℕ) → emit-join-lts.Need-part-emit-start-2 (emit-join-calls t) (emit-join-at t) emit-join.Post
+emit-join-part-emit-start-2 t c = search needs
+
+emit-join-part-emit-end-2 : (t : ℕ) → emit-join-lts.Need-part-emit-end-2 (emit-join-calls t) (emit-join-at t) emit-join.Post
+emit-join-part-emit-end-2 t c =
+    let at-automaton-for = c .before .before .before in
+    let start = at-automaton-for .before .before .before .before .before .before in
+    let known = start .pre .1 .0 in
+    let parsed = start .pre .1 .1 .1 in
+    let a-is = at-automaton-for .automaton-for .ensures in
+    (half-inside (start .args .mode) known parsed a-is (c .before .border .ensures)) .1
 
 emit-join-emit-requires : (t : ℕ) → emit-join-lts.Need-emit-requires (emit-join-calls t) (emit-join-at t) emit-join.Post
 emit-join-emit-requires t c κs =
-    let at-cut-at = c .before .before .before .before .before in
-    let start = at-cut-at .before .before .before .before .before .before .before .before .before in
-    (omega (arith, left-falls (start .args .left) (start .args .right), start .pre .0), ((start .pre .1 .0), shorter (at-cut-at .cut-at .result - 0) 0 (start .args .text .now) (omega (arith, start .pre .1 .1 .1, at-cut-at .cut-at .ensures .same-length))))
+    let at-border = c .before .before .before in
+    let at-automaton-for = at-border .before .before in
+    let start = at-automaton-for .before .before .before .before .before .before in
+    let known = start .pre .1 .0 in
+    let parsed = start .pre .1 .1 .1 in
+    let a-is = at-automaton-for .automaton-for .ensures in
+    let lower = left-falls (start .args .left) (start .args .right) in
+    (omega (arith, lower, start .pre .0), (known, left-half (start .args .mode) known parsed a-is (at-border .border .ensures)))
 
 emit-join-enum-known-n : (t : ℕ) → emit-join-lts.Need-enum-known-n (emit-join-calls t) (emit-join-at t) emit-join.Post
 emit-join-enum-known-n t c = search needs
@@ -316,50 +440,90 @@ emit-join-enum-told t c = search needs
 emit-join-same-length : (t : ℕ) → emit-join-lts.Need-same-length (emit-join-calls t) (emit-join-at t) emit-join.Post
 emit-join-same-length t c = search needs
 
-emit-join-same-length-2 : (t : ℕ) → emit-join-lts.Need-same-length-2 (emit-join-calls t) (emit-join-at t) emit-join.Post
-emit-join-same-length-2 t c = search needs
-
 emit-join-returns : (t : ℕ) → emit-join-lts.Need-returns (emit-join-calls t) (emit-join-at t) emit-join.Post
 emit-join-returns t c =
-    let at-emit = c .before .before .before .before .before .before in
-    let at-cut-at = at-emit .before .before .before .before .before .before in
-    let at-automaton-for2 = at-cut-at .before .before in
-    let at-automaton-for = at-automaton-for2 .before in
+    let at-emit = c .before .before .before .before in
+    let at-border = at-emit .before .before .before .before in
+    let at-automaton-for = at-border .before .before in
     let start = at-automaton-for .before .before .before .before .before .before in
-    join-full (start .pre .1 .0) (start .pre .1 .1 .0) (at-automaton-for .automaton-for .ensures) (at-automaton-for2 .automaton-for2 .ensures) (at-cut-at .cut-at .ensures) (at-emit .emit .ensures) (c .enum-told .given .1)
-
-emit-join-sub-emit-2 : (t : ℕ) → emit-join-lts.Need-sub-emit-2 (emit-join-calls t) (emit-join-at t) emit-join.Post
-emit-join-sub-emit-2 t c = search needs
-
-emit-join-part-emit-start-2 : (t : ℕ) → emit-join-lts.Need-part-emit-start-2 (emit-join-calls t) (emit-join-at t) emit-join.Post
-emit-join-part-emit-start-2 t c = search needs
-
-emit-join-part-emit-end-2 : (t : ℕ) → emit-join-lts.Need-part-emit-end-2 (emit-join-calls t) (emit-join-at t) emit-join.Post
-emit-join-part-emit-end-2 t c = search needs
+    let known = start .pre .1 .0 in
+    let parsed = start .pre .1 .1 .1 in
+    let a-is = at-automaton-for .automaton-for .ensures in
+    join-full (start .args .mode) known parsed a-is (at-border .border .ensures) (at-emit .emit .ensures) (c .enum-told .given .1)
 
 emit-join-sub-emit-3 : (t : ℕ) → emit-join-lts.Need-sub-emit-3 (emit-join-calls t) (emit-join-at t) emit-join.Post
 emit-join-sub-emit-3 t c =
-    let at-n = c .before .before .before in
-    let at-emit = at-n .before .before .before .before .before .before in
-    let start = at-emit .before .before .before .before .before .before .before .before .before .before .before .before .before .before .before in
-    emitted-within (start .pre .1 .0) (at-emit .emit .ensures) (at-n .n .given .1)
+    let at-border = c .before .before .before .before .before .before .before .before .before in
+    let at-automaton-for = at-border .before .before in
+    let start = at-automaton-for .before .before .before .before .before .before in
+    let known = start .pre .1 .0 in
+    let parsed = start .pre .1 .1 .1 in
+    let a-is = at-automaton-for .automaton-for .ensures in
+    (half-inside (start .args .mode) known parsed a-is (at-border .border .ensures)) .0
 
 emit-join-part-emit-start-3 : (t : ℕ) → emit-join-lts.Need-part-emit-start-3 (emit-join-calls t) (emit-join-at t) emit-join.Post
 emit-join-part-emit-start-3 t c =
-    let at-n = c .before .before .before in
-    let at-emit = at-n .before .before .before .before .before .before in
-    let start = at-emit .before .before .before .before .before .before .before .before .before .before .before .before .before .before .before in
-    emitted-within (start .pre .1 .0) (at-emit .emit .ensures) (at-n .n .given .1)
+    let at-border = c .before .before .before .before .before .before .before .before .before in
+    let at-automaton-for = at-border .before .before in
+    let start = at-automaton-for .before .before .before .before .before .before in
+    let known = start .pre .1 .0 in
+    let parsed = start .pre .1 .1 .1 in
+    let a-is = at-automaton-for .automaton-for .ensures in
+    (half-inside (start .args .mode) known parsed a-is (at-border .border .ensures)) .0
 
 emit-join-part-emit-end-3 : (t : ℕ) → emit-join-lts.Need-part-emit-end-3 (emit-join-calls t) (emit-join-at t) emit-join.Post
 emit-join-part-emit-end-3 t c = search needs
 
+emit-join-sub-emit-4 : (t : ℕ) → emit-join-lts.Need-sub-emit-4 (emit-join-calls t) (emit-join-at t) emit-join.Post
+emit-join-sub-emit-4 t c =
+    let at-border = c .before .before .before .before .before .before .before .before .before .before in
+    let at-automaton-for = at-border .before .before in
+    let start = at-automaton-for .before .before .before .before .before .before in
+    let known = start .pre .1 .0 in
+    let parsed = start .pre .1 .1 .1 in
+    let a-is = at-automaton-for .automaton-for .ensures in
+    (half-inside (start .args .mode) known parsed a-is (at-border .border .ensures)) .1
+
+emit-join-part-emit-start-4 : (t : ℕ) → emit-join-lts.Need-part-emit-start-4 (emit-join-calls t) (emit-join-at t) emit-join.Post
+emit-join-part-emit-start-4 t c =
+    let at-border = c .before .before .before .before .before .before .before .before .before .before in
+    let at-automaton-for = at-border .before .before in
+    let start = at-automaton-for .before .before .before .before .before .before in
+    let known = start .pre .1 .0 in
+    let parsed = start .pre .1 .1 .1 in
+    let a-is = at-automaton-for .automaton-for .ensures in
+    (half-inside (start .args .mode) known parsed a-is (at-border .border .ensures)) .1
+
+emit-join-part-emit-end-4 : (t : ℕ) → emit-join-lts.Need-part-emit-end-4 (emit-join-calls t) (emit-join-at t) emit-join.Post
+emit-join-part-emit-end-4 t c = search needs
+
+emit-join-sub-emit-5 : (t : ℕ) → emit-join-lts.Need-sub-emit-5 (emit-join-calls t) (emit-join-at t) emit-join.Post
+emit-join-sub-emit-5 t c =
+    let at-n = c .before .before .before in
+    let at-emit = at-n .before .before .before .before in
+    let start = at-emit .before .before .before .before .before .before .before .before .before .before .before .before in
+    emitted-within (start .pre .1 .0) (at-emit .emit .ensures) (at-n .n .given .1)
+
+emit-join-part-emit-start-5 : (t : ℕ) → emit-join-lts.Need-part-emit-start-5 (emit-join-calls t) (emit-join-at t) emit-join.Post
+emit-join-part-emit-start-5 t c =
+    let at-n = c .before .before .before in
+    let at-emit = at-n .before .before .before .before in
+    let start = at-emit .before .before .before .before .before .before .before .before .before .before .before .before in
+    emitted-within (start .pre .1 .0) (at-emit .emit .ensures) (at-n .n .given .1)
+
+emit-join-part-emit-end-5 : (t : ℕ) → emit-join-lts.Need-part-emit-end-5 (emit-join-calls t) (emit-join-at t) emit-join.Post
+emit-join-part-emit-end-5 t c = search needs
+
 emit-join-emit-requires-2 : (t : ℕ) → emit-join-lts.Need-emit-requires-2 (emit-join-calls t) (emit-join-at t) emit-join.Post
 emit-join-emit-requires-2 t c κs =
-    let at-emit = c .before .before .before .before .before .before .before .before .before .before in
-    let at-cut-at = at-emit .before .before .before .before .before .before in
-    let start = at-cut-at .before .before .before .before .before .before .before .before .before in
-    (omega (arith, right-falls (start .args .left) (start .args .right), start .pre .0), ((start .pre .1 .1 .0), shorter (length (start .args .text .now) - at-cut-at .cut-at .result) (at-cut-at .cut-at .result) (start .args .text .now) (omega (arith, start .pre .1 .1 .1, at-cut-at .cut-at .ensures .same-length, at-emit .emit .kept))))
+    let at-border = c .before .before .before .before .before .before .before .before .before .before .before .before in
+    let at-automaton-for = at-border .before .before in
+    let start = at-automaton-for .before .before .before .before .before .before in
+    let known = start .pre .1 .0 in
+    let parsed = start .pre .1 .1 .1 in
+    let a-is = at-automaton-for .automaton-for .ensures in
+    let lower = right-falls (start .args .left) (start .args .right) in
+    (omega (arith, lower, start .pre .0), (start .pre .1 .1 .0, right-half (start .args .mode) known parsed a-is (at-border .border .ensures)))
 
 emit-join-enum-known-m : (t : ℕ) → emit-join-lts.Need-enum-known-m (emit-join-calls t) (emit-join-at t) emit-join.Post
 emit-join-enum-known-m t c = search needs
@@ -367,115 +531,96 @@ emit-join-enum-known-m t c = search needs
 emit-join-enum-told-2 : (t : ℕ) → emit-join-lts.Need-enum-told-2 (emit-join-calls t) (emit-join-at t) emit-join.Post
 emit-join-enum-told-2 t c = search needs
 
-emit-join-same-length-3 : (t : ℕ) → emit-join-lts.Need-same-length-3 (emit-join-calls t) (emit-join-at t) emit-join.Post
-emit-join-same-length-3 t c = search needs
-
-emit-join-same-length-4 : (t : ℕ) → emit-join-lts.Need-same-length-4 (emit-join-calls t) (emit-join-at t) emit-join.Post
-emit-join-same-length-4 t c = search needs
+emit-join-same-length-2 : (t : ℕ) → emit-join-lts.Need-same-length-2 (emit-join-calls t) (emit-join-at t) emit-join.Post
+emit-join-same-length-2 t c = search needs
 
 emit-join-returns-2 : (t : ℕ) → emit-join-lts.Need-returns-2 (emit-join-calls t) (emit-join-at t) emit-join.Post
 emit-join-returns-2 t c =
-    let at-emit2 = c .before .before .before .before .before .before in
+    let at-emit2 = c .before .before .before .before in
     let at-n = at-emit2 .before .before .before .before .before in
-    let at-emit = at-n .before .before .before .before .before .before in
-    let at-cut-at = at-emit .before .before .before .before .before .before in
-    let at-automaton-for2 = at-cut-at .before .before in
-    let at-automaton-for = at-automaton-for2 .before in
+    let at-emit = at-n .before .before .before .before in
+    let at-border = at-emit .before .before .before .before in
+    let at-automaton-for = at-border .before .before in
     let start = at-automaton-for .before .before .before .before .before .before in
-    join-next (start .pre .1 .0) (start .pre .1 .1 .0) (at-automaton-for .automaton-for .ensures) (at-automaton-for2 .automaton-for2 .ensures) (at-cut-at .cut-at .ensures) (at-emit .emit .ensures) (at-n .n .given .1) (at-emit2 .emit2 .ensures) Full (c .enum-told2 .given .1)
+    let known = start .pre .1 .0 in
+    let parsed = start .pre .1 .1 .1 in
+    let a-is = at-automaton-for .automaton-for .ensures in
+    let first = at-emit .emit .ensures in
+    let second = at-emit2 .emit2 .ensures in
+    join-next (start .args .mode) known parsed a-is (at-border .border .ensures) first (at-n .n .given .1) second Full (c .enum-told2 .given .1)
 
-emit-join-add-t18 : (t : ℕ) → emit-join-lts.Need-add-t18 (emit-join-calls t) (emit-join-at t) emit-join.Post
-emit-join-add-t18 t c =
-    let at-emit2 = c .before .before .before .before .before .before .before in
+emit-join-add-t17 : (t : ℕ) → emit-join-lts.Need-add-t17 (emit-join-calls t) (emit-join-at t) emit-join.Post
+emit-join-add-t17 t c =
+    let at-emit2 = c .before .before .before .before .before in
     let at-n = at-emit2 .before .before .before .before .before in
-    let at-emit = at-n .before .before .before .before .before .before in
-    let start = at-emit .before .before .before .before .before .before .before .before .before .before .before .before .before .before .before in
-    omega (arith, sum-within (at-emit .emit .last .1 .1 .1 .1 .1 .1 .0) (at-emit2 .emit2 .last .1 .1 .1 .1 .1 .1 .0) (emitted-within (start .pre .1 .0) (at-emit .emit .ensures) (at-n .n .given .1)) (emitted-within (start .pre .1 .1 .0) (at-emit2 .emit2 .ensures) (c .before .m .given .1)) (at-emit2 .emit2 .kept .1 .1 .1 .1 .1 .1 .0), at-emit .emit .kept, start .good)
+    let at-emit = at-n .before .before .before .before in
+    let start = at-emit .before .before .before .before .before .before .before .before .before .before .before .before in
+    let first = emitted-within (start .pre .1 .0) (at-emit .emit .ensures) (at-n .n .given .1) in
+    let second = emitted-within (start .pre .1 .1 .0) (at-emit2 .emit2 .ensures) (c .before .m .given .1) in
+    let after = at-emit .emit .last .1 .1 .1 .1 .1 .1 .1 .0 in
+    let rest = at-emit2 .emit2 .last .1 .1 .1 .1 .1 .1 .1 .0 in
+    omega (arith, sum-within after rest first second (at-emit2 .emit2 .kept .1 .1 .1 .1 .1 .1 .1 .0), at-emit .emit .kept, start .good)
 
-emit-join-same-length-5 : (t : ℕ) → emit-join-lts.Need-same-length-5 (emit-join-calls t) (emit-join-at t) emit-join.Post
-emit-join-same-length-5 t c = search needs
-
-emit-join-same-length-6 : (t : ℕ) → emit-join-lts.Need-same-length-6 (emit-join-calls t) (emit-join-at t) emit-join.Post
-emit-join-same-length-6 t c = search needs
+emit-join-same-length-3 : (t : ℕ) → emit-join-lts.Need-same-length-3 (emit-join-calls t) (emit-join-at t) emit-join.Post
+emit-join-same-length-3 t c = search needs
 
 emit-join-returns-3 : (t : ℕ) → emit-join-lts.Need-returns-3 (emit-join-calls t) (emit-join-at t) emit-join.Post
 emit-join-returns-3 t c =
-    let at-emit2 = c .before .before .before .before .before .before .before in
+    let at-emit2 = c .before .before .before .before .before in
     let at-n = at-emit2 .before .before .before .before .before in
-    let at-emit = at-n .before .before .before .before .before .before in
-    let at-cut-at = at-emit .before .before .before .before .before .before in
-    let at-automaton-for2 = at-cut-at .before .before in
-    let at-automaton-for = at-automaton-for2 .before in
+    let at-emit = at-n .before .before .before .before in
+    let at-border = at-emit .before .before .before .before in
+    let at-automaton-for = at-border .before .before in
     let start = at-automaton-for .before .before .before .before .before .before in
-    join-next (start .pre .1 .0) (start .pre .1 .1 .0) (at-automaton-for .automaton-for .ensures) (at-automaton-for2 .automaton-for2 .ensures) (at-cut-at .cut-at .ensures) (at-emit .emit .ensures) (at-n .n .given .1) (at-emit2 .emit2 .ensures) (Count _) (c .before .m .given .1)
+    let known = start .pre .1 .0 in
+    let parsed = start .pre .1 .1 .1 in
+    let a-is = at-automaton-for .automaton-for .ensures in
+    let first = at-emit .emit .ensures in
+    let second = at-emit2 .emit2 .ensures in
+    join-next (start .args .mode) known parsed a-is (at-border .border .ensures) first (at-n .n .given .1) second (Count _) (c .before .m .given .1)
 
 abbrev emit-repeat-Inv-loop : emit-repeat-lts.InvT-loop
-emit-repeat-Inv-loop bytes prepared node child mode text flags₀ out₀ part o₀ n₀ flags out o n = Repeating bytes child mode text flags₀ out₀ flags out o n
+emit-repeat-Inv-loop bytes prepared node child mode base text path out₀ last first o₀ n₀ out o n = Repeating bytes node child mode base last first path text out₀ out o n
 
 abbrev emit-repeat-μ-loop : emit-repeat-lts.MeasureT-loop
-emit-repeat-μ-loop bytes prepared node child mode text flags₀ out₀ part o₀ n₀ flags out o n = length text - o
+emit-repeat-μ-loop bytes prepared node child mode base text path out₀ last first o₀ n₀ out o n = length text - o
 
 emit-repeat-automaton-for-requires : (t : ℕ) → emit-repeat-lts.Need-automaton-for-requires (emit-repeat-calls t) (emit-repeat-at t) emit-repeat.Post emit-repeat-Inv-loop emit-repeat-μ-loop
-emit-repeat-automaton-for-requires t c κs = node-prepared (c .before .before .before .before .before .pre .1 .0) _
-
-emit-repeat-suffixes-requires : (t : ℕ) → emit-repeat-lts.Need-suffixes-requires (emit-repeat-calls t) (emit-repeat-at t) emit-repeat.Post emit-repeat-Inv-loop emit-repeat-μ-loop
-emit-repeat-suffixes-requires t c κs =
-    let start = c .before .before .before .before .before .before .before in
-    (rw (c .before .automaton-for .ensures) ((node-prepared (start .pre .1 .0) (sideFor (start .args .mode))) .room), start .pre .1 .1 .1)
-
-emit-repeat-automaton-for-requires-2 : (t : ℕ) → emit-repeat-lts.Need-automaton-for-requires-2 (emit-repeat-calls t) (emit-repeat-at t) emit-repeat.Post emit-repeat-Inv-loop emit-repeat-μ-loop
-emit-repeat-automaton-for-requires-2 t c κs =
-    let start = c .before .before .before .before .before .before .before .before .before .before in
+emit-repeat-automaton-for-requires t c κs =
+    let start = c .before .before .before .before .before in
     node-prepared (child-below (start .pre .1 .0) (start .pre .1 .1 .0)) _
+
+emit-repeat-moved-requires : (t : ℕ) → emit-repeat-lts.Need-moved-requires (emit-repeat-calls t) (emit-repeat-at t) emit-repeat.Post emit-repeat-Inv-loop emit-repeat-μ-loop
+emit-repeat-moved-requires t c κs = search needs
+
+emit-repeat-moved-requires-2 : (t : ℕ) → emit-repeat-lts.Need-moved-requires-2 (emit-repeat-calls t) (emit-repeat-at t) emit-repeat.Post emit-repeat-Inv-loop emit-repeat-μ-loop
+emit-repeat-moved-requires-2 t c κs = search needs
 
 emit-repeat-loop-holds : (t : ℕ) → emit-repeat-lts.Need-loop-holds (emit-repeat-calls t) (emit-repeat-at t) emit-repeat.Post emit-repeat-Inv-loop emit-repeat-μ-loop
 emit-repeat-loop-holds t c =
-    let at-suffixes = c .before .before .before in
-    let at-automaton-for = at-suffixes .before .before in
+    let at-automaton-for = c .before .before .before .before in
     let start = at-automaton-for .before .before .before .before .before .before in
-    repeat-begins (start .pre .1 .0) (start .pre .1 .1 .0) (at-automaton-for .automaton-for .ensures) (at-suffixes .suffixes .ensures) (omega (arith, start .pre .1 .1 .1, at-suffixes .suffixes .kept))
+    let (known, more) = start .pre .1 in
+    repeat-begins known (more .0) (more .1) (at-automaton-for .automaton-for .ensures) (c .before .moved .ensures) (c .moved2 .ensures)
 
-emit-repeat-sub-first-part : (t : ℕ) → emit-repeat-lts.Need-sub-first-part (emit-repeat-calls t) (emit-repeat-at t) emit-repeat.Post emit-repeat-Inv-loop emit-repeat-μ-loop
-emit-repeat-sub-first-part t c = search needs
+emit-repeat-sub-first-loop : (t : ℕ) → emit-repeat-lts.Need-sub-first-loop (emit-repeat-calls t) (emit-repeat-at t) emit-repeat.Post emit-repeat-Inv-loop emit-repeat-μ-loop
+emit-repeat-sub-first-loop t c = path-within (c .before .loop .inv)
 
-emit-repeat-part-first-part-start : (t : ℕ) → emit-repeat-lts.Need-part-first-part-start (emit-repeat-calls t) (emit-repeat-at t) emit-repeat.Post emit-repeat-Inv-loop emit-repeat-μ-loop
-emit-repeat-part-first-part-start t c = search needs
+emit-repeat-part-first-loop-start : (t : ℕ) → emit-repeat-lts.Need-part-first-loop-start (emit-repeat-calls t) (emit-repeat-at t) emit-repeat.Post emit-repeat-Inv-loop emit-repeat-μ-loop
+emit-repeat-part-first-loop-start t c = path-within (c .before .loop .inv)
 
-emit-repeat-part-first-part-end : (t : ℕ) → emit-repeat-lts.Need-part-first-part-end (emit-repeat-calls t) (emit-repeat-at t) emit-repeat.Post emit-repeat-Inv-loop emit-repeat-μ-loop
-emit-repeat-part-first-part-end t c = search needs
+emit-repeat-part-first-loop-end : (t : ℕ) → emit-repeat-lts.Need-part-first-loop-end (emit-repeat-calls t) (emit-repeat-at t) emit-repeat.Post emit-repeat-Inv-loop emit-repeat-μ-loop
+emit-repeat-part-first-loop-end t c = search needs
 
-emit-repeat-sub-first-part-2 : (t : ℕ) → emit-repeat-lts.Need-sub-first-part-2 (emit-repeat-calls t) (emit-repeat-at t) emit-repeat.Post emit-repeat-Inv-loop emit-repeat-μ-loop
-emit-repeat-sub-first-part-2 t c = omega (arith, c .before .before .loop .inv .within, c .before .before .loop .inv .flags-more)
-
-emit-repeat-part-first-part-start-2 : (t : ℕ) → emit-repeat-lts.Need-part-first-part-start-2 (emit-repeat-calls t) (emit-repeat-at t) emit-repeat.Post emit-repeat-Inv-loop emit-repeat-μ-loop
-emit-repeat-part-first-part-start-2 t c = omega (arith, c .before .before .before .loop .inv .within, c .before .before .before .loop .inv .flags-more)
-
-emit-repeat-part-first-part-end-2 : (t : ℕ) → emit-repeat-lts.Need-part-first-part-end-2 (emit-repeat-calls t) (emit-repeat-at t) emit-repeat.Post emit-repeat-Inv-loop emit-repeat-μ-loop
-emit-repeat-part-first-part-end-2 t c = search needs
-
-emit-repeat-first-part-requires : (t : ℕ) → emit-repeat-lts.Need-first-part-requires (emit-repeat-calls t) (emit-repeat-at t) emit-repeat.Post emit-repeat-Inv-loop emit-repeat-μ-loop
-emit-repeat-first-part-requires t c κs =
-    let at-loop-test = c .before .before .before in
-    let at-loop = at-loop-test .before in
-    let at-automaton-for2 = at-loop .before in
-    let start = at-automaton-for2 .before .before .before .before .before .before .before .before .before .before .before in
-    (rw (at-automaton-for2 .automaton-for2 .ensures) ((node-prepared (child-below (start .pre .1 .0) (start .pre .1 .1 .0)) (sideFor (start .args .mode))) .room), repeat-lends (at-loop .loop .inv) (at-loop-test .loop-test .taken))
+emit-repeat-first-loop-requires : (t : ℕ) → emit-repeat-lts.Need-first-loop-requires (emit-repeat-calls t) (emit-repeat-at t) emit-repeat.Post emit-repeat-Inv-loop emit-repeat-μ-loop
+emit-repeat-first-loop-requires t c κs = path-left (c .before .before .loop .inv) (c .before .loop-test .taken)
 
 emit-repeat-add-end : (t : ℕ) → emit-repeat-lts.Need-add-end (emit-repeat-calls t) (emit-repeat-at t) emit-repeat.Post emit-repeat-Inv-loop emit-repeat-μ-loop
 emit-repeat-add-end t c =
-    let at-loop-test = c .before .before .before .before in
+    let at-loop-test = c .before .before in
     let at-loop = at-loop-test .before in
-    let at-automaton-for2 = at-loop .before in
-    let start = at-automaton-for2 .before .before .before .before .before .before .before .before .before .before .before in
-    omega (arith, part-within (start .pre .1 .0) (start .pre .1 .1 .0) (at-automaton-for2 .automaton-for2 .ensures) (at-loop .loop .inv) (at-loop-test .loop-test .taken) (c .first-part .ensures), start .good)
-
-emit-repeat-add-past : (t : ℕ) → emit-repeat-lts.Need-add-past (emit-repeat-calls t) (emit-repeat-at t) emit-repeat.Post emit-repeat-Inv-loop emit-repeat-μ-loop
-emit-repeat-add-past t c =
-    let at-loop-test = c .before .before .before .before in
-    let at-loop = at-loop-test .before in
-    let at-automaton-for2 = at-loop .before in
-    let start = at-automaton-for2 .before .before .before .before .before .before .before .before .before .before .before in
-    omega (arith, part-within (start .pre .1 .0) (start .pre .1 .1 .0) (at-automaton-for2 .automaton-for2 .ensures) (at-loop .loop .inv) (at-loop-test .loop-test .taken) (c .first-part .ensures), start .good)
+    let start = at-loop .before .before .before .before .before .before .before .before .before .before .before in
+    omega (arith, part-within (at-loop .loop .inv) (at-loop-test .loop-test .taken) (c .first-loop .ensures), start .good)
 
 emit-repeat-sub-emit : (t : ℕ) → emit-repeat-lts.Need-sub-emit (emit-repeat-calls t) (emit-repeat-at t) emit-repeat.Post emit-repeat-Inv-loop emit-repeat-μ-loop
 emit-repeat-sub-emit t c = search needs
@@ -484,7 +629,7 @@ emit-repeat-part-emit-start : (t : ℕ) → emit-repeat-lts.Need-part-emit-start
 emit-repeat-part-emit-start t c = search needs
 
 emit-repeat-part-emit-end : (t : ℕ) → emit-repeat-lts.Need-part-emit-end (emit-repeat-calls t) (emit-repeat-at t) emit-repeat.Post emit-repeat-Inv-loop emit-repeat-μ-loop
-emit-repeat-part-emit-end t c = search needs
+emit-repeat-part-emit-end t c = (part-within (c .before .before .before .loop .inv) (c .before .before .loop-test .taken) (c .first-loop .ensures)) .0
 
 emit-repeat-sub-emit-2 : (t : ℕ) → emit-repeat-lts.Need-sub-emit-2 (emit-repeat-calls t) (emit-repeat-at t) emit-repeat.Post emit-repeat-Inv-loop emit-repeat-μ-loop
 emit-repeat-sub-emit-2 t c = search needs
@@ -494,29 +639,30 @@ emit-repeat-part-emit-start-2 t c = search needs
 
 emit-repeat-part-emit-end-2 : (t : ℕ) → emit-repeat-lts.Need-part-emit-end-2 (emit-repeat-calls t) (emit-repeat-at t) emit-repeat.Post emit-repeat-Inv-loop emit-repeat-μ-loop
 emit-repeat-part-emit-end-2 t c =
-    let at-loop-test = c .before .before .before .before .before in
+    let at-loop-test = c .before .before .before in
     let at-loop = at-loop-test .before in
-    let at-automaton-for2 = at-loop .before in
-    let start = at-automaton-for2 .before .before .before .before .before .before .before .before .before .before .before in
-    omega (arith, part-within (start .pre .1 .0) (start .pre .1 .1 .0) (at-automaton-for2 .automaton-for2 .ensures) (at-loop .loop .inv) (at-loop-test .loop-test .taken) (c .before .first-part .ensures), at-loop .loop .inv .flags-more)
+    (part-within (at-loop .loop .inv) (at-loop-test .loop-test .taken) (c .before .first-loop .ensures)) .1
 
 emit-repeat-sub-emit-3 : (t : ℕ) → emit-repeat-lts.Need-sub-emit-3 (emit-repeat-calls t) (emit-repeat-at t) emit-repeat.Post emit-repeat-Inv-loop emit-repeat-μ-loop
-emit-repeat-sub-emit-3 t c = repeat-room (c .before .before .before .before .before .before .before .loop .inv)
+emit-repeat-sub-emit-3 t c = repeat-room (c .before .before .before .before .before .loop .inv)
 
 emit-repeat-part-emit-start-3 : (t : ℕ) → emit-repeat-lts.Need-part-emit-start-3 (emit-repeat-calls t) (emit-repeat-at t) emit-repeat.Post emit-repeat-Inv-loop emit-repeat-μ-loop
-emit-repeat-part-emit-start-3 t c = repeat-room (c .before .before .before .before .before .before .before .loop .inv)
+emit-repeat-part-emit-start-3 t c = repeat-room (c .before .before .before .before .before .loop .inv)
 
 emit-repeat-part-emit-end-3 : (t : ℕ) → emit-repeat-lts.Need-part-emit-end-3 (emit-repeat-calls t) (emit-repeat-at t) emit-repeat.Post emit-repeat-Inv-loop emit-repeat-μ-loop
 emit-repeat-part-emit-end-3 t c = search needs
 
 emit-repeat-emit-requires : (t : ℕ) → emit-repeat-lts.Need-emit-requires (emit-repeat-calls t) (emit-repeat-at t) emit-repeat.Post emit-repeat-Inv-loop emit-repeat-μ-loop
 emit-repeat-emit-requires t c κs =
-    let at-first-part = c .before .before .before in
-    let at-loop-test = at-first-part .before .before .before .before in
+    let at-first-loop = c .before .before .before in
+    let at-loop-test = at-first-loop .before .before in
     let at-loop = at-loop-test .before in
-    let at-automaton-for2 = at-loop .before in
-    let start = at-automaton-for2 .before .before .before .before .before .before .before .before .before .before .before in
-    (omega (arith, (start .pre .1 .1 .0) .lower, start .pre .0), (child-below (start .pre .1 .0) (start .pre .1 .1 .0), part-flagged (start .pre .1 .0) (start .pre .1 .1 .0) (at-automaton-for2 .automaton-for2 .ensures) (at-loop .loop .inv) (at-loop-test .loop-test .taken) (at-first-part .first-part .ensures)))
+    let start = at-loop .before .before .before .before .before .before .before .before .before .before .before in
+    let s = start .pre .1 .1 .0 in
+    let inv = at-loop .loop .inv in
+    let more = at-loop-test .loop-test .taken in
+    let found = at-first-loop .first-loop .ensures in
+    (omega (arith, s .lower, start .pre .0), (child-below (start .pre .1 .0) s, part-parsed inv more found))
 
 emit-repeat-enum-known-m : (t : ℕ) → emit-repeat-lts.Need-enum-known-m (emit-repeat-calls t) (emit-repeat-at t) emit-repeat.Post emit-repeat-Inv-loop emit-repeat-μ-loop
 emit-repeat-enum-known-m t c = search needs
@@ -525,58 +671,63 @@ emit-repeat-enum-told : (t : ℕ) → emit-repeat-lts.Need-enum-told (emit-repea
 emit-repeat-enum-told t c = search needs
 
 emit-repeat-same-length : (t : ℕ) → emit-repeat-lts.Need-same-length (emit-repeat-calls t) (emit-repeat-at t) emit-repeat.Post emit-repeat-Inv-loop emit-repeat-μ-loop
-emit-repeat-same-length t c = search needs
-
-emit-repeat-same-length-2 : (t : ℕ) → emit-repeat-lts.Need-same-length-2 (emit-repeat-calls t) (emit-repeat-at t) emit-repeat.Post emit-repeat-Inv-loop emit-repeat-μ-loop
-emit-repeat-same-length-2 t c =
-    let at-emit = c .before .before .before .before .before .before in
-    let at-first-part = at-emit .before .before .before .before in
-    let at-loop-test = at-first-part .before .before .before .before in
+emit-repeat-same-length t c =
+    let at-emit = c .before .before .before .before in
+    let at-first-loop = at-emit .before .before .before .before in
+    let at-loop-test = at-first-loop .before .before in
     let at-loop = at-loop-test .before in
-    let at-automaton-for2 = at-loop .before in
-    let start = at-automaton-for2 .before .before .before .before .before .before .before .before .before .before .before in
-    emitted-length (start .pre .1 .0) (repeat-full (start .pre .1 .0) (start .pre .1 .1 .0) (at-automaton-for2 .automaton-for2 .ensures) (at-loop .loop .inv) (at-loop-test .loop-test .taken) (at-first-part .first-part .ensures) (at-emit .emit .ensures) (c .enum-told .given .1))
+    let start = at-loop .before .before .before .before .before .before .before .before .before .before .before in
+    let inv = at-loop .loop .inv in
+    let more = at-loop-test .loop-test .taken in
+    let found = at-first-loop .first-loop .ensures in
+    emitted-length (start .pre .1 .0) (repeat-full inv more found (at-emit .emit .ensures) (c .enum-told .given .1))
 
 emit-repeat-returns : (t : ℕ) → emit-repeat-lts.Need-returns (emit-repeat-calls t) (emit-repeat-at t) emit-repeat.Post emit-repeat-Inv-loop emit-repeat-μ-loop
 emit-repeat-returns t c =
-    let at-emit = c .before .before .before .before .before .before in
-    let at-first-part = at-emit .before .before .before .before in
-    let at-loop-test = at-first-part .before .before .before .before in
+    let at-emit = c .before .before .before .before in
+    let at-first-loop = at-emit .before .before .before .before in
+    let at-loop-test = at-first-loop .before .before in
     let at-loop = at-loop-test .before in
-    let at-automaton-for2 = at-loop .before in
-    let start = at-automaton-for2 .before .before .before .before .before .before .before .before .before .before .before in
-    repeat-full (start .pre .1 .0) (start .pre .1 .1 .0) (at-automaton-for2 .automaton-for2 .ensures) (at-loop .loop .inv) (at-loop-test .loop-test .taken) (at-first-part .first-part .ensures) (at-emit .emit .ensures) (c .enum-told .given .1)
+    let inv = at-loop .loop .inv in
+    let more = at-loop-test .loop-test .taken in
+    let found = at-first-loop .first-loop .ensures in
+    repeat-full inv more found (at-emit .emit .ensures) (c .enum-told .given .1)
 
 emit-repeat-add-n : (t : ℕ) → emit-repeat-lts.Need-add-n (emit-repeat-calls t) (emit-repeat-at t) emit-repeat.Post emit-repeat-Inv-loop emit-repeat-μ-loop
 emit-repeat-add-n t c =
-    let at-emit = c .before .before .before .before .before .before .before in
-    let at-loop = at-emit .before .before .before .before .before .before .before .before .before in
-    let start = at-loop .before .before .before .before .before .before .before .before .before .before .before .before in
-    omega (arith, sum-within (at-loop .loop .out) (at-emit .emit .last .1 .1 .1 .1 .1 .1 .0) (repeat-room (at-loop .loop .inv)) (emitted-within (child-below (start .pre .1 .0) (start .pre .1 .1 .0)) (at-emit .emit .ensures) (c .before .m .given .1)) (at-emit .emit .kept .1 .1 .1 .1 .1 .1 .0), repeat-length (at-loop .loop .inv), start .good)
+    let at-emit = c .before .before .before .before .before in
+    let at-loop = at-emit .before .before .before .before .before .before .before in
+    let start = at-loop .before .before .before .before .before .before .before .before .before .before .before in
+    let inv = at-loop .loop .inv in
+    let part = emitted-within (child-below (start .pre .1 .0) (start .pre .1 .1 .0)) (at-emit .emit .ensures) (c .before .m .given .1) in
+    let rest = at-emit .emit .last .1 .1 .1 .1 .1 .1 .1 .0 in
+    let sum = sum-within (at-loop .loop .out) rest (repeat-room inv) part (at-emit .emit .kept .1 .1 .1 .1 .1 .1 .1 .0) in
+    omega (arith, sum, repeat-length inv, start .good)
 
 emit-repeat-loop-less : (t : ℕ) → emit-repeat-lts.Need-loop-less (emit-repeat-calls t) (emit-repeat-at t) emit-repeat.Post emit-repeat-Inv-loop emit-repeat-μ-loop
-emit-repeat-loop-less t c = search needs
+emit-repeat-loop-less t c =
+    let at-first-loop = c .before .before .before .before .before .before .before .before .before in
+    let at-loop-test = at-first-loop .before .before in
+    let at-loop = at-loop-test .before in
+    let moves = part-moves (at-loop .loop .inv) (at-loop-test .loop-test .taken) (at-first-loop .first-loop .ensures) in
+    omega (arith, moves, at-loop-test .loop-test .taken)
 
 emit-repeat-loop-again : (t : ℕ) → emit-repeat-lts.Need-loop-again (emit-repeat-calls t) (emit-repeat-at t) emit-repeat.Post emit-repeat-Inv-loop emit-repeat-μ-loop
 emit-repeat-loop-again t c =
-    let at-emit = c .before .before .before .before .before .before .before in
-    let at-first-part = at-emit .before .before .before .before in
-    let at-loop-test = at-first-part .before .before .before .before in
+    let at-emit = c .before .before .before .before .before in
+    let at-first-loop = at-emit .before .before .before .before in
+    let at-loop-test = at-first-loop .before .before in
     let at-loop = at-loop-test .before in
-    let at-automaton-for2 = at-loop .before in
-    let start = at-automaton-for2 .before .before .before .before .before .before .before .before .before .before .before in
-    repeat-next (start .pre .1 .0) (start .pre .1 .1 .0) (at-automaton-for2 .automaton-for2 .ensures) (at-loop .loop .inv) (at-loop-test .loop-test .taken) (at-first-part .first-part .ensures) (at-emit .emit .ensures) (at-emit .emit .last .1 .1 .1 .1 .1 .0) (at-emit .emit .kept .1 .1 .1 .1 .1 .0) (c .before .m .given .1)
+    let inv = at-loop .loop .inv in
+    let more = at-loop-test .loop-test .taken in
+    let found = at-first-loop .first-loop .ensures in
+    repeat-next inv more found (at-emit .emit .ensures) (c .before .m .given .1)
 
-emit-repeat-same-length-3 : (t : ℕ) → emit-repeat-lts.Need-same-length-3 (emit-repeat-calls t) (emit-repeat-at t) emit-repeat.Post emit-repeat-Inv-loop emit-repeat-μ-loop
-emit-repeat-same-length-3 t c = search needs
-
-emit-repeat-same-length-4 : (t : ℕ) → emit-repeat-lts.Need-same-length-4 (emit-repeat-calls t) (emit-repeat-at t) emit-repeat.Post emit-repeat-Inv-loop emit-repeat-μ-loop
-emit-repeat-same-length-4 t c = repeat-length (c .before .loop .inv)
+emit-repeat-same-length-2 : (t : ℕ) → emit-repeat-lts.Need-same-length-2 (emit-repeat-calls t) (emit-repeat-at t) emit-repeat.Post emit-repeat-Inv-loop emit-repeat-μ-loop
+emit-repeat-same-length-2 t c = repeat-length (c .before .loop .inv)
 
 emit-repeat-returns-2 : (t : ℕ) → emit-repeat-lts.Need-returns-2 (emit-repeat-calls t) (emit-repeat-at t) emit-repeat.Post emit-repeat-Inv-loop emit-repeat-μ-loop
-emit-repeat-returns-2 t c =
-    let start = c .before .before .before .before .before .before .before .before .before .before .before .before .before in
-    repeat-ends (start .pre .1 .1 .0) (c .before .loop .inv) (c .loop-test .left)
+emit-repeat-returns-2 t c = repeat-ends (c .before .loop .inv) (c .loop-test .left)
 
 pub +emit+emit-join+emit-repeat-spec : {M : Type 1} → statement M
 +emit+emit-join+emit-repeat-spec = close μ-emit μ-emit-join μ-emit-repeat (λ t. emit-lts.spec (emit-calls t)
@@ -598,66 +749,69 @@ pub +emit+emit-join+emit-repeat-spec : {M : Type 1} → statement M
     (emit-enum-known-kind-2 t)
     (emit-emit-join-requires t)
     (emit-enum-known-kind-3 t)
-    (emit-side-of-requires t)
-    (emit-arm-of-requires t)
+    (emit-automaton-for-requires t)
+    (emit-add-n t)
+    (emit-goes-left-requires t)
     (emit-emit-requires t)
+    (emit-same-length t)
+    (emit-returns t)
+    (emit-emit-requires-2 t)
     (emit-enum-known-kind-4 t)
     (emit-emit-repeat-requires t)
     (emit-enum-known-kind-5 t)
-    (emit-emit-requires-2 t)
-    (emit-returns t)
+    (emit-emit-requires-3 t)
     (emit-returns-2 t)
     (emit-returns-3 t)
     (emit-returns-4 t)
     (emit-returns-5 t)
-    (emit-same-length t)
     (emit-returns-6 t)
     (emit-same-length-2 t)
     (emit-returns-7 t)
     (emit-same-length-3 t)
     (emit-returns-8 t)
     (emit-same-length-4 t)
-    (emit-same-length-5 t)
     (emit-returns-9 t)
-    (emit-same-length-6 t)
-    (emit-same-length-7 t)
+    (emit-same-length-5 t)
     (emit-returns-10 t)
-    (emit-same-length-8 t)
-    (emit-same-length-9 t)
+    (emit-same-length-6 t)
     (emit-returns-11 t)
-    (emit-same-length-10 t)
-    (emit-same-length-11 t)
-    (emit-returns-12 t))
+    (emit-same-length-7 t)
+    (emit-returns-12 t)
+    (emit-same-length-8 t)
+    (emit-returns-13 t))
     (λ t. emit-join-lts.spec (emit-join-calls t)
     (emit-join-at t)
     emit-join.Post
     (emit-join-automaton-for-requires t)
-    (emit-join-automaton-for-requires-2 t)
-    (emit-join-cut-at-requires t)
+    (emit-join-add-mid t)
+    (emit-join-border-requires t)
     (emit-join-sub-emit t)
     (emit-join-part-emit-start t)
     (emit-join-part-emit-end t)
+    (emit-join-sub-emit-2 t)
+    (emit-join-part-emit-start-2 t)
+    (emit-join-part-emit-end-2 t)
     (emit-join-emit-requires t)
     (emit-join-enum-known-n t)
     (emit-join-enum-told t)
     (emit-join-same-length t)
-    (emit-join-same-length-2 t)
     (emit-join-returns t)
-    (emit-join-sub-emit-2 t)
-    (emit-join-part-emit-start-2 t)
-    (emit-join-part-emit-end-2 t)
     (emit-join-sub-emit-3 t)
     (emit-join-part-emit-start-3 t)
     (emit-join-part-emit-end-3 t)
+    (emit-join-sub-emit-4 t)
+    (emit-join-part-emit-start-4 t)
+    (emit-join-part-emit-end-4 t)
+    (emit-join-sub-emit-5 t)
+    (emit-join-part-emit-start-5 t)
+    (emit-join-part-emit-end-5 t)
     (emit-join-emit-requires-2 t)
     (emit-join-enum-known-m t)
     (emit-join-enum-told-2 t)
-    (emit-join-same-length-3 t)
-    (emit-join-same-length-4 t)
+    (emit-join-same-length-2 t)
     (emit-join-returns-2 t)
-    (emit-join-add-t18 t)
-    (emit-join-same-length-5 t)
-    (emit-join-same-length-6 t)
+    (emit-join-add-t17 t)
+    (emit-join-same-length-3 t)
     (emit-join-returns-3 t))
     λ t. emit-repeat-lts.spec (emit-repeat-calls t)
     (emit-repeat-at t)
@@ -665,18 +819,14 @@ pub +emit+emit-join+emit-repeat-spec : {M : Type 1} → statement M
     emit-repeat-Inv-loop
     emit-repeat-μ-loop
     (emit-repeat-automaton-for-requires t)
-    (emit-repeat-suffixes-requires t)
-    (emit-repeat-automaton-for-requires-2 t)
+    (emit-repeat-moved-requires t)
+    (emit-repeat-moved-requires-2 t)
     (emit-repeat-loop-holds t)
-    (emit-repeat-sub-first-part t)
-    (emit-repeat-part-first-part-start t)
-    (emit-repeat-part-first-part-end t)
-    (emit-repeat-sub-first-part-2 t)
-    (emit-repeat-part-first-part-start-2 t)
-    (emit-repeat-part-first-part-end-2 t)
-    (emit-repeat-first-part-requires t)
+    (emit-repeat-sub-first-loop t)
+    (emit-repeat-part-first-loop-start t)
+    (emit-repeat-part-first-loop-end t)
+    (emit-repeat-first-loop-requires t)
     (emit-repeat-add-end t)
-    (emit-repeat-add-past t)
     (emit-repeat-sub-emit t)
     (emit-repeat-part-emit-start t)
     (emit-repeat-part-emit-end t)
@@ -690,11 +840,9 @@ pub +emit+emit-join+emit-repeat-spec : {M : Type 1} → statement M
     (emit-repeat-enum-known-m t)
     (emit-repeat-enum-told t)
     (emit-repeat-same-length t)
-    (emit-repeat-same-length-2 t)
     (emit-repeat-returns t)
     (emit-repeat-add-n t)
     (emit-repeat-loop-less t)
     (emit-repeat-loop-again t)
-    (emit-repeat-same-length-3 t)
-    (emit-repeat-same-length-4 t)
+    (emit-repeat-same-length-2 t)
     (emit-repeat-returns-2 t)
