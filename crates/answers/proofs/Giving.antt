@@ -11,13 +11,15 @@ use borrow.Author.Tests.{lt-ltb, le-ltb}
 use Rattle.semantics.specs.Text.{Text}
 use Rattle.semantics.specs.Pattern.{Pattern, matches}
 use Rattle.semantics.specs.Lens.{Lens, language}
-use Rattle.semantics.specs.Table.{nodeCount, lens, treeAt, trees}
+use Rattle.semantics.specs.Table.{nodeCount, positions, lens, treeAt, trees}
 use Rattle.semantics.specs.Calls.{gives, refuses, refuseIf, program, withProgram, maxText, tooLong, notOf, output, bufferAfter}
 use Rattle.semantics.specs.Calls.{Answer as Outcome}
+use Rattle.laws.specs.Accepted.{accepted}
 use Rattle.automaton.specs.declared.Automaton.{Automaton}
 use Rattle.automaton.specs.declared.Side.{Side as SideOf}
 use Rattle.automaton.specs.Rows.{sideOf, automatonAt, Room, Describes}
 use Rattle.automaton.specs.Built.{treeLanguage}
+use Rattle.paths.specs.Walking.{PathFound}
 use Rattle.lens.specs.declared.Wrote.{Wrote}
 use Rattle.lens.specs.declared.Wrote.the-variants.{Count, Full}
 use Rattle.lens.specs.Overlay.{Writes, overlay, overlay-length, overlay-fits, count-fits, full-over, writes-within}
@@ -25,7 +27,7 @@ use Rattle.lens.specs.Emitting.{LensNode}
 use Rattle.answers.specs.declared.Answer.{Answer}
 use Rattle.answers.specs.declared.Answer.the-variants.{Result, Refusal}
 use Rattle.answers.specs.Answers.{answerFor, IsAccepted, Ready}
-use Rattle.answers.specs.Results.{GivesText, Counted, Finishes, Decides, Makes, GivesMade}
+use Rattle.answers.specs.Results.{GivesText, Counted, Finishes, RootPath, Makes, GivesMade}
 use Rattle.answers.proofs.Verdicts.{accepted-sizes, root-tree}
 
 -- ---- The root
@@ -48,19 +50,36 @@ module _ {bytes : Text} {prepared : List ℕ} (ready : Ready bytes prepared) {ro
   pub root-room : (side : SideOf) {a : Automaton} → a ≡ automatonAt prepared root side → Room a prepared
   root-room side a-is = rw a-is ((ready .built .automata root root-inside side) .room)
 
-  -- its automaton decides its language
-  pub root-decides :
-      {side : SideOf} {text : Text} {a : Automaton} {answer : Bool}
-      → a ≡ automatonAt prepared root side
-      → ((r : Pattern) → Describes r a prepared → answer ≡ matches r text)
-      → Decides bytes side text answer
+  -- its automaton is that of its language
+  root-described : (side : SideOf) (l : Lens) → program bytes ≡ gives l → Describes (language (sideOf side) l) (automatonAt prepared root side) prepared
   unfolding treeLanguage
-  root-decides {side} {a} a-is tells = record { decides = λ l e. tells (language (sideOf side) l) (described l e) }
+  root-described side l e =
+      let h = (ready .built .automata root root-inside side) .described in
+      subst (λ t. Describes (treeLanguage (sideOf side) t) (automatonAt prepared root side) prepared) (root-at l e) h
+
+  -- so a path through it is one of the root's
+  pub path-of-root :
+      {side : SideOf} {text : Text} {path : List ℕ} {a : Automaton} {answer : Bool}
+      → a ≡ automatonAt prepared root side
+      → PathFound prepared a text path answer
+      → RootPath bytes side text path answer
+  path-of-root {side} {text} {path} {a} a-is found =
+      record {
+        decides = λ l e. found .found-is (language (sideOf side) l) (described l e);
+        parsed = λ told. record { tree = tree; tree-is = rw (← root-is) (root-at tree gave); typed = accepted bytes tree gave .0; least = found .path-is told (language (sideOf side) tree) (described tree gave); few = few };
+      }
     where
+      tree : Lens
+      tree = ready .accepted .root
+
+      gave : program bytes ≡ gives tree
+      gave = ready .accepted .gives-root
+
       described : (l : Lens) → program bytes ≡ gives l → Describes (language (sideOf side) l) a prepared
-      described l e =
-          let h = (ready .built .automata root root-inside side) .described in
-          rw a-is (subst (λ t. Describes (treeLanguage (sideOf side) t) (automatonAt prepared root side) prepared) (root-at l e) h)
+      described l e = rw a-is (root-described side l e)
+
+      few : 0 + positions (language (sideOf side) tree) ≤ 128
+      few = omega (arith, root-room side a-is .few, described tree gave .count-is)
 
 -- ---- The tests of a call, one by one
 
@@ -109,8 +128,8 @@ not-too-long t h = le-ltb maxText (length t) h
 
 -- 13 and 14: the test of the root's language
 pub not-of :
-    {bytes text : Text} {side : SideOf} {in-it : Bool} (a : IsAccepted bytes)
-    → Decides bytes side text in-it
+    {bytes text : Text} {path : List ℕ} {side : SideOf} {in-it : Bool} (a : IsAccepted bytes)
+    → RootPath bytes side text path in-it
     → notOf (sideOf side) (a .root) text ≡ not in-it
 unfolding notOf
 not-of {side} a d = ap not (sym (d .decides (a .root) (a .gives-root)))

@@ -1,11 +1,11 @@
 // What Create does with an accepted and prepared program: a source from a sheet only.
 use crate::writing::write_root;
 use answers::Answer;
-use answers::results::belongs_to_root;
 use answers::results::finish;
 use answers::results::no_text;
 use answers::results::refuse;
 use answers::results::room_in;
+use answers::results::root_path;
 use automaton::Side;
 use books::Book;
 use books::Old;
@@ -26,7 +26,9 @@ pub fn create_with(bytes: &[u8], prepared: &[u64], sheet: &[u8], out: &mut [u8])
     if 4096 < sheet.len() {
         return refuse(12);
     }
-    if !belongs_to_root(bytes, prepared, Side::Sheet, sheet) {
+    let mut path = no_text();
+    let n = sheet.len();
+    if !root_path(bytes, prepared, Side::Sheet, sheet, &mut path[0..n]) {
         return refuse(14);
     }
     let mut result = no_text();
