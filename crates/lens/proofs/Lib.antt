@@ -3,4 +3,5 @@ mod Copying
 mod Comparing
 mod Placing
 mod Emission
+mod Finding
 mod Repeats
