@@ -1,6 +1,6 @@
 -- The cards of the entries, one by one, behind the old source. Assumes nothing.
 use mathlib.Core.Path.{_≡_, refl, sym, ap, _∙_}
-use mathlib.Core.Bool.{Bool, true, false}
+use mathlib.Core.Bool.{Bool, true, false, not, false≢true, true≢false}
 use mathlib.Core.List.{List, _++_}
 use mathlib.Core.Option.{some}
 use Prim.Native.Nat.{ℕ, _+_, _-_, _*_, _≤_, _<_, max}
@@ -11,7 +11,7 @@ use lib.ListN.{length, take, drop, getD, length-append, length-take, length-drop
 use lib.Seq.{length-take-le, take-append-seam, take-at, drop-at}
 use borrow.Author.Tests.{eqb-true, eqb-false}
 use Rattle.semantics.specs.Text.{Text, orElse}
-use Rattle.semantics.specs.Lens.{Lens, source, sheet, language, get, keyOf, entryOf}
+use Rattle.semantics.specs.Lens.{Lens, source as source-side, sheet, language, get, keyOf, entryOf}
 use Rattle.semantics.specs.Table.{Trees, trees, lensAt, positions}
 use Rattle.laws.specs.NodeTrees.{lens-tree}
 use Rattle.laws.specs.GetPut.{get-in, get-length}
@@ -28,7 +28,7 @@ use Rattle.lens.specs.Nodes.{same-lens}
 use Rattle.books.specs.declared.Book.{Book}
 use Rattle.books.specs.Cards.{CardIs}
 use Rattle.books.specs.Listed.{textAt, entryAt}
-use Rattle.books.specs.Looking.{EntryOf, EntryCard, BookOver, EntriesFit, slotAt, Dealt, entry-of, same-within, entry-dealt}
+use Rattle.books.specs.Looking.{EntryOf, EntryCard, SheetRoom, BookOver, EntriesFit, slotAt, Dealt, entry-of, same-within, entry-dealt}
 use Rattle.books.proofs.Sealing.{writes-front}
 
 -- ---- The sheet of an entry
@@ -62,7 +62,7 @@ module _ {bytes : Text} {prepared : List ℕ} {child : ℕ} (known : LensNode by
   sheet-within {text} {before} {after} {n} emits = writes-within (reading Get (known .tree) text) before after n (emits .writes (known .tree) (known .tree-is))
 
 -- The text of an entry belongs to its child,
-pub entry-fits : {bytes : Text} {child : ℕ} {text : Text} → EntryOf bytes child text → Fits bytes child source text
+pub entry-fits : {bytes : Text} {child : ℕ} {text : Text} → EntryOf bytes child text → Fits bytes child source-side text
 entry-fits {bytes} {child} entry =
     record { tree = entry .tree; tree-is = lens-tree (trees bytes) child (entry .tree) (entry .at-child); typed = entry .typed; belongs = entry .in-source }
 
@@ -71,13 +71,13 @@ pub sheet-belongs :
     {bytes : Text} {child : ℕ} {text before after : Text} {n : ℕ}
     → EntryOf bytes child text → Emits bytes child Get text before after (Count n) → Fits bytes child sheet (take (n - 0) after)
 unfolding reading
-sheet-belongs {text = text} entry emits =
-    let fits = entry-fits entry in
+sheet-belongs {bytes} {child} {text} entry emits =
+    let tree-is = lens-tree (trees bytes) child (entry .tree) (entry .at-child) in
     record {
       tree = entry .tree;
-      tree-is = fits .tree-is;
+      tree-is = tree-is;
       typed = entry .typed;
-      belongs = rw (sub-zero, writes-front (emits .writes (entry .tree) (fits .tree-is))) (get-in (entry .tree) (entry .typed) text (entry .in-source));
+      belongs = rw (sub-zero, writes-front (emits .writes (entry .tree) tree-is)) (get-in (entry .tree) (entry .typed) text (entry .in-source));
     }
 
 -- The card of the sheet that was written is the entry's.
@@ -116,6 +116,43 @@ entry-key :
     → entryAt ts source b i .key-text ≡ keyOf l (get l (textAt source b i))
 unfolding entryAt entryOf orElse
 entry-key ts source b i at-child = rw at-child
+
+-- what a test's opposite tells
+pub is-false : {b : Bool} → not b ≡ true → b ≡ false
+is-false {true} e = absurd (false≢true e)
+is-false {false} e = refl
+
+pub is-true : {b : Bool} → not b ≡ false → b ≡ true
+is-true {true} e = refl
+is-true {false} e = absurd (true≢false e)
+
+-- ---- The room for an entry's sheet, lent for one entry after the other
+
+-- It is as long as it was.
+pub record SameRoom (sheet₀ marks₀ path₀ sheet marks path : List ℕ) : Type 0 where
+  pub sheet-same : length sheet ≡ length sheet₀
+  pub marks-same : length marks ≡ length marks₀
+  pub path-same : length path ≡ length path₀
+
+pub same-room-begins : {sheet marks path : List ℕ} → SameRoom sheet marks path sheet marks path
+same-room-begins = record { sheet-same = refl; marks-same = refl; path-same = refl }
+
+module _ {sheet₀ marks₀ path₀ sheet marks path : List ℕ} (same : SameRoom sheet₀ marks₀ path₀ sheet marks path) where
+  -- it is lent and comes back as long
+  pub same-room-kept :
+      {sheet′ marks′ path′ : List ℕ} → length sheet′ ≡ length sheet → length marks′ ≡ length marks → length path′ ≡ length path
+      → SameRoom sheet₀ marks₀ path₀ sheet′ marks′ path′
+  same-room-kept s m p = record { sheet-same = s ∙ same .sheet-same; marks-same = m ∙ same .marks-same; path-same = p ∙ same .path-same }
+
+  -- and is still enough
+  pub same-room-left : SheetRoom sheet₀ marks₀ path₀ → SheetRoom sheet marks path
+  same-room-left room =
+      record {
+        least-room = omega (arith, room .least-room, same .sheet-same);
+        most-room = omega (arith, room .most-room, same .sheet-same);
+        same-room = same .path-same ∙ room .same-room ∙ sym (same .sheet-same);
+        marks-room = rw (same .sheet-same, same .marks-same) (room .marks-room);
+      }
 
 -- ---- The deck, card by card
 
