@@ -20,7 +20,18 @@ use Rattle.lens.specs.declared.Mode.{Mode}
 use Rattle.lens.specs.declared.Wrote.{Wrote}
 use Rattle.lens.specs.declared.Wrote.the-variants.{Count, Full}
 use Rattle.lens.specs.Overlay.{Writes, overlay-length, writes-full, writes-lent, writes-within}
-use Rattle.lens.specs.Reading.{reading, modeSide, copied, reading-copy, reading-const, reading-key, reading-join, reading-left, reading-right, reading-match}
+use Rattle.lens.specs.Reading.{
+  reading,
+  modeSide,
+  copied,
+  reading-copy,
+  reading-const,
+  reading-key,
+  reading-join,
+  reading-left,
+  reading-right,
+  reading-match,
+}
 use Rattle.lens.specs.Cutting.{rest-lent}
 use Rattle.lens.specs.Emitting.{sideFor, WordIs, LensNode, Emits, EmitsJoin}
 use Rattle.lens.specs.Parsed.{
@@ -51,11 +62,12 @@ pub its-lens :
 its-lens {mode} {text} {before} {after} {answer} l e w =
     record { writes = λ m f. subst (λ k. Writes (reading mode k text) before after answer) (same-lens l m (sym e ∙ f)) w }
 
-module _ {bytes : Text} {prepared : List ℕ} {node : ℕ} {r : Node} {mode : Mode} {text before after : Text} {answer : Wrote}
-    (known : LensNode bytes prepared node) (read : NodeRead bytes node r) where
+module _ {bytes : Text} {node : ℕ} {r : Node} {mode : Mode} {text before after : Text} {answer : Wrote} (read : NodeRead bytes node r) where
+  -- a copy gives its text
   pub emits-copy : {a : ℕ} → r .kind ≡ Copy a → Writes (copied mode text) before after answer → Emits bytes node mode text before after answer
   emits-copy e w = let s = shown-copy read e in its-lens (copy (s .child)) (s .tree-is) (rw (reading-copy mode (s .child) text) w)
 
+  -- a const gives its word
   pub emits-const :
       {a b c : ℕ} {letters : Text}
       → r .kind ≡ Const a b c
@@ -69,14 +81,21 @@ module _ {bytes : Text} {prepared : List ℕ} {node : ℕ} {r : Node} {mode : Mo
       (s .tree-is)
       (rw (reading-const mode (s .child) (s .sheet-word) (s .default-word) text, ← (letters .letters-are (s .sheet-word) (s .at-sheet))) w)
 
+  -- a key gives its text
   pub emits-key : {a : ℕ} → r .kind ≡ Key a → Writes text before after answer → Emits bytes node mode text before after answer
   emits-key e w = let s = shown-key read e in its-lens (key (s .child)) (s .tree-is) (rw (reading-key mode (s .child) text) w)
 
-  pub emits-join : {a b : ℕ} → r .kind ≡ LensJoin a b → EmitsJoin bytes a b mode text before after answer → Emits bytes node mode text before after answer
+  -- a join gives what its halves give together
+  pub emits-join :
+      {a b : ℕ}
+      → r .kind ≡ LensJoin a b
+      → EmitsJoin bytes a b mode text before after answer
+      → Emits bytes node mode text before after answer
   emits-join e w =
       let s = shown-join read e in
       its-lens (join (s .left) (s .right)) (s .tree-is) (w .writes (s .left) (s .right) (s .at-left) (s .at-right))
 
+  -- a match gives what its child gives
   pub emits-match : {a : ℕ} → r .kind ≡ Match a → Emits bytes a mode text before after answer → Emits bytes node mode text before after answer
   emits-match {a} e w =
       let s = shown-match read e in
@@ -109,6 +128,7 @@ module _
   arm-few = rw begins (union-few parsed s)
 
   module _ {goes-left : Bool} (told : goes-left ≡ goesLeft (base + a .count) (a .nullable) path) where
+    -- a text whose path goes left is parsed at the left arm, one whose path goes right at the right one
     pub left-parsed : goes-left ≡ true → Parsed bytes left (modeSide mode) base path text
     left-parsed e = union-left parsed s begins (described .nullable-is) (sym told ∙ e)
 
@@ -116,6 +136,7 @@ module _
     right-parsed e = union-right parsed s begins (described .nullable-is) (sym told ∙ e)
 
     module _ {before after : Text} {answer : Wrote} where
+      -- and the union gives what that arm gives
       pub emits-left : goes-left ≡ true → Emits bytes left mode text before after answer → Emits bytes node mode text before after answer
       emits-left e w =
           its-lens
@@ -196,7 +217,8 @@ module _
   -- the right half's positions begin where the left one's end
   half-begins : base + a .count ≡ base + positions (language (modeSide mode) (parsed .first))
   half-begins =
-      let first : Describes (language (modeSide mode) (parsed .first)) a prepared = rw a-is (describes-lens known mode (parsed .first) (parsed .at-left)) in
+      let first : Describes (language (modeSide mode) (parsed .first)) a prepared =
+      rw a-is (describes-lens known mode (parsed .first) (parsed .at-left)) in
       ap (λ n. base + n) (first .count-is)
 
   -- there are few of them
@@ -227,16 +249,20 @@ module _
         reading-join mode l m text i (rw (← l-is, ← m-is) (border-is-cut parsed half-begins i-is))
 
     module _ {before after : Text} {answer : Wrote} (first : Emits bytes left mode (take (i - 0) text) before after answer) where
+      -- the left half's reading is written
       left-written : (l : Lens) → treeAt (trees bytes) left ≡ lens l → Writes (reading mode l (take i text)) before after answer
       left-written l e = rw sub-zero at (first .writes l e)
 
+      -- where it did not fit, the join does not
       pub join-full : answer ≡ Full → EmitsJoin bytes left right mode text before after Full
       join-full full =
           record {
             writes = λ l m e f.
-                rw (halves l m e f) (writes-full (reading mode l (take i text)) (reading mode m (drop i text)) before after (rw full at (left-written l e)));
+                let left-full = rw full at (left-written l e) in
+                rw (halves l m e f) (writes-full (reading mode l (take i text)) (reading mode m (drop i text)) before after left-full);
           }
 
+      -- where it did, the right half's is written behind it
       pub join-next :
           {n : ℕ} {rest : Text} {answer′ : Wrote}
           → answer ≡ Count n

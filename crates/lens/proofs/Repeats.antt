@@ -7,7 +7,7 @@ use lib.ListN.{length, take, drop, length-drop, drop-of-length-le}
 use lib.Seq.{drop-drop}
 use Rattle.semantics.specs.Text.{Text, joined}
 use Rattle.semantics.specs.Lens.{Lens, repeat, Side, language}
-use Rattle.semantics.specs.Table.{positions, lens, treeAt, trees}
+use Rattle.semantics.specs.Table.{positions, lens, trees}
 use Rattle.laws.specs.Paths.{firstLoop}
 use Rattle.positions.specs.declared.Set.{Set}
 use Rattle.positions.specs.Positions.{holds, Moved}
@@ -114,13 +114,17 @@ module _
     {o n : ℕ}
     (inv : Repeating bytes node child mode base last first path text out₀ out o n) where
   -- what is written is that of the repeat
-  its-repeat : {after : Text} {answer : Wrote} → Writes (reading mode (repeat (inv .part .child)) text) out₀ after answer → Emits bytes node mode text out₀ after answer
+  its-repeat :
+      {after : Text} {answer : Wrote}
+      → Writes (reading mode (repeat (inv .part .child)) text) out₀ after answer
+      → Emits bytes node mode text out₀ after answer
   its-repeat w = its-lens (repeat (inv .part .child)) (inv .part .tree-is) w
 
   -- behind the last part
   pub repeat-ends : length text ≤ o → Emits bytes node mode text out₀ out (Count n)
   repeat-ends end =
-      let whole : reading mode (repeat (inv .part .child)) text ≡ inv .done = inv .reading-is ∙ rw (drop-of-length-le text end, repeat-none mode (inv .part .child), append-nil) in
+      let whole : reading mode (repeat (inv .part .child)) text ≡ inv .done =
+      inv .reading-is ∙ rw (drop-of-length-le text end, repeat-none mode (inv .part .child), append-nil) in
       its-repeat (subst (λ t. Writes t out₀ out (Count n)) (sym whole) (inv .written))
 
   -- what is written lies within the buffer, which is as long as before
@@ -154,7 +158,8 @@ module _
     -- with it the reading goes on behind it
     reading-on :
         reading mode (repeat (inv .part .child)) text
-        ≡ (inv .done ++ reading mode (inv .part .child) (take (o + i - o) (drop o text))) ++ reading mode (repeat (inv .part .child)) (drop (o + i) text)
+        ≡ (inv .done ++ reading mode (inv .part .child) (take (o + i - o) (drop o text)))
+        ++ reading mode (repeat (inv .part .child)) (drop (o + i) text)
     reading-on =
         let l = inv .part .child in
         let place = loop-is-part-from (inv .parsed) (inv .part) (inv .ends) more i-is in
@@ -164,10 +169,19 @@ module _
         ∙ ap (λ t. inv .done ++ t) (repeat-some mode l (drop o text) i some-text place ∙ rw (found, drop-drop i o text))
         ∙ sym (append-assoc (inv .done) (reading mode l (take (o + i - o) (drop o text))) (reading mode (repeat l) (drop (o + i) text)))
 
-    module _ {rest : Text} {answer : Wrote} (emitted : Emits bytes child mode (take (o + i - o) (drop o text)) (take (length out - n) (drop n out)) rest answer) where
+    module _
+        {rest : Text}
+        {answer : Wrote}
+        (emitted : Emits bytes child mode (take (o + i - o) (drop o text)) (take (length out - n) (drop n out)) rest answer) where
       -- what is written with the part
-      part-written : (w : Wrote) → answer ≡ w
-          → Writes (inv .done ++ reading mode (inv .part .child) (take (o + i - o) (drop o text))) out₀ (take n out ++ (rest ++ drop (length out - n) (drop n out))) (further n w)
+      part-written :
+          (w : Wrote)
+          → answer ≡ w
+          → Writes
+          (inv .done ++ reading mode (inv .part .child) (take (o + i - o) (drop o text)))
+          out₀
+          (take n out ++ (rest ++ drop (length out - n) (drop n out)))
+          (further n w)
       part-written w e =
           writes-further
           (inv .done)

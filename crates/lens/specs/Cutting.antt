@@ -1,11 +1,11 @@
 -- Where a text is cut in two, and where the first of its parts ends. The flags that tell it are lent on, part by part.
-use mathlib.Core.Path.{_≡_, ap, _∙_}
+use mathlib.Core.Path.{_≡_}
 use mathlib.Core.Bool.{Bool, true, false}
 use mathlib.Core.List.{List, _++_}
 use Prim.Native.Nat.{ℕ, _+_, _-_, _≤_, _<_}
 use native.Mathlib.Omega.{arith}
 use lib.ListN.{length, take, drop, getD, length-append, length-take, length-drop}
-use lib.Seq.{take-all, length-take-le, getD-append-add, getD-drop, drop-drop}
+use lib.Seq.{take-all, getD-drop, drop-drop}
 use borrow.Author.Tests.{eq-eqb}
 use Rattle.semantics.specs.Text.{Text}
 use Rattle.semantics.specs.Pattern.{Pattern, star, matches}
@@ -55,25 +55,6 @@ pub part-length :
     → length (take o s ++ (part ++ drop (e - o) (drop o s))) ≡ length s
 part-length s part o e h k kept = rw (length-append, length-append, kept) (simp (length-take, length-drop) (omega arith))
 
--- what is behind a part that was lent, from o to e, is as it was
-pub lent-beyond :
-    (s part : List ℕ) (o e i : ℕ)
-    → o ≤ e
-    → e ≤ length s
-    → length part ≡ length (take (e - o) (drop o s))
-    → e ≤ i
-    → getD (take o s ++ (part ++ drop (e - o) (drop o s))) i 0 ≡ getD s i 0
-lent-beyond s part o e i h k kept l =
-    let front : length (take o s) ≡ o = length-take-le o s (omega arith) in
-    let middle : length part ≡ e - o = kept ∙ length-take-le (e - o) (drop o s) (rw length-drop (omega arith)) in
-    let place : i ≡ length (take o s) + (length part + (i - e)) = omega arith in
-    ap (λ (j : ℕ). getD (take o s ++ (part ++ drop (e - o) (drop o s))) j 0) place
-    ∙ getD-append-add (take o s) (part ++ drop (e - o) (drop o s)) (length part + (i - e)) 0
-    ∙ getD-append-add part (drop (e - o) (drop o s)) (i - e) 0
-    ∙ getD-drop (e - o) (drop o s) (i - e) 0
-    ∙ getD-drop o s ((e - o) + (i - e)) 0
-    ∙ ap (λ (j : ℕ). getD s j 0) (omega arith)
-
 -- ---- The flags of a text, as its parts are read one by one
 
 -- they begin as the flags of all its ends
@@ -95,20 +76,3 @@ module _ {a : Pattern} {text : Text} {flags : List ℕ} {o : ℕ} (known : Suffi
             let within : o + i ≤ length text = omega (arith, length-drop o text) in
             rw (flagged-same (drop o flags) flags i (o + i) (getD-drop o flags i 0), drop-drop i o text) (known .flag-is (o + i) (omega arith) within);
       })
-
-  -- where the flags up to p are overwritten, those behind p stay: the flags from o to e were lent, and `part` came back
-  pub suffix-flags-next :
-      (p e : ℕ) (part : List ℕ)
-      → o ≤ p
-      → o ≤ e
-      → e ≤ p + 1
-      → e ≤ length flags
-      → length part ≡ length (take (e - o) (drop o flags))
-      → SuffixFlags a text (take o flags ++ (part ++ drop (e - o) (drop o flags))) p
-  suffix-flags-next p e part h k l m kept =
-      record {
-        flag-is = λ i b w.
-            rw
-            (flagged-same (take o flags ++ (part ++ drop (e - o) (drop o flags))) flags i i (lent-beyond flags part o e i k m kept (omega arith)))
-            (known .flag-is i (omega arith) w);
-      }

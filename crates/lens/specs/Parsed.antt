@@ -97,7 +97,7 @@ module _ {bytes : Text} {node : ℕ} {side : SideOf} {base : ℕ} {path : List �
   pub few-as : (l : Lens) → treeAt (trees bytes) node ≡ lens l → base + positions (language side l) ≤ 128
   few-as l e = subst (λ k. base + positions (language side k) ≤ 128) (shown-as l e) (parsed .few)
 
--- a text that belongs to a node is found to belong, and is parsed by the path that is found
+-- a text that belongs to a node, by the node's automaton
 module _
     {bytes : Text}
     {prepared : List ℕ}
@@ -112,12 +112,15 @@ module _
   described : Describes (language (modeSide mode) (fits .tree)) a prepared
   described = rw a-is (describes-lens known mode (fits .tree) (fits .tree-is))
 
+  -- so the text is found to belong
   pub belongs-found : {found : Bool} → ((r : Pattern) → Describes r a prepared → found ≡ matches r text) → found ≡ true
   belongs-found found-is =
       let r = language (modeSide mode) (fits .tree) in
       found-is r described ∙ in-matches r text (fits .belongs)
 
-  pub parsed-found : {path : List ℕ} → ((r : Pattern) → Describes r a prepared → LeastPath r 0 path text) → Parsed bytes node (modeSide mode) 0 path text
+  -- and parsed by the least path
+  pub parsed-found :
+      {path : List ℕ} → ((r : Pattern) → Describes r a prepared → LeastPath r 0 path text) → Parsed bytes node (modeSide mode) 0 path text
   parsed-found path-is =
       let r = language (modeSide mode) (fits .tree) in
       let few : a .count ≤ 128 = rw a-is ((node-prepared known (sideFor mode)) .room .few) in

@@ -121,13 +121,41 @@ emit-repeat-below t =
     and 5 emit-repeat-kinds.ps (falls 5 emit-repeat-kinds.ps _<_ μ-emit-repeat t) emit-repeat.Pre
 
 abbrev emit-calls : ℕ → emit-lts.Claims
-emit-calls t = (node-reads.Asked, node-reads.Learnt, emit-copy-reads.Asked, emit-copy-reads.Learnt, word-of-reads.Asked, word-of-reads.Learnt, write-text-reads.Asked, write-text-reads.Learnt, emit-join-below t, emit-join.Post, automaton-for-reads.Asked, automaton-for-reads.Learnt, goes-left-reads.Asked, goes-left-reads.Learnt, emit-below t, emit.Post, emit-repeat-below t, emit-repeat.Post)
+emit-calls t = (
+  node-reads.Asked,
+  node-reads.Learnt,
+  emit-copy-reads.Asked,
+  emit-copy-reads.Learnt,
+  word-of-reads.Asked,
+  word-of-reads.Learnt,
+  write-text-reads.Asked,
+  write-text-reads.Learnt,
+  emit-join-below t,
+  emit-join.Post,
+  automaton-for-reads.Asked,
+  automaton-for-reads.Learnt,
+  goes-left-reads.Asked,
+  goes-left-reads.Learnt,
+  emit-below t,
+  emit.Post,
+  emit-repeat-below t,
+  emit-repeat.Post,
+)
 
 abbrev emit-join-calls : ℕ → emit-join-lts.Claims
 emit-join-calls t = (automaton-for-reads.Asked, automaton-for-reads.Learnt, border-reads.Asked, border-reads.Learnt, emit-below t, emit.Post)
 
 abbrev emit-repeat-calls : ℕ → emit-repeat-lts.Claims
-emit-repeat-calls t = (automaton-for-reads.Asked, automaton-for-reads.Learnt, moved-reads.Asked, moved-reads.Learnt, first-loop-reads.Asked, first-loop-reads.Learnt, emit-below t, emit.Post)
+emit-repeat-calls t = (
+  automaton-for-reads.Asked,
+  automaton-for-reads.Learnt,
+  moved-reads.Asked,
+  moved-reads.Learnt,
+  first-loop-reads.Asked,
+  first-loop-reads.Learnt,
+  emit-below t,
+  emit.Post,
+)
 
 emit-node-requires : (t : ℕ) → emit-lts.Need-node-requires (emit-calls t) (emit-at t) emit.Post
 emit-node-requires t c κs = search needs
@@ -308,8 +336,7 @@ emit-returns-7 t c =
     let at-emit-copy = c .before .before in
     let at-enum-told6 = at-emit-copy .before .before in
     let at-node = at-enum-told6 .before .before in
-    let start = at-node .before .before .before .before .before .before in
-    emits-copy (start .pre .1 .0) (at-node .node .ensures) (at-enum-told6 .enum-told6 .given .1) (at-emit-copy .emit-copy .ensures)
+    emits-copy (at-node .node .ensures) (at-enum-told6 .enum-told6 .given .1) (at-emit-copy .emit-copy .ensures)
 
 emit-same-length-3 : (t : ℕ) → emit-lts.Need-same-length-3 (emit-calls t) (emit-at t) emit.Post
 emit-same-length-3 t c = search needs
@@ -320,8 +347,7 @@ emit-returns-8 t c =
     let at-word-of = at-emit-copy2 .before .before in
     let at-kind = at-word-of .before .before in
     let at-node = at-kind .before .before in
-    let start = at-node .before .before .before .before .before .before in
-    emits-const (start .pre .1 .0) (at-node .node .ensures) (at-kind .kind .given .1) (at-word-of .word-of .ensures) (at-emit-copy2 .emit-copy2 .ensures)
+    emits-const (at-node .node .ensures) (at-kind .kind .given .1) (at-word-of .word-of .ensures) (at-emit-copy2 .emit-copy2 .ensures)
 
 emit-same-length-4 : (t : ℕ) → emit-lts.Need-same-length-4 (emit-calls t) (emit-at t) emit.Post
 emit-same-length-4 t c = search needs
@@ -331,8 +357,7 @@ emit-returns-9 t c =
     let at-write-text = c .before .before in
     let at-enum-told7 = at-write-text .before .before in
     let at-node = at-enum-told7 .before .before in
-    let start = at-node .before .before .before .before .before .before in
-    emits-key (start .pre .1 .0) (at-node .node .ensures) (at-enum-told7 .enum-told7 .given .1) (at-write-text .write-text .ensures)
+    emits-key (at-node .node .ensures) (at-enum-told7 .enum-told7 .given .1) (at-write-text .write-text .ensures)
 
 emit-same-length-5 : (t : ℕ) → emit-lts.Need-same-length-5 (emit-calls t) (emit-at t) emit.Post
 emit-same-length-5 t c = search needs
@@ -342,8 +367,7 @@ emit-returns-10 t c =
     let at-emit-join = c .before .before in
     let at-kind2 = at-emit-join .before .before .before in
     let at-node = at-kind2 .before .before in
-    let start = at-node .before .before .before .before .before .before in
-    emits-join (start .pre .1 .0) (at-node .node .ensures) (at-kind2 .kind2 .given .1) (at-emit-join .emit-join .ensures)
+    emits-join (at-node .node .ensures) (at-kind2 .kind2 .given .1) (at-emit-join .emit-join .ensures)
 
 emit-same-length-6 : (t : ℕ) → emit-lts.Need-same-length-6 (emit-calls t) (emit-at t) emit.Post
 emit-same-length-6 t c = search needs
@@ -376,8 +400,7 @@ emit-returns-13 t c =
     let at-emit3 = c .before .before in
     let at-kind5 = at-emit3 .before .before .before in
     let at-node = at-kind5 .before .before in
-    let start = at-node .before .before .before .before .before .before in
-    emits-match (start .pre .1 .0) (at-node .node .ensures) (at-kind5 .kind5 .given .1) (at-emit3 .emit3 .ensures)
+    emits-match (at-node .node .ensures) (at-kind5 .kind5 .given .1) (at-emit3 .emit3 .ensures)
 
 emit-join-automaton-for-requires : (t : ℕ) → emit-join-lts.Need-automaton-for-requires (emit-join-calls t) (emit-join-at t) emit-join.Post
 emit-join-automaton-for-requires t c κs = node-prepared (c .before .before .before .before .before .pre .1 .0) _
@@ -580,7 +603,8 @@ emit-join-returns-3 t c =
     join-next (start .args .mode) known parsed a-is (at-border .border .ensures) first (at-n .n .given .1) second (Count _) (c .before .m .given .1)
 
 abbrev emit-repeat-Inv-loop : emit-repeat-lts.InvT-loop
-emit-repeat-Inv-loop bytes prepared node child mode base text path out₀ last first o₀ n₀ out o n = Repeating bytes node child mode base last first path text out₀ out o n
+emit-repeat-Inv-loop bytes prepared node child mode base text path out₀ last first o₀ n₀ out o n =
+    Repeating bytes node child mode base last first path text out₀ out o n
 
 abbrev emit-repeat-μ-loop : emit-repeat-lts.MeasureT-loop
 emit-repeat-μ-loop bytes prepared node child mode base text path out₀ last first o₀ n₀ out o n = length text - o
