@@ -10,7 +10,7 @@ use lib.ListN.{length, take, drop, length-drop}
 use Rattle.semantics.specs.Text.{Text, joined, least}
 use Rattle.semantics.specs.Pattern.{Pattern, star, matches}
 use Rattle.semantics.specs.Lens.{Lens, copy, const, key, join, union, repeat, match, Side, source, sheet, language, cutAt, parts, partsWithin, get, keyOf}
-use Rattle.laws.specs.Basics.{cond-true, cond-false}
+use Rattle.laws.specs.Basics.{cond-true, cond-false, least-le}
 use Rattle.lens.specs.declared.Mode.{Mode}
 use Rattle.lens.specs.declared.Mode.the-variants.{Get, Key}
 
@@ -118,3 +118,8 @@ parts-next r (c ∷ t) h =
 pub first-part-some : (r : Pattern) (t : Text) → 0 < firstPart r t
 unfolding firstPart
 first-part-some r t = omega arith
+
+-- and lies within the text
+pub first-part-within : (r : Pattern) (t : Text) → 0 < length t → firstPart r t ≤ length t
+unfolding firstPart
+first-part-within r t some = omega (arith, least-le (length t - 1) (λ j. matches r (take (1 + j) t) && matches (star r) (drop (1 + j) t)))

@@ -42,10 +42,9 @@ entries-of ts k t e = rw e
 
 -- ---- What is asked and given
 
--- The program is built, there are flags enough for the text, its place in the old source fits an entry, and the book is one of at most 256 entries.
-pub record ToList (bytes : Text) (prepared : List ℕ) (text : Text) (at : ℕ) (flags : List ℕ) (book : Book) : Type 0 where
+-- The program is built, the text's place in the old source fits an entry, and the book is one of at most 256 entries.
+pub record ToList (bytes : Text) (prepared : List ℕ) (text : Text) (at : ℕ) (book : Book) : Type 0 where
   pub built : Built bytes prepared
-  pub flags-enough : length text < length flags
   pub place-small : at + length text ≤ 65535
   pub sized : Sized book
   pub few : book .count ≤ 256
@@ -112,21 +111,19 @@ module _ {old : Text} (u v : Text) {at : ℕ} (stands : StandsIn old (u ++ v) at
 
 -- a part of the text, from o to e, is listed like the whole
 pub to-list-part :
-    {bytes : Text} {prepared : List ℕ} {text : Text} {at : ℕ} {flags : List ℕ} {b : Book}
-    → ToList bytes prepared text at flags b
-    → (o e at′ : ℕ) {flags′ : List ℕ} {b′ : Book}
+    {bytes : Text} {prepared : List ℕ} {text : Text} {at : ℕ} {b : Book}
+    → ToList bytes prepared text at b
+    → (o e at′ : ℕ) {b′ : Book}
     → o ≤ e
     → e ≤ length text
     → at′ ≡ at + o
-    → e - o < length flags′
     → Sized b′
     → b′ .count ≤ 256
-    → ToList bytes prepared (take (e - o) (drop o text)) at′ flags′ b′
-to-list-part {text} whole o e at′ ordered within place-is enough sized few =
+    → ToList bytes prepared (take (e - o) (drop o text)) at′ b′
+to-list-part {text} whole o e at′ ordered within place-is sized few =
     let size : length (take (e - o) (drop o text)) ≡ e - o = length-take-le (e - o) (drop o text) (rw length-drop (omega arith)) in
     record {
       built = whole .built;
-      flags-enough = rw size enough;
       place-small = rw size (omega (arith, whole .place-small));
       sized = sized;
       few = few;

@@ -2,18 +2,17 @@
 use automaton::Side;
 use automaton::automaton_of;
 use books::Book;
-use lens::cuts::cut_at;
-use lens::cuts::first_part;
+use paths::border;
+use paths::first_loop;
+use paths::goes_left;
 use table::Kind;
 use table::Table;
-ghost use mathlib.Core.Path.{_≡_};
-ghost use mathlib.Core.Bool.{cond};
 ghost use Prim.Native.Nat.{_+_, _≤_, _<_};
 ghost use lib.ListN.{length};
-ghost use Rattle.semantics.specs.Pattern.{star, matches};
-ghost use Rattle.semantics.specs.Lens.{source};
-ghost use Rattle.semantics.specs.Table.{nodeCount, trees, treeAt};
-ghost use Rattle.automaton.specs.Built.{Built, treeLanguage};
+ghost use Rattle.semantics.specs.Lens.{repeat, source};
+ghost use Rattle.semantics.specs.Table.{nodeCount, lens, trees, treeAt};
+ghost use Rattle.table.specs.Prepared.{OneLens};
+ghost use Rattle.lens.specs.Parsed.{Parsed, ParsedJoin};
 ghost use Rattle.books.specs.Listed.{Sized};
 ghost use Rattle.listing.specs.Listing.{ToList, Lists, ListsMatch, treeEntries, joinEntries, repeatEntries};
 
@@ -21,22 +20,6 @@ ghost use Rattle.listing.specs.Listing.{ToList, Lists, ListsMatch, treeE
 pub struct Listing {
     pub over: bool,
     pub book: Book,
-}
-
-// The arm of a union that reads a text.
-fn arm(bytes: &[u8], prepared: &[u64], left: usize, right: usize, text: &[u8]) -> usize
-    requires { ⌜ Built (now bytes) (now prepared) ⌝ }
-    requires { ⌜ left < nodeCount (now bytes) ⌝ }
-    ensures { λ r.
-        ⌜
-        r ≡ cond (matches (treeLanguage source (treeAt (trees (now (bytes .entry))) left)) (now (text .entry))) left right
-        ⌝ }
-{
-    let first = automaton_of(prepared, left, Side::Source);
-    if language::belongs(prepared, first, text) {
-        return left;
-    }
-    right
 }
 
 // The text that a match reads is one entry, of the match's child.
@@ -56,18 +39,21 @@ fn list_match(child: usize, text: &[u8], at: usize, book: Book) -> Listing
     }
 }
 
-// The entries that the matches at and below a node read in a text, put behind those in the book. The text stands at `at` in the old source.
+// The entries that the matches at and below a node read in a text, put behind those in the book. The text stands at `at` in the old source; the path tells
+// how it is cut, and the node's positions are numbered from `base` on.
 pub fn list(
     bytes: &[u8],
     prepared: &[u64],
     node: usize,
+    base: usize,
     text: &[u8],
+    path: &[u8],
     at: usize,
-    flags: &mut [u8],
     book: Book,
 ) -> Listing
-    requires { ⌜ ToList (now bytes) (now prepared) (now text) at (now flags) book ⌝ }
+    requires { ⌜ ToList (now bytes) (now prepared) (now text) at book ⌝ }
     requires { ⌜ node < nodeCount (now bytes) ⌝ }
+    requires { ⌜ Parsed (now bytes) node source base (now path) (now text) ⌝ }
     ensures { λ r.
         ⌜
         Lists (trees (now (bytes .entry))) (treeEntries (treeAt (trees (now (bytes .entry))) node) (now (text .entry))) (now (text .entry)) at book r
@@ -81,14 +67,18 @@ pub fn list(
     match kind {
         Kind::Match { child } => list_match(child, text, at, book),
         Kind::LensUnion { left, right } => {
-            let child = arm(bytes, prepared, left, right, text);
-            list(bytes, prepared, child, text, at, flags, book)
+            let a = automaton_of(prepared, left, Side::Source);
+            let mid = base + a.count;
+            if goes_left(path, mid, a.nullable) {
+                return list(bytes, prepared, left, base, text, path, at, book);
+            }
+            list(bytes, prepared, right, mid, text, path, at, book)
         }
         Kind::LensJoin { left, right } => {
-            list_join(bytes, prepared, left, right, text, at, flags, book)
+            list_join(bytes, prepared, left, right, base, text, path, at, book)
         }
         Kind::LensRepeat { child } => {
-            list_repeat(bytes, prepared, node, child, text, at, flags, book)
+            list_repeat(bytes, prepared, node, child, base, text, path, at, book)
         }
         _ => Listing { over: false, book },
     }
@@ -100,62 +90,92 @@ fn list_join(
     prepared: &[u64],
     left: usize,
     right: usize,
+    base: usize,
     text: &[u8],
+    path: &[u8],
     at: usize,
-    flags: &mut [u8],
     book: Book,
 ) -> Listing
-    requires { ⌜ ToList (now bytes) (now prepared) (now text) at (now flags) book ⌝ }
+    requires { ⌜ ToList (now bytes) (now prepared) (now text) at book ⌝ }
     requires { ⌜ (left < nodeCount (now bytes)) × (right < nodeCount (now bytes)) ⌝ }
+    requires { ⌜ ParsedJoin (now bytes) left right source base (now path) (now text) ⌝ }
     ensures { λ r.
         ⌜
         Lists (trees (now (bytes .entry))) (joinEntries (treeAt (trees (now (bytes .entry))) left) (treeAt (trees (now (bytes .entry))) right) (now (text .entry))) (now (text .entry)) at book r
         ⌝ }
 {
-    let first = automaton_of(prepared, left, Side::Source);
-    let second = automaton_of(prepared, right, Side::Source);
-    let i = cut_at(prepared, first, second, text, flags);
-    let half = list(bytes, prepared, left, &text[0..i], at, flags, book);
+    let a = automaton_of(prepared, left, Side::Source);
+    let mid = base + a.count;
+    let i = border(path, mid);
+    let half = list(
+        bytes,
+        prepared,
+        left,
+        base,
+        &text[0..i],
+        &path[0..i],
+        at,
+        book,
+    );
     if half.over {
         return half;
     }
     let more = half.book;
-    list(bytes, prepared, right, &text[i..], at + i, flags, more)
+    list(
+        bytes,
+        prepared,
+        right,
+        mid,
+        &text[i..],
+        &path[i..],
+        at + i,
+        more,
+    )
 }
 
-// The same for a repeat and its child: part by part, where the flags tell the parts.
+// The same for a repeat and its child: part by part.
 fn list_repeat(
     bytes: &[u8],
     prepared: &[u64],
     node: usize,
     child: usize,
+    base: usize,
     text: &[u8],
+    path: &[u8],
     at: usize,
-    flags: &mut [u8],
     mut book: Book,
 ) -> Listing
-    requires { ⌜ ToList (now bytes) (now prepared) (now text) at (now flags) book ⌝ }
+    requires { ⌜ ToList (now bytes) (now prepared) (now text) at book ⌝ }
     requires { ⌜ (child < node) × (node < nodeCount (now bytes)) ⌝ }
-    requires { ⌜ treeLanguage source (treeAt (trees (now bytes)) node) ≡ star (treeLanguage source (treeAt (trees (now bytes)) child)) ⌝ }
+    requires { ⌜ OneLens (trees (now bytes)) node child (λ l. lens (repeat l)) ⌝ }
+    requires { ⌜ Parsed (now bytes) node source base (now path) (now text) ⌝ }
     ensures { λ r.
         ⌜
         Lists (trees (now (bytes .entry))) (repeatEntries (treeAt (trees (now (bytes .entry))) child) (now (text .entry))) (now (text .entry)) at book r
         ⌝ }
 {
-    let whole = automaton_of(prepared, node, Side::Source);
-    language::suffixes(prepared, whole, text, flags);
     let part = automaton_of(prepared, child, Side::Source);
+    let ends = part.last;
+    let begins = part.first;
+    let last = ends.moved(base);
+    let first = begins.moved(base);
     let mut o = 0;
     while o < text.len() {
-        let i = first_part(prepared, part, &text[o..], &flags[o..]);
-        let e = o + i;
-        let piece = &text[o..e];
-        let own = &mut flags[o..e + 1];
-        let listed = list(bytes, prepared, child, piece, at + o, own, book);
-        if listed.over {
-            return listed;
+        let e = o + first_loop(&path[o..], last, first);
+        let listing = list(
+            bytes,
+            prepared,
+            child,
+            base,
+            &text[o..e],
+            &path[o..e],
+            at + o,
+            book,
+        );
+        if listing.over {
+            return listing;
         }
-        book = listed.book;
+        book = listing.book;
         o = e;
     }
     Listing { over: false, book }
