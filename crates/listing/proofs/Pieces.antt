@@ -62,7 +62,8 @@ module _
   arms-few = omega (arith, arms-border, union-few parsed s)
 
   -- the left arm's entries are the union's, where it reads the text; otherwise the right arm's are
-  left-entries : matches (language source (s .left)) text ≡ true → treeEntries (treeAt (trees bytes) node) text ≡ treeEntries (treeAt (trees bytes) a) text
+  left-entries :
+      matches (language source (s .left)) text ≡ true → treeEntries (treeAt (trees bytes) node) text ≡ treeEntries (treeAt (trees bytes) a) text
   unfolding treeEntries entries
   left-entries reads =
       rw (s .tree-is, s .at-left) (cond-true (matches (language source (s .left)) text) (entries (s .left) text) (entries (s .right) text) reads)

@@ -40,7 +40,8 @@ use Rattle.listing.specs.declared.Listing.{Listing}
 use Rattle.listing.specs.Listing.{ToList, Lists, treeEntries, repeatEntries, lists-none, lists-settled, lists-next, lists-over}
 use Rattle.listing.proofs.NodeEntries.{node-described}
 
--- The sets hold the last and the first positions of the child's sources. Up to o the entries are listed; what is beyond it is parsed as the repeat.
+-- The sets hold the last and the first positions of the child's sources. Up to o the entries are listed; what is beyond it is parsed as
+-- the repeat.
 pub record Repeated
     (bytes : Text) (node child base : ℕ) (path : List ℕ) (text : Text) (at : ℕ) (before : Book) (last first : Set) (book : Book) (o : ℕ) : Type 0 where
   pub ends : Ends (treeLanguage source (treeAt (trees bytes) child)) base last first
@@ -48,6 +49,13 @@ pub record Repeated
   pub done : Entries
   pub entries-are : repeatEntries (treeAt (trees bytes) child) text ≡ done ++ repeatEntries (treeAt (trees bytes) child) (drop o text)
   pub lists-done : Lists (trees bytes) done (take o text) at before (record { over = false; book = book })
+
+-- The part from o on, of length i, is not empty, lies within text and path, and is parsed at the child, as it is lent.
+pub record Turn (bytes : Text) (child base : ℕ) (path : List ℕ) (text : Text) (o i : ℕ) : Type 0 where
+  pub moves : 0 < i
+  pub within : o + i ≤ length text
+  pub on-path : o + i ≤ length path
+  pub parsed : Parsed bytes child source base (take (o + i - o) (drop o path)) (take (o + i - o) (drop o text))
 
 -- the empty text has no parts, and so no entries
 repeat-none : (child : Tree) → repeatEntries child [] ≡ []
@@ -113,21 +121,18 @@ module _
       (s : OneLens (trees bytes) node child (λ l. lens (repeat l)))
       (more : o < length text)
       (i-is : i ≡ firstLoop (holds last) (holds first) (take (length path - o) (drop o path))) where
-    -- the part from o on that the path tells is not empty, and within text and path
-    pub part-moves : 0 < i
-    part-moves = loop-moves-from (known .left) s (child-ends s) more i-is
+    -- the part that the path tells is such a part
+    pub turn : Turn bytes child base path text o i
+    turn =
+        let within = loop-inside-from (known .left) s (child-ends s) more i-is in
+        record {
+          moves = loop-moves-from (known .left) s (child-ends s) more i-is;
+          within = within;
+          on-path = omega (arith, within, parsed-length (known .left .rest), length-drop o text, length-drop o path);
+          parsed = loop-part-from (known .left) s (child-ends s) more i-is;
+        }
 
-    pub part-within : o + i ≤ length text
-    part-within = loop-inside-from (known .left) s (child-ends s) more i-is
-
-    pub part-on-path : o + i ≤ length path
-    part-on-path = omega (arith, part-within, parsed-length (known .left .rest), length-drop o text, length-drop o path)
-
-    -- it is parsed at the child, as it is lent
-    pub part-parsed : Parsed bytes child source base (take (o + i - o) (drop o path)) (take (o + i - o) (drop o text))
-    part-parsed = loop-part-from (known .left) s (child-ends s) more i-is
-
-    -- and is the first part of what is left
+    -- and the first of what is left
     part-is : i ≡ firstPart (treeLanguage source part-tree) (drop o text)
     unfolding treeLanguage
     part-is = rw (s .at-child) (loop-is-part-from (known .left) s (child-ends s) more i-is)
