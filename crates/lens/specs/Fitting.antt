@@ -120,6 +120,7 @@ module _ {bytes : Text} {node : ℕ} {side : Side} {text : Text} (fits : Fits by
 -- the two halves of a join's text, where it is cut
 module _ {bytes : Text} {left right : ℕ} {side : Side} {text : Text} (fits : FitsJoin bytes left right side text) {i : ℕ}
     (cut : i ≡ cutAt (language side (fits .left-tree)) (language side (fits .right-tree)) text) where
+  -- the front half belongs to the left node
   pub fits-left : Fits bytes left side (take i text)
   unfolding WellTyped language
   fits-left =
@@ -130,6 +131,7 @@ module _ {bytes : Text} {left right : ℕ} {side : Side} {text : Text} (fits : F
         belongs = rw cut (halves-in (language side (fits .left-tree)) (language side (fits .right-tree)) text (fits .belongs) .0);
       }
 
+  -- the back half belongs to the right node
   pub fits-right : Fits bytes right side (drop i text)
   unfolding WellTyped language
   fits-right =

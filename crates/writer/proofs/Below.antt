@@ -96,6 +96,7 @@ module _
       (describes-sheet known-left (fits .left-tree) (fits .left-is))
       (describes-sheet known-right (fits .right-tree) (fits .right-is))
 
+  -- the left node is given the front half
   pub lent-left : {pad′ : List ℕ} → length pad′ ≡ length pad → Lent bytes left (take (i - 0) new) pad′
   lent-left same =
       record {
@@ -104,6 +105,7 @@ module _
         pad-room = omega (arith, lent .left-room);
       }
 
+  -- the right node is given the back half
   pub lent-right : {pad′ : List ℕ} → length pad′ ≡ length pad → Lent bytes right (take (length new - i) (drop i new)) pad′
   lent-right same =
       record {
