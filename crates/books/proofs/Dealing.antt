@@ -1,6 +1,6 @@
 -- The cards of the entries, one by one, behind the old source. Assumes nothing.
 use mathlib.Core.Path.{_≡_, refl, sym, ap, _∙_}
-use mathlib.Core.Bool.{Bool, true, false, not, false≢true, true≢false}
+use mathlib.Core.Bool.{Bool, true, false}
 use mathlib.Core.List.{List, _++_}
 use mathlib.Core.Option.{some}
 use Prim.Native.Nat.{ℕ, _+_, _-_, _*_, _≤_, _<_, max}
@@ -116,15 +116,6 @@ entry-key :
     → entryAt ts source b i .key-text ≡ keyOf l (get l (textAt source b i))
 unfolding entryAt entryOf orElse
 entry-key ts source b i at-child = rw at-child
-
--- what a test's opposite tells
-pub is-false : {b : Bool} → not b ≡ true → b ≡ false
-is-false {true} e = absurd (false≢true e)
-is-false {false} e = refl
-
-pub is-true : {b : Bool} → not b ≡ false → b ≡ true
-is-true {true} e = refl
-is-true {false} e = absurd (true≢false e)
 
 -- ---- The room for an entry's sheet, lent for one entry after the other
 

@@ -216,7 +216,14 @@ fn no_card() -> [u8; 4100]
     [0u8; 4100]
 }
 
-// A match: put onto the entry that the key finds, or create where there is none.
+// Room for the sets that finding the path of a text keeps.
+fn no_marks() -> [u64; 128]
+    ensures { λ r. ⌜ 128 ≡ length r ⌝ }
+{
+    [0u64; 128]
+}
+
+// A match: put onto the entry that the key finds, or create where there is none. The pad lends room for the path of the sheet's text.
 fn write_match(
     bytes: &[u8],
     prepared: &[u64],
@@ -232,7 +239,8 @@ fn write_match(
     ensures { λ r. ⌜ WritesMatch (now (bytes .entry)) child (now (deck .entry)) (now (new .entry)) book (now (out .entry)) (now (out .exit)) r ⌝ }
 {
     let mut card = no_card();
-    let n = card_of(bytes, prepared, child, new, pad, &mut card);
+    let mut marks = no_marks();
+    let n = card_of(bytes, prepared, child, new, &mut marks, pad, &mut card);
     let lookup = book.take(child, &card[0..n], deck);
     let rest = lookup.book;
     let found = lookup.old;

@@ -4,9 +4,10 @@ use mathlib.Core.Bool.{false≢true, true≢false}
 use Prim.Native.Nat.{_+_, _*_, _-_, _≤_}
 use native.Mathlib.Omega.{arith}
 use borrow.Author.Needs.{needs}
+use borrow.Author.Tests.{not-true, not-false}
 use lib.ListN.{length}
 use Rattle.books.specs.Looking.{entry-node}
-use Rattle.books.proofs.Dealing.{DealtTo, dealt-none, dealt-more, dealt-all, lent-short, lent-entry, is-true, is-false, place, slot-long, deck-long, SameRoom, same-room-begins, same-room-kept, same-room-left}
+use Rattle.books.proofs.Dealing.{DealtTo, dealt-none, dealt-more, dealt-all, lent-short, lent-entry, place, slot-long, deck-long, SameRoom, same-room-begins, same-room-kept, same-room-left}
 use Rattle.books.proofs.deck.fill_deck.Statement.{statement}
 use Rattle.books.proofs.deck.fill_deck.Tie as tie
 
@@ -92,7 +93,7 @@ same-length-4 : tie.Need-same-length-4 Inv-loop μ-loop
 same-length-4 c = deck-long (c .before .before .before .before .before .before .before .before .before .before .before .before .before .before .before .before .before .before .before .loop .deck) (c .before .before .before .before .before .before .before .before .before .before .before .before .before .before .before .before .before .before .before .loop .i) (c .before .before .before .before .before .before .before .before .before .entry-card .last .1 .1 .1 .1 .1 .1 .1 .0) (omega (arith, c .before .before .before .before .before .before .before .before .before .before .before .before .before .before .before .before .before .before .before .loop .inv, c .before .before .before .before .before .before .before .before .before .before .before .before .before .before .before .before .before .before .loop-test .taken, c .before .before .before .before .before .before .before .before .before .before .before .before .before .before .before .before .before .before .before .before .before .before .before .before .before .before .before .before .before .before .before .pre .1 .0 .fits .few)) (c .before .before .before .before .before .before .before .before .before .entry-card .kept .1 .1 .1 .1 .1 .1 .1 .0 ∙ slot-long (c .before .before .before .before .before .before .before .before .before .before .before .before .before .before .before .before .before .before .before .loop .deck) (c .before .before .before .before .before .before .before .before .before .before .before .before .before .before .before .before .before .before .before .loop .i) (omega (arith, c .before .before .before .before .before .before .before .before .before .before .before .before .before .before .before .before .before .before .before .loop .inv, c .before .before .before .before .before .before .before .before .before .before .before .before .before .before .before .before .before .before .loop-test .taken, c .before .before .before .before .before .before .before .before .before .before .before .before .before .before .before .before .before .before .before .before .before .before .before .before .before .before .before .before .before .before .before .pre .1 .0 .fits .few))) ∙ c .before .before .before .before .before .before .before .before .before .before .before .before .before .before .before .before .before .before .before .loop .inv .2 .1 ∙ c .before .before .before .before .before .before .before .before .before .before .before .before .before .before .before .before .before .before .before .before .before .before .write-text .kept .1 .0
 
 returns : tie.Need-returns Inv-loop μ-loop
-returns c = record { made = λ e. absurd (false≢true e); too-long = λ e. omega (arith, c .before .before .before .before .before .before .before .before .before .entry-card .ensures .too-long (is-false (c .if1 .taken)), c .before .before .before .before .before .before .before .before .before .before .before .before .before .before .before .before .before .before .before .loop .inv .1 .sheet-same) }
+returns c = record { made = λ e. absurd (false≢true e); too-long = λ e. omega (arith, c .before .before .before .before .before .before .before .before .before .entry-card .ensures .too-long (not-true _ (c .if1 .taken)), c .before .before .before .before .before .before .before .before .before .before .before .before .before .before .before .before .before .before .before .loop .inv .1 .sheet-same) }
 
 add-i : tie.Need-add-i Inv-loop μ-loop
 add-i c = omega (arith, c .before .before .before .before .before .before .before .before .before .before .before .before .before .before .before .before .before .before .loop-test .taken, c .before .before .before .before .before .before .before .before .before .before .before .before .before .before .before .before .before .before .before .before .before .before .before .before .before .before .before .before .before .before .before .pre .1 .0 .fits .few)
@@ -101,7 +102,7 @@ loop-less : tie.Need-loop-less Inv-loop μ-loop
 loop-less c = search needs
 
 loop-again : tie.Need-loop-again Inv-loop μ-loop
-loop-again c = let room : place (c .before .before .before .before .before .before .before .before .before .before .before .before .before .before .before .before .before .before .before .loop .i) + 4100 ≤ length (c .before .before .before .before .before .before .before .before .before .before .before .before .before .before .before .before .before .before .before .loop .deck) = omega (arith, c .before .before .before .before .before .before .before .before .before .before .before .before .before .before .before .before .before .before .before .loop .inv, c .before .before .before .before .before .before .before .before .before .before .before .before .before .before .before .before .before .before .loop-test .taken, c .before .before .before .before .before .before .before .before .before .before .before .before .before .before .before .before .before .before .before .before .before .before .before .before .before .before .before .before .before .before .before .pre .1 .0 .fits .few) in let size = c .before .before .before .before .before .before .before .before .before .entry-card .kept .1 .1 .1 .1 .1 .1 .1 .0 ∙ slot-long (c .before .before .before .before .before .before .before .before .before .before .before .before .before .before .before .before .before .before .before .loop .deck) (c .before .before .before .before .before .before .before .before .before .before .before .before .before .before .before .before .before .before .before .loop .i) room in let long = deck-long (c .before .before .before .before .before .before .before .before .before .before .before .before .before .before .before .before .before .before .before .loop .deck) (c .before .before .before .before .before .before .before .before .before .before .before .before .before .before .before .before .before .before .before .loop .i) (c .before .before .before .before .before .before .before .before .before .entry-card .last .1 .1 .1 .1 .1 .1 .1 .0) room size in (omega (arith, c .before .before .before .before .before .before .before .before .before .before .before .before .before .before .before .before .before .before .loop-test .taken), same-room-kept (c .before .before .before .before .before .before .before .before .before .before .before .before .before .before .before .before .before .before .before .loop .inv .1) (c .before .before .before .before .before .before .before .before .before .entry-card .kept .1 .1 .1 .1 .0) (c .before .before .before .before .before .before .before .before .before .entry-card .kept .1 .1 .1 .1 .1 .0) (c .before .before .before .before .before .before .before .before .before .entry-card .kept .1 .1 .1 .1 .1 .1 .0), (omega (arith, long, c .before .before .before .before .before .before .before .before .before .before .before .before .before .before .before .before .before .before .before .loop .inv .2 .0), long ∙ c .before .before .before .before .before .before .before .before .before .before .before .before .before .before .before .before .before .before .before .loop .inv .2 .1), dealt-more (c .before .before .before .before .before .before .before .before .before .before .before .before .before .before .before .before .before .before .before .loop .inv .3) (c .before .before .before .before .before .before .before .before .before .entry-card .last .1 .1 .1 .1 .1 .1 .1 .0) (c .before .before .before .before .before .before .before .before .before .before .before .before .before .before .before .before .before .before .before .before .before .before .before .before .before .before .before .before .before .before .before .pre .1 .1 .1 .0) room size (c .before .before .before .before .before .before .before .before .before .entry-card .ensures .made (is-true (c .if1 .left))))
+loop-again c = let room : place (c .before .before .before .before .before .before .before .before .before .before .before .before .before .before .before .before .before .before .before .loop .i) + 4100 ≤ length (c .before .before .before .before .before .before .before .before .before .before .before .before .before .before .before .before .before .before .before .loop .deck) = omega (arith, c .before .before .before .before .before .before .before .before .before .before .before .before .before .before .before .before .before .before .before .loop .inv, c .before .before .before .before .before .before .before .before .before .before .before .before .before .before .before .before .before .before .loop-test .taken, c .before .before .before .before .before .before .before .before .before .before .before .before .before .before .before .before .before .before .before .before .before .before .before .before .before .before .before .before .before .before .before .pre .1 .0 .fits .few) in let size = c .before .before .before .before .before .before .before .before .before .entry-card .kept .1 .1 .1 .1 .1 .1 .1 .0 ∙ slot-long (c .before .before .before .before .before .before .before .before .before .before .before .before .before .before .before .before .before .before .before .loop .deck) (c .before .before .before .before .before .before .before .before .before .before .before .before .before .before .before .before .before .before .before .loop .i) room in let long = deck-long (c .before .before .before .before .before .before .before .before .before .before .before .before .before .before .before .before .before .before .before .loop .deck) (c .before .before .before .before .before .before .before .before .before .before .before .before .before .before .before .before .before .before .before .loop .i) (c .before .before .before .before .before .before .before .before .before .entry-card .last .1 .1 .1 .1 .1 .1 .1 .0) room size in (omega (arith, c .before .before .before .before .before .before .before .before .before .before .before .before .before .before .before .before .before .before .loop-test .taken), same-room-kept (c .before .before .before .before .before .before .before .before .before .before .before .before .before .before .before .before .before .before .before .loop .inv .1) (c .before .before .before .before .before .before .before .before .before .entry-card .kept .1 .1 .1 .1 .0) (c .before .before .before .before .before .before .before .before .before .entry-card .kept .1 .1 .1 .1 .1 .0) (c .before .before .before .before .before .before .before .before .before .entry-card .kept .1 .1 .1 .1 .1 .1 .0), (omega (arith, long, c .before .before .before .before .before .before .before .before .before .before .before .before .before .before .before .before .before .before .before .loop .inv .2 .0), long ∙ c .before .before .before .before .before .before .before .before .before .before .before .before .before .before .before .before .before .before .before .loop .inv .2 .1), dealt-more (c .before .before .before .before .before .before .before .before .before .before .before .before .before .before .before .before .before .before .before .loop .inv .3) (c .before .before .before .before .before .before .before .before .before .entry-card .last .1 .1 .1 .1 .1 .1 .1 .0) (c .before .before .before .before .before .before .before .before .before .before .before .before .before .before .before .before .before .before .before .before .before .before .before .before .before .before .before .before .before .before .before .pre .1 .1 .1 .0) room size (c .before .before .before .before .before .before .before .before .before .entry-card .ensures .made (not-false _ (c .if1 .left))))
 
 same-length-5 : tie.Need-same-length-5 Inv-loop μ-loop
 same-length-5 c = c .before .loop .inv .1 .sheet-same
