@@ -24,13 +24,7 @@ pub fn root_of(bytes: &[u8]) -> usize
 }
 
 // Whether a text belongs to the root's language on a side, and its path if it does.
-pub fn root_path(
-    bytes: &[u8],
-    prepared: &[u64],
-    side: Side,
-    text: &[u8],
-    path: &mut [u8],
-) -> bool
+pub fn root_path(bytes: &[u8], prepared: &[u64], side: Side, text: &[u8], path: &mut [u8]) -> bool
     requires { ⌜ Ready (now bytes) (now prepared) ⌝ }
     requires { ⌜ (length (now text) ≤ 4096) × (length (now path) ≡ length (now text)) ⌝ }
     ensures { λ r. ⌜ RootPath (now (bytes .entry)) side (now (text .entry)) (now (path .exit)) r ⌝ }

@@ -29,28 +29,11 @@ fn entry_card(
     requires { ⌜ SheetRoom (now sheet) (now marks) (now path) ⌝ }
     ensures { λ done. ⌜ CardTried (now (bytes .entry)) child (now (text .entry)) (now (sheet .entry)) (now (card .exit)) done ⌝ }
 {
-    let wrote = read_text(
-        bytes,
-        prepared,
-        child,
-        Mode::Get,
-        text,
-        marks,
-        path,
-        sheet,
-    );
+    let wrote = read_text(bytes, prepared, child, Mode::Get, text, marks, path, sheet);
     let Wrote::Count(n) = wrote else {
         return false;
     };
-    card_of(
-        bytes,
-        prepared,
-        child,
-        &sheet[0..n],
-        marks,
-        path,
-        card,
-    );
+    card_of(bytes, prepared, child, &sheet[0..n], marks, path, card);
     true
 }
 

@@ -1,5 +1,5 @@
 -- The book that a call begins with, and the source that is written with it.
-use mathlib.Core.Path.{_≡_, refl, sym, _∙_}
+use mathlib.Core.Path.{_≡_, refl, sym, ap, subst, _∙_}
 use mathlib.Core.Bool.{Bool, true, false, _||_}
 use mathlib.Core.List.{List}
 use mathlib.Core.Option.{Option, none, some}
@@ -15,19 +15,25 @@ use Rattle.semantics.specs.Lens.{Lens, Side, source, sheet, language, entries, 
 use Rattle.semantics.specs.Table.{nodeCount, treeAt, trees}
 use Rattle.semantics.specs.Calls.{gives, program, maxText, maxEntries, tooLong, notOf}
 use Rattle.laws.specs.Membership.{matches-in}
-use Rattle.laws.specs.Accepted.{accepted}
+use Rattle.automaton.specs.declared.Side.the-variants.{Source, Sheet}
+use Rattle.automaton.specs.Rows.{sideOf}
 use Rattle.lens.specs.declared.Wrote.{Wrote}
+use Rattle.lens.specs.Parsed.{parsed-fits}
 use Rattle.books.specs.declared.Book.{Book}
 use Rattle.books.specs.Listed.{Sized, unused, unused-none, fits-none}
-use Rattle.books.specs.Looking.{Dealt, over-more, unused-dealt, entries-fit-listed}
+use Rattle.books.specs.Looking.{Dealt, SheetRoom, over-more, unused-dealt, entries-fit-listed}
 use Rattle.listing.specs.declared.Listing.{Listing}
 use Rattle.listing.specs.Listing.{treeEntries, entries-of, ToList, StandsIn, Untaken, Lists, PutBehind}
-use Rattle.writer.specs.declared.Done.{Done}
+use Rattle.writer.specs.declared.Done.{Done as Did}
 use Rattle.writer.specs.Writing.{Lent, WritesNode, padNeeded}
 use Rattle.writer.specs.Writing.{Ready as ToWrite}
 use Rattle.answers.specs.Answers.{Ready}
-use Rattle.answers.specs.Results.{Makes}
-use Rattle.calls.specs.Sources.{SheetReady, BookReady, ListsSource}
+use Rattle.answers.specs.Results.{RootPath, Makes}
+use Rattle.calls.specs.declared.put.Desk.{Desk}
+use Rattle.calls.specs.declared.put.Desk.the-variants.{Small, Full, Long}
+use Rattle.calls.specs.declared.put.Sourced.{Sourced}
+use Rattle.calls.specs.declared.put.Sourced.the-variants.{Done, Long as Long′}
+use Rattle.calls.specs.Sources.{SourceReady, SheetReady, BookReady, ListsSource, MakesOr}
 use Rattle.answers.proofs.Giving.{root-at, root-node, too-long, not-too-long}
 
 -- ---- The empty book
@@ -39,9 +45,8 @@ module _ {b : Book} (empty : (b .count ≡ 0) × Sized b) where
       record { fits = fits-none (length old) b (empty .0); counted = rw (unused-none (trees bytes) old b (empty .0), empty .0) refl }
 
   -- a source is listed into it
-  pub to-list : {bytes old : Text} {prepared flags : List ℕ} → Ready bytes prepared → length old ≤ maxText → 4097 ≡ length flags → ToList bytes prepared old 0 flags b
-  to-list ready short room =
-      record { built = ready .built; flags-enough = omega arith; place-small = omega arith; sized = empty .1; few = omega (arith, empty .0) }
+  pub to-list : {bytes old : Text} {prepared : List ℕ} → Ready bytes prepared → length old ≤ maxText → ToList bytes prepared old 0 b
+  to-list ready short = record { built = ready .built; place-small = omega arith; sized = empty .1; few = omega (arith, empty .0) }
 
 -- a text stands in itself
 stands-whole : (t : Text) → StandsIn t t 0
@@ -54,19 +59,15 @@ passes-in side text l e = matches-in (language side l) text (not-false (matches 
 
 -- ---- The root
 
--- a sheet that passes both tests belongs to the root, whose lens keeps the typing rules
-pub sheet-ready :
-    {bytes new : Text} {prepared : List ℕ} (ready : Ready bytes prepared)
-    → length new ≤ maxText
-    → notOf sheet (ready .accepted .root) new ≡ false
-    → SheetReady bytes new
-sheet-ready {bytes} {new} ready short inside =
-    let l = ready .accepted .root in
-    let e = ready .accepted .gives-root in
-    record {
-      new-short = short;
-      new-fits = record { tree = l; tree-is = root-at ready refl l e; typed = accepted bytes l e .0; belongs = passes-in sheet new l inside };
-    }
+-- a sheet whose path was found belongs to the root
+pub sheet-ready : {bytes new : Text} {path : List ℕ} {found : Bool} → length new ≤ maxText → RootPath bytes Sheet new path found → found ≡ true → SheetReady bytes new
+unfolding sideOf
+sheet-ready short root told = record { new-short = short; new-fits = parsed-fits (root .parsed told) }
+
+-- and so does a source
+pub source-ready : {bytes text : Text} {path : List ℕ} {found : Bool} → RootPath bytes Source text path found → found ≡ true → SourceReady bytes text path
+unfolding sideOf
+source-ready root told = record { parsed = root .parsed told }
 
 module _ {bytes : Text} {prepared : List ℕ} (ready : Ready bytes prepared) {root : ℕ} (root-is : root ≡ nodeCount bytes - 1) where
   -- what was listed into an empty book are the source's entries
@@ -132,7 +133,7 @@ module _ {bytes : Text} {prepared : List ℕ} (ready : Ready bytes prepared) {ro
   -- ---- What the root writes
 
   pub root-makes :
-      {deck : Text} {old : Option Text} {new before after : Text} {b : Book} {done : Done}
+      {deck : Text} {old : Option Text} {new before after : Text} {b : Book} {done : Did}
       → WritesNode bytes root deck old new b before after done
       → Makes bytes (λ l. write l old new (unused (trees bytes) deck b) .text) before after (done .wrote)
   root-makes wrote = record { makes = λ l e. wrote .writes l (root-at ready root-is l e) .bytes-are }
@@ -169,3 +170,57 @@ second-long a old k h = rw (not-too-long a k, too-long old h) refl
 
 pub neither-long : (a old : Text) → length a ≤ maxText → length old ≤ maxText → (tooLong a || tooLong old) ≡ false
 neither-long a old k h = rw (not-too-long a k, not-too-long old h) refl
+
+-- ---- The desks of a put
+
+-- room for the sheet of an entry, as long as a text may be or as long as any
+pub short-room : {sheet marks path : List ℕ} → 4096 ≡ length sheet → 128 ≡ length marks → 4096 ≡ length path → SheetRoom sheet marks path
+short-room s m p = record { least-room = omega arith; most-room = omega arith; same-room = omega arith; marks-room = omega arith }
+
+pub long-room : {sheet marks path : List ℕ} → 524288 ≡ length sheet → 16384 ≡ length marks → 524288 ≡ length path → SheetRoom sheet marks path
+long-room s m p = record { least-room = omega arith; most-room = omega arith; same-room = omega arith; marks-room = omega arith }
+
+-- how many desks there are after a desk, in the order in which they are tried
+abbrev pub desksAfter : Desk → ℕ
+desksAfter Small = 1
+desksAfter Full = 1
+desksAfter Long = 0
+
+-- which desk has a small deck
+abbrev pub smallDeck : Desk → ℕ
+smallDeck Small = 1
+smallDeck Full = 0
+smallDeck Long = 0
+
+-- the others are not that one
+pub not-small : {A : Type 0} {desk : Desk} → smallDeck desk ≡ 0 → desk ≡ Small → A
+not-small other e = absurd (let z : _≡_ {A = ℕ} 0 1 = sym other ∙ ap smallDeck e in omega arith)
+
+-- whether a desk had room
+abbrev hadRoom : Sourced → ℕ
+hadRoom (Done wrote) = 1
+hadRoom Long′ = 0
+
+module _ {room : ℕ} {bytes : Text} {make : Lens → Text} {before after : Text} where
+  -- it had, and wrote
+  pub desk-wrote : {wrote : Wrote} → Makes bytes make before after wrote → MakesOr room bytes make before after (Done wrote)
+  desk-wrote makes =
+      record {
+        done = λ w e. subst (Makes bytes make before after) (cc e) makes;
+        long = λ e. absurd (let z : _≡_ {A = ℕ} 1 0 = ap hadRoom e in omega arith);
+      }
+
+  -- it had not, and wrote nothing
+  pub desk-short : after ≡ before → room < 524288 → MakesOr room bytes make before after Long′
+  desk-short same short =
+      record { done = λ w e. absurd (let z : _≡_ {A = ℕ} 0 1 = ap hadRoom e in omega arith); long = λ e. (same, short) }
+
+-- what the next desk writes is then what the root makes
+pub desk-next :
+    {room : ℕ} {bytes : Text} {make : Lens → Text} {before mid after : Text} {tried : Sourced} {wrote : Wrote}
+    → MakesOr room bytes make before mid tried → tried ≡ Long′ → Makes bytes make mid after wrote → Makes bytes make before after wrote
+desk-next tried e next = rw (tried .long e .0) at next
+
+-- the last desk always has room
+pub desk-last : {A : Type 0} {bytes : Text} {make : Lens → Text} {before after : Text} {tried : Sourced} → MakesOr 524288 bytes make before after tried → tried ≡ Long′ → A
+desk-last tried e = absurd (omega (arith, tried .long e .1))

@@ -9,6 +9,7 @@ use Rattle.semantics.specs.Text.{Text}
 use Rattle.semantics.specs.Lens.{Lens, source, sheet, entries}
 use Rattle.semantics.specs.Table.{nodeCount, trees}
 use Rattle.semantics.specs.Calls.{gives, program, maxText, maxEntries, notOf}
+use Rattle.lens.specs.declared.Wrote.{Wrote}
 use Rattle.lens.specs.Emitting.{Fits}
 use Rattle.lens.specs.Parsed.{Parsed}
 use Rattle.answers.specs.Results.{Makes}
@@ -45,9 +46,9 @@ pub record ListsSource (bytes old : Text) (r : Listing) : Type 0 where
 -- ---- The desks of a put
 
 -- What the root makes was written; or the room for an entry's sheet is shorter than such a sheet can be, and nothing was written.
-unfoldable pub MakesOr : ℕ → Text → (Lens → Text) → Text → Text → Sourced → Type 0
-MakesOr room bytes make before after (Done wrote) = Makes bytes make before after wrote
-MakesOr room bytes make before after Long = (after ≡ before) × (room < 524288)
+pub record MakesOr (room : ℕ) (bytes : Text) (make : Lens → Text) (before after : Text) (tried : Sourced) : Type 0 where
+  pub done : (wrote : Wrote) → tried ≡ Done wrote → Makes bytes make before after wrote
+  pub long : tried ≡ Long → (after ≡ before) × (room < 524288)
 
 -- The desk has a card for each entry.
 pub record DeskFits (desk : Desk) (b : Book) : Type 0 where

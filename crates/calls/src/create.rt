@@ -26,9 +26,10 @@ pub fn create_with(bytes: &[u8], prepared: &[u64], sheet: &[u8], out: &mut [u8])
     if 4096 < sheet.len() {
         return refuse(12);
     }
-    let mut path = no_text();
+    let mut positions = no_text();
     let n = sheet.len();
-    if !root_path(bytes, prepared, Side::Sheet, sheet, &mut path[0..n]) {
+    let path = &mut positions[0..n];
+    if !root_path(bytes, prepared, Side::Sheet, sheet, path) {
         return refuse(14);
     }
     let mut result = no_text();

@@ -26,21 +26,15 @@ pub fn get_with(bytes: &[u8], prepared: &[u64], source: &[u8], out: &mut [u8]) -
     if 4096 < source.len() {
         return refuse(12);
     }
-    let mut path = no_text();
+    let mut positions = no_text();
     let n = source.len();
-    if !root_path(bytes, prepared, Side::Source, source, &mut path[0..n]) {
+    let path = &mut positions[0..n];
+    if !root_path(bytes, prepared, Side::Source, source, path) {
         return refuse(13);
     }
     let mut result = no_text();
     let room = room_in(out.len());
-    get_into(
-        bytes,
-        prepared,
-        source,
-        &path[0..n],
-        &mut result[0..room],
-        out,
-    )
+    get_into(bytes, prepared, source, path, &mut result[0..room], out)
 }
 
 // The sheet, made in a slice as long as a result may be.

@@ -54,17 +54,19 @@ pub fn put_with(
     if 4096 < source.len() {
         return refuse(12);
     }
-    let mut path = no_text();
+    let mut positions = no_text();
     let n = source.len();
-    if !root_path(bytes, prepared, Side::Source, source, &mut path[0..n]) {
+    let path = &mut positions[0..n];
+    if !root_path(bytes, prepared, Side::Source, source, path) {
         return refuse(13);
     }
-    let mut own = no_text();
+    let mut others = no_text();
     let m = sheet.len();
-    if !root_path(bytes, prepared, Side::Sheet, sheet, &mut own[0..m]) {
+    let other = &mut others[0..m];
+    if !root_path(bytes, prepared, Side::Sheet, sheet, other) {
         return refuse(14);
     }
-    let listing = entries_of(bytes, prepared, source, &path[0..n]);
+    let listing = entries_of(bytes, prepared, source, path);
     if listing.over {
         return refuse(15);
     }
@@ -296,7 +298,11 @@ fn write_source(
 fn desk_for(book: Book) -> Desk
     ensures { λ r. ⌜ DeskFits r book ⌝ }
 {
-    if book.count <= 8 { Desk::Small } else { Desk::Full }
+    if book.count <= 8 {
+        Desk::Small
+    } else {
+        Desk::Full
+    }
 }
 
 // The source, made in a slice as long as a result may be. The book holds the old source's entries.

@@ -1,8 +1,9 @@
 -- `calls::create::create_with` meets its contract, test by test. Assumes nothing.
-use borrow.Author.Needs.{needs}
-use native.Mathlib.Omega.{arith}
-use denote.Ref.{now}
 use mathlib.Core.Path.{_∙_}
+use native.Mathlib.Omega.{arith}
+use borrow.Author.Needs.{needs}
+use denote.Ref.{now}
+use borrow.Author.Tests.{not-false}
 use lib.ListN.{length-take}
 use Rattle.semantics.specs.Calls.{createCall}
 use Rattle.automaton.specs.Rows.{sideOf}
@@ -18,18 +19,30 @@ returns : tie.Need-returns
 unfolding createCall
 returns c = program-gives _ (c .before .before .before .before .before .before .pre .accepted) (refused 12 _ (c .refuse .ensures) (too-long (now (c .before .before .before .before .before .before .args .sheet)) (c .before .if1 .taken)))
 
-belongs-to-root-requires : tie.Need-belongs-to-root-requires
-belongs-to-root-requires c κs = search needs
+no-text-requires : tie.Need-no-text-requires
+no-text-requires c κs = search needs
+
+sub-path : tie.Need-sub-path
+sub-path c = search needs
+
+part-positions-start : tie.Need-part-positions-start
+part-positions-start c = search needs
+
+part-positions-end : tie.Need-part-positions-end
+part-positions-end c = search needs
+
+root-path-requires : tie.Need-root-path-requires
+root-path-requires c κs = search needs
 
 refuse-requires-2 : tie.Need-refuse-requires-2
 refuse-requires-2 c κs = search needs
 
 returns-2 : tie.Need-returns-2
 unfolding createCall sideOf
-returns-2 c = program-gives _ (c .before .before .before .before .before .before .before .before .pre .accepted) (passed 12 (not-too-long (now (c .before .before .before .before .before .before .before .before .args .sheet)) (c .before .before .before .if1 .left)) (refused 14 _ (c .refuse2 .ensures) (not-of (c .before .before .before .before .before .before .before .before .pre .accepted) (c .before .before .belongs-to-root .ensures) ∙ c .before .if2 .taken)))
+returns-2 c = program-gives _ (c .before .before .before .before .before .before .before .before .before .before .before .pre .accepted) (passed 12 (not-too-long (now (c .before .before .before .before .before .before .before .before .before .before .before .args .sheet)) (c .before .before .before .before .before .before .if1 .left)) (refused 14 _ (c .refuse2 .ensures) (not-of (c .before .before .before .before .before .before .before .before .before .before .before .pre .accepted) (c .before .before .before .root-path .ensures) ∙ c .before .if2 .taken)))
 
-no-text-requires : tie.Need-no-text-requires
-no-text-requires c κs = search needs
+no-text-requires-2 : tie.Need-no-text-requires-2
+no-text-requires-2 c κs = search needs
 
 room-in-requires : tie.Need-room-in-requires
 room-in-requires c κs = search needs
@@ -44,15 +57,14 @@ part-result-end : tie.Need-part-result-end
 part-result-end c = search needs
 
 create-into-requires : tie.Need-create-into-requires
-unfolding sideOf
-create-into-requires c κs = (c .before .before .before .before .before .before .before .before .before .before .before .pre, (sheet-ready (c .before .before .before .before .before .before .before .before .before .before .before .pre) (c .before .before .before .before .before .before .if1 .left) (not-of (c .before .before .before .before .before .before .before .before .before .before .before .pre .accepted) (c .before .before .before .before .before .belongs-to-root .ensures) ∙ c .before .before .before .before .if2 .left), simp length-take (omega (arith, c .before .before .before .no-text .ensures, c .before .before .room-in .ensures))))
+create-into-requires c κs = (c .before .before .before .before .before .before .before .before .before .before .before .before .before .before .pre, (sheet-ready (c .before .before .before .before .before .before .before .before .before .if1 .left) (c .before .before .before .before .before .before .root-path .ensures) (not-false _ (c .before .before .before .before .if2 .left)), simp length-take (omega (arith, c .before .before .before .no-text2 .ensures, c .before .before .room-in .ensures))))
 
 same-length : tie.Need-same-length
 same-length c = search needs
 
 returns-3 : tie.Need-returns-3
 unfolding createCall sideOf
-returns-3 c = program-gives _ (c .before .before .before .before .before .before .before .before .before .before .before .before .before .before .before .pre .accepted) (passed 12 (not-too-long (now (c .before .before .before .before .before .before .before .before .before .before .before .before .before .before .before .args .sheet)) (c .before .before .before .before .before .before .before .before .before .before .if1 .left)) (passed 14 (not-of (c .before .before .before .before .before .before .before .before .before .before .before .before .before .before .before .pre .accepted) (c .before .before .before .before .before .before .before .before .before .belongs-to-root .ensures) ∙ c .before .before .before .before .before .before .before .before .if2 .left) (c .before .before .before .create-into .ensures .gives-made (c .before .before .before .before .before .before .before .before .before .before .before .before .before .before .before .pre .accepted .root) (c .before .before .before .before .before .before .before .before .before .before .before .before .before .before .before .pre .accepted .gives-root))))
+returns-3 c = program-gives _ (c .before .before .before .before .before .before .before .before .before .before .before .before .before .before .before .before .before .before .pre .accepted) (passed 12 (not-too-long (now (c .before .before .before .before .before .before .before .before .before .before .before .before .before .before .before .before .before .before .args .sheet)) (c .before .before .before .before .before .before .before .before .before .before .before .before .before .if1 .left)) (passed 14 (not-of (c .before .before .before .before .before .before .before .before .before .before .before .before .before .before .before .before .before .before .pre .accepted) (c .before .before .before .before .before .before .before .before .before .before .root-path .ensures) ∙ c .before .before .before .before .before .before .before .before .if2 .left) (c .before .before .before .create-into .ensures .gives-made (c .before .before .before .before .before .before .before .before .before .before .before .before .before .before .before .before .before .before .pre .accepted .root) (c .before .before .before .before .before .before .before .before .before .before .before .before .before .before .before .before .before .before .pre .accepted .gives-root))))
 
 pub create-with-spec : {M : Type 1} → statement M
 create-with-spec =
@@ -60,10 +72,14 @@ create-with-spec =
     (tie.spec
     refuse-requires
     returns
-    belongs-to-root-requires
+    no-text-requires
+    sub-path
+    part-positions-start
+    part-positions-end
+    root-path-requires
     refuse-requires-2
     returns-2
-    no-text-requires
+    no-text-requires-2
     room-in-requires
     sub-create-into
     part-result-start

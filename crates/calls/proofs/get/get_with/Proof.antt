@@ -1,12 +1,14 @@
 -- `calls::get::get_with` meets its contract, test by test. Assumes nothing.
-use borrow.Author.Needs.{needs}
-use native.Mathlib.Omega.{arith}
-use denote.Ref.{now}
 use mathlib.Core.Path.{_∙_}
+use native.Mathlib.Omega.{arith}
+use borrow.Author.Needs.{needs}
+use denote.Ref.{now}
+use borrow.Author.Tests.{not-false}
 use lib.ListN.{length-take}
 use Rattle.semantics.specs.Calls.{getCall}
 use Rattle.automaton.specs.Rows.{sideOf}
 use Rattle.answers.proofs.Giving.{program-gives, refused, passed, too-long, not-too-long, not-of}
+use Rattle.calls.proofs.Sourcing.{source-ready}
 use Rattle.calls.proofs.get.get_with.Statement.{statement}
 use Rattle.calls.proofs.get.get_with.Tie as tie
 
@@ -17,18 +19,30 @@ returns : tie.Need-returns
 unfolding getCall
 returns c = program-gives _ (c .before .before .before .before .before .before .pre .accepted) (refused 12 _ (c .refuse .ensures) (too-long (now (c .before .before .before .before .before .before .args .source)) (c .before .if1 .taken)))
 
-belongs-to-root-requires : tie.Need-belongs-to-root-requires
-belongs-to-root-requires c κs = search needs
+no-text-requires : tie.Need-no-text-requires
+no-text-requires c κs = search needs
+
+sub-path : tie.Need-sub-path
+sub-path c = search needs
+
+part-positions-start : tie.Need-part-positions-start
+part-positions-start c = search needs
+
+part-positions-end : tie.Need-part-positions-end
+part-positions-end c = search needs
+
+root-path-requires : tie.Need-root-path-requires
+root-path-requires c κs = search needs
 
 refuse-requires-2 : tie.Need-refuse-requires-2
 refuse-requires-2 c κs = search needs
 
 returns-2 : tie.Need-returns-2
 unfolding getCall sideOf
-returns-2 c = program-gives _ (c .before .before .before .before .before .before .before .before .pre .accepted) (passed 12 (not-too-long (now (c .before .before .before .before .before .before .before .before .args .source)) (c .before .before .before .if1 .left)) (refused 13 _ (c .refuse2 .ensures) (not-of (c .before .before .before .before .before .before .before .before .pre .accepted) (c .before .before .belongs-to-root .ensures) ∙ c .before .if2 .taken)))
+returns-2 c = program-gives _ (c .before .before .before .before .before .before .before .before .before .before .before .before .before .before .pre .accepted) (passed 12 (not-too-long (now (c .before .before .before .before .before .before .before .before .before .before .before .before .before .before .args .source)) (c .before .before .before .before .before .before .before .before .before .if1 .left)) (refused 13 _ (c .refuse2 .ensures) (not-of (c .before .before .before .before .before .before .before .before .before .before .before .before .before .before .pre .accepted) (c .before .before .before .before .before .root-path .ensures) ∙ c .before .before .if2 .taken)))
 
-no-text-requires : tie.Need-no-text-requires
-no-text-requires c κs = search needs
+no-text-requires-2 : tie.Need-no-text-requires-2
+no-text-requires-2 c κs = search needs
 
 room-in-requires : tie.Need-room-in-requires
 room-in-requires c κs = search needs
@@ -43,14 +57,14 @@ part-result-end : tie.Need-part-result-end
 part-result-end c = search needs
 
 get-into-requires : tie.Need-get-into-requires
-get-into-requires c κs = (c .before .before .before .before .before .before .before .before .before .before .before .pre, (omega (arith, c .before .before .before .before .before .before .if1 .left), simp length-take (omega (arith, c .before .before .before .no-text .ensures, c .before .before .room-in .ensures))))
+get-into-requires c κs = (c .before .before .before .before .before .before .before .before .before .before .before .before .before .before .before .before .before .pre, (source-ready (c .before .before .before .before .before .before .before .before .root-path .ensures) (not-false _ (c .before .before .before .before .before .if2 .left)), simp length-take (omega (arith, c .before .before .before .before .no-text2 .ensures, c .before .before .before .room-in .ensures))))
 
 same-length : tie.Need-same-length
 same-length c = search needs
 
 returns-3 : tie.Need-returns-3
 unfolding getCall sideOf
-returns-3 c = program-gives _ (c .before .before .before .before .before .before .before .before .before .before .before .before .before .before .before .pre .accepted) (passed 12 (not-too-long (now (c .before .before .before .before .before .before .before .before .before .before .before .before .before .before .before .args .source)) (c .before .before .before .before .before .before .before .before .before .before .if1 .left)) (passed 13 (not-of (c .before .before .before .before .before .before .before .before .before .before .before .before .before .before .before .pre .accepted) (c .before .before .before .before .before .before .before .before .before .belongs-to-root .ensures) ∙ c .before .before .before .before .before .before .before .before .if2 .left) (c .before .before .before .get-into .ensures .gives-made (c .before .before .before .before .before .before .before .before .before .before .before .before .before .before .before .pre .accepted .root) (c .before .before .before .before .before .before .before .before .before .before .before .before .before .before .before .pre .accepted .gives-root))))
+returns-3 c = program-gives _ (c .before .before .before .before .before .before .before .before .before .before .before .before .before .before .before .before .before .before .before .before .before .before .pre .accepted) (passed 12 (not-too-long (now (c .before .before .before .before .before .before .before .before .before .before .before .before .before .before .before .before .before .before .before .before .before .before .args .source)) (c .before .before .before .before .before .before .before .before .before .before .before .before .before .before .before .before .before .if1 .left)) (passed 13 (not-of (c .before .before .before .before .before .before .before .before .before .before .before .before .before .before .before .before .before .before .before .before .before .before .pre .accepted) (c .before .before .before .before .before .before .before .before .before .before .before .before .before .root-path .ensures) ∙ c .before .before .before .before .before .before .before .before .before .before .if2 .left) (c .before .before .before .before .get-into .ensures .gives-made (c .before .before .before .before .before .before .before .before .before .before .before .before .before .before .before .before .before .before .before .before .before .before .pre .accepted .root) (c .before .before .before .before .before .before .before .before .before .before .before .before .before .before .before .before .before .before .before .before .before .before .pre .accepted .gives-root))))
 
 pub get-with-spec : {M : Type 1} → statement M
 get-with-spec =
@@ -58,10 +72,14 @@ get-with-spec =
     (tie.spec
     refuse-requires
     returns
-    belongs-to-root-requires
+    no-text-requires
+    sub-path
+    part-positions-start
+    part-positions-end
+    root-path-requires
     refuse-requires-2
     returns-2
-    no-text-requires
+    no-text-requires-2
     room-in-requires
     sub-get-into
     part-result-start
