@@ -37,7 +37,7 @@ fn entries_of(bytes: &[u8], prepared: &[u64], source: &[u8], path: &[u8]) -> Lis
     list(bytes, prepared, root, 0, source, path, 0, book)
 }
 
-// The source of a sheet and an old source, of a program that is accepted and prepared.
+// The source of a sheet and an old source, of a program that is accepted and prepared. The sheet's path is not needed, so the source's takes its room.
 pub fn put_with(
     bytes: &[u8],
     prepared: &[u64],
@@ -55,15 +55,14 @@ pub fn put_with(
         return refuse(12);
     }
     let mut positions = no_text();
+    let m = sheet.len();
+    let fits = root_path(bytes, prepared, Side::Sheet, sheet, &mut positions[0..m]);
     let n = source.len();
     let path = &mut positions[0..n];
     if !root_path(bytes, prepared, Side::Source, source, path) {
         return refuse(13);
     }
-    let mut others = no_text();
-    let m = sheet.len();
-    let other = &mut others[0..m];
-    if !root_path(bytes, prepared, Side::Sheet, sheet, other) {
+    if !fits {
         return refuse(14);
     }
     let listing = entries_of(bytes, prepared, source, path);
