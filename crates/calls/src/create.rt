@@ -28,31 +28,38 @@ pub fn create_with(bytes: &[u8], prepared: &[u64], sheet: &[u8], out: &mut [u8])
     }
     let mut positions = no_text();
     let n = sheet.len();
-    let path = &mut positions[0..n];
-    if !root_path(bytes, prepared, Side::Sheet, sheet, path) {
+    if !root_path(bytes, prepared, Side::Sheet, sheet, &mut positions[0..n]) {
         return refuse(14);
     }
     let mut result = no_text();
     let room = room_in(out.len());
-    create_into(bytes, prepared, sheet, &mut result[0..room], out)
+    create_into(
+        bytes,
+        prepared,
+        sheet,
+        &positions,
+        &mut result[0..room],
+        out,
+    )
 }
 
-// The source, made in a slice as long as a result may be. The book is empty, and the deck has no card.
+// The source, made in a slice as long as a result may be. The book is empty, so what the deck holds is of no account.
 fn create_into(
     bytes: &[u8],
     prepared: &[u64],
     sheet: &[u8],
+    deck: &[u8],
     result: &mut [u8],
     out: &mut [u8],
 ) -> Answer
     requires { ⌜ Ready (now bytes) (now prepared) ⌝ }
     requires { ⌜ SheetReady (now bytes) (now sheet) ⌝ }
+    requires { ⌜ length (now deck) ≡ 4096 ⌝ }
     requires { ⌜ length (now result) ≡ min (length (now out)) 4096 ⌝ }
     ensures { λ r. ⌜ GivesMade (now (bytes .entry)) (λ l. create l (now (sheet .entry))) (now (out .entry)) (now (out .exit)) r ⌝ }
 {
-    let deck = no_text();
     let book = Book::empty();
     let old = Old::Nothing;
-    let wrote = write_root(false, bytes, prepared, sheet, old, &deck, book, result);
+    let wrote = write_root(false, bytes, prepared, sheet, old, deck, book, result);
     finish(wrote, result, out)
 }

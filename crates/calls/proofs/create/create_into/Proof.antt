@@ -1,4 +1,4 @@
--- `calls::create::create_into` meets its contract: the root writes with an empty book. Assumes nothing.
+-- `calls::create::create_into` meets its contract, from what the root writes with an empty book. Assumes nothing.
 use borrow.Author.Needs.{needs}
 use native.Mathlib.Omega.{arith}
 use mathlib.Core.Path.{refl, sym}
@@ -10,20 +10,14 @@ use Rattle.calls.proofs.Sourcing.{to-create, create-made}
 use Rattle.calls.proofs.create.create_into.Statement.{statement}
 use Rattle.calls.proofs.create.create_into.Tie as tie
 
-no-text-requires : tie.Need-no-text-requires
-no-text-requires c κs = search needs
-
 empty-requires : tie.Need-empty-requires
 empty-requires c κs = search needs
 
-slice-aggregate-write-root : tie.Need-slice-aggregate-write-root
-slice-aggregate-write-root c = search needs
-
 write-root-requires : tie.Need-write-root-requires
-write-root-requires c κs = (c .before .before .before .before .before .before .before .before .before .pre .0, (to-create (c .before .before .before .before .before .before .before .before .before .pre .0) refl (c .before .before .empty .ensures) (sym (c .before .before .before .no-text .ensures)), (inside-none, c .before .before .before .before .before .before .before .before .before .pre .1 .0)))
+write-root-requires c κs = (c .before .before .before .before .before .before .before .before .pre .0, (to-create (c .before .before .before .before .before .before .before .before .pre .0) refl (c .before .empty .ensures) (c .before .before .before .before .before .before .before .before .pre .1 .1 .0), (inside-none, c .before .before .before .before .before .before .before .before .pre .1 .0)))
 
 finish-requires : tie.Need-finish-requires
-finish-requires c κs = made-counted (c .before .before .before .before .before .before .before .before .before .before .before .before .before .before .pre .0 .accepted) (c .before .before .before .before .write-root .ensures)
+finish-requires c κs = made-counted (c .before .before .before .before .before .before .before .before .before .before .before .before .before .pre .0 .accepted) (c .before .before .before .before .write-root .ensures)
 
 same-length : tie.Need-same-length
 same-length c = search needs
@@ -33,17 +27,9 @@ same-length-2 c = search needs
 
 returns : tie.Need-returns
 unfolding oldText
-returns c = made-given (omega (arith, c .before .before .before .before .before .before .before .write-root .kept .1 .1 .1 .1 .1 .1 .1 .0, c .before .before .before .before .before .before .before .before .before .before .before .before .before .before .before .before .before .pre .1 .1)) (c .before .before .finish .ensures) (create-made (c .before .before .before .before .before .before .before .before .before .before .before .no-text .result) (now (c .before .before .before .before .before .before .before .before .before .before .before .before .before .before .before .before .before .args .sheet)) (c .before .before .before .before .before .before .before .before .before .before .empty .ensures) (c .before .before .before .before .before .before .before .write-root .ensures))
+returns c = made-given (omega (arith, c .before .before .before .before .before .before .before .write-root .kept .1 .1 .1 .1 .1 .1 .1 .0, c .before .before .before .before .before .before .before .before .before .before .before .before .before .before .before .before .pre .1 .1 .1)) (c .before .before .finish .ensures) (create-made (now (c .before .before .before .before .before .before .before .before .before .before .before .before .before .before .before .before .args .deck)) (now (c .before .before .before .before .before .before .before .before .before .before .before .before .before .before .before .before .args .sheet)) (c .before .before .before .before .before .before .before .before .before .empty .ensures) (c .before .before .before .before .before .before .before .write-root .ensures))
 
 pub create-into-spec : {M : Type 1} → statement M
 create-into-spec =
     tie.close
-    (tie.spec
-    no-text-requires
-    empty-requires
-    slice-aggregate-write-root
-    write-root-requires
-    finish-requires
-    same-length
-    same-length-2
-    returns)
+    (tie.spec empty-requires write-root-requires finish-requires same-length same-length-2 returns)

@@ -1,10 +1,11 @@
 -- `calls::create::create_with` meets its contract, test by test. Assumes nothing.
-use mathlib.Core.Path.{_∙_}
+use mathlib.Core.Path.{sym, _∙_}
 use native.Mathlib.Omega.{arith}
 use borrow.Author.Needs.{needs}
 use denote.Ref.{now}
 use borrow.Author.Tests.{not-false}
-use lib.ListN.{length-take}
+use lib.ListN.{length, length-take}
+use Rattle.lens.specs.Cutting.{part-length}
 use Rattle.semantics.specs.Calls.{createCall}
 use Rattle.automaton.specs.Rows.{sideOf}
 use Rattle.answers.proofs.Giving.{program-gives, refused, passed, too-long, not-too-long, not-of}
@@ -22,8 +23,8 @@ returns c = program-gives _ (c .before .before .before .before .before .before .
 no-text-requires : tie.Need-no-text-requires
 no-text-requires c κs = search needs
 
-sub-path : tie.Need-sub-path
-sub-path c = search needs
+sub-root-path : tie.Need-sub-root-path
+sub-root-path c = search needs
 
 part-positions-start : tie.Need-part-positions-start
 part-positions-start c = search needs
@@ -47,6 +48,9 @@ no-text-requires-2 c κs = search needs
 room-in-requires : tie.Need-room-in-requires
 room-in-requires c κs = search needs
 
+slice-aggregate-create-into : tie.Need-slice-aggregate-create-into
+slice-aggregate-create-into c = sym (part-length (c .before .before .before .before .before .before .before .no-text .result) (c .before .before .before .before .before .root-path .last .1 .1 .1 .1 .0) 0 (length (now (c .before .before .before .before .before .before .before .before .before .before .before .before .before .args .sheet))) (omega arith) (omega (arith, c .before .before .before .before .before .before .before .no-text .ensures, c .before .before .before .before .before .before .before .before .if1 .left)) (c .before .before .before .before .before .root-path .kept .1 .1 .1 .1 .0) ∙ sym (c .before .before .before .before .before .before .before .no-text .ensures))
+
 sub-create-into : tie.Need-sub-create-into
 sub-create-into c = search needs
 
@@ -57,14 +61,14 @@ part-result-end : tie.Need-part-result-end
 part-result-end c = search needs
 
 create-into-requires : tie.Need-create-into-requires
-create-into-requires c κs = (c .before .before .before .before .before .before .before .before .before .before .before .before .before .before .pre, (sheet-ready (c .before .before .before .before .before .before .before .before .before .if1 .left) (c .before .before .before .before .before .before .root-path .ensures) (not-false _ (c .before .before .before .before .if2 .left)), simp length-take (omega (arith, c .before .before .before .no-text2 .ensures, c .before .before .room-in .ensures))))
+create-into-requires c κs = (c .before .before .before .before .before .before .before .before .before .before .before .before .before .before .before .pre, (sheet-ready (c .before .before .before .before .before .before .before .before .before .before .if1 .left) (c .before .before .before .before .before .before .before .root-path .ensures) (not-false _ (c .before .before .before .before .before .if2 .left)), (part-length (c .before .before .before .before .before .before .before .before .before .no-text .result) (c .before .before .before .before .before .before .before .root-path .last .1 .1 .1 .1 .0) 0 (length (now (c .before .before .before .before .before .before .before .before .before .before .before .before .before .before .before .args .sheet))) (omega arith) (omega (arith, c .before .before .before .before .before .before .before .before .before .no-text .ensures, c .before .before .before .before .before .before .before .before .before .before .if1 .left)) (c .before .before .before .before .before .before .before .root-path .kept .1 .1 .1 .1 .0) ∙ sym (c .before .before .before .before .before .before .before .before .before .no-text .ensures), simp length-take (omega (arith, c .before .before .before .before .no-text2 .ensures, c .before .before .before .room-in .ensures)))))
 
 same-length : tie.Need-same-length
 same-length c = search needs
 
 returns-3 : tie.Need-returns-3
 unfolding createCall sideOf
-returns-3 c = program-gives _ (c .before .before .before .before .before .before .before .before .before .before .before .before .before .before .before .before .before .before .pre .accepted) (passed 12 (not-too-long (now (c .before .before .before .before .before .before .before .before .before .before .before .before .before .before .before .before .before .before .args .sheet)) (c .before .before .before .before .before .before .before .before .before .before .before .before .before .if1 .left)) (passed 14 (not-of (c .before .before .before .before .before .before .before .before .before .before .before .before .before .before .before .before .before .before .pre .accepted) (c .before .before .before .before .before .before .before .before .before .before .root-path .ensures) ∙ c .before .before .before .before .before .before .before .before .if2 .left) (c .before .before .before .create-into .ensures .gives-made (c .before .before .before .before .before .before .before .before .before .before .before .before .before .before .before .before .before .before .pre .accepted .root) (c .before .before .before .before .before .before .before .before .before .before .before .before .before .before .before .before .before .before .pre .accepted .gives-root))))
+returns-3 c = program-gives _ (c .before .before .before .before .before .before .before .before .before .before .before .before .before .before .before .before .before .before .before .pre .accepted) (passed 12 (not-too-long (now (c .before .before .before .before .before .before .before .before .before .before .before .before .before .before .before .before .before .before .before .args .sheet)) (c .before .before .before .before .before .before .before .before .before .before .before .before .before .before .if1 .left)) (passed 14 (not-of (c .before .before .before .before .before .before .before .before .before .before .before .before .before .before .before .before .before .before .before .pre .accepted) (c .before .before .before .before .before .before .before .before .before .before .before .root-path .ensures) ∙ c .before .before .before .before .before .before .before .before .before .if2 .left) (c .before .before .before .create-into .ensures .gives-made (c .before .before .before .before .before .before .before .before .before .before .before .before .before .before .before .before .before .before .before .pre .accepted .root) (c .before .before .before .before .before .before .before .before .before .before .before .before .before .before .before .before .before .before .before .pre .accepted .gives-root))))
 
 pub create-with-spec : {M : Type 1} → statement M
 create-with-spec =
@@ -73,7 +77,7 @@ create-with-spec =
     refuse-requires
     returns
     no-text-requires
-    sub-path
+    sub-root-path
     part-positions-start
     part-positions-end
     root-path-requires
@@ -81,6 +85,7 @@ create-with-spec =
     returns-2
     no-text-requires-2
     room-in-requires
+    slice-aggregate-create-into
     sub-create-into
     part-result-start
     part-result-end
