@@ -6,7 +6,7 @@ use mathlib.Core.Option.{Option}
 use Prim.Native.Nat.{ℕ, zero, suc, _+_, _*_, _≤_}
 use lib.ListN.{length}
 use Rattle.semantics.specs.Text.{Text}
-use Rattle.semantics.specs.Lens.{Lens, copy, const, key, join, union, repeat, match, sheet, Written, andThen, write}
+use Rattle.semantics.specs.Lens.{Lens, copy, const, key, join, union, repeat, match, sheet, Written, andThen, write, keyOf}
 use Rattle.semantics.specs.Table.{trees, treeAt, Tree, pattern, lens, broken}
 use Rattle.table.specs.declared.Kind.{Kind}
 use Rattle.table.specs.Prepared.{Shows}
@@ -16,7 +16,8 @@ use Rattle.lens.specs.Overlay.{Writes}
 use Rattle.lens.specs.Emitting.{LensNode, Fits, FitsJoin}
 use Rattle.books.specs.declared.Book.{Book}
 use Rattle.books.specs.Listed.{unused}
-use Rattle.books.specs.Looking.{BookOver, SameEntries, CardsFit}
+use Rattle.books.specs.declared.Lookup.{Lookup}
+use Rattle.books.specs.Looking.{BookOver, SameEntries, CardsFit, LookedUp}
 use Rattle.writer.specs.declared.Done.{Done}
 
 -- ---- What a writer is given
@@ -100,6 +101,10 @@ pub record WritesJoin (bytes : Text) (left right : ℕ) (deck : Text) (old : Opt
 pub record WritesMatch (bytes : Text) (child : ℕ) (deck : Text) (new : Text) (b : Book) (before after : Text) (r : Done) : Type 0 where
   pub writes :
       (l : Lens) → treeAt (trees bytes) child ≡ lens l → (old : Option Text) → WritesLens bytes deck (match child l) old new b before after r
+
+-- The entry that the key of a sheet text finds in the book.
+pub record EntryFound (bytes : Text) (child : ℕ) (deck new : Text) (b : Book) (r : Lookup) : Type 0 where
+  pub found : (l : Lens) → treeAt (trees bytes) child ≡ lens l → LookedUp bytes deck child (keyOf l new) b r
 
 -- What a node's lens writes behind whatever was written before.
 pub record WritesBehind (bytes : Text) (node : ℕ) (deck : Text) (old : Option Text) (new : Text) (done : Done) (mid after : Text) (r : Done) : Type 0 where

@@ -4,6 +4,7 @@
 use crate::Done;
 use automaton::Side;
 use books::Book;
+use books::Lookup;
 use books::Old;
 use books::cards::card_of;
 use lens::Wrote;
@@ -27,7 +28,7 @@ ghost use Rattle.semantics.specs.Table.{trees, lens};
 ghost use Rattle.table.specs.Prepared.{OneLens};
 ghost use Rattle.books.specs.Looking.{oldText};
 ghost use Rattle.steps.specs.Steps.{OldInside};
-ghost use Rattle.writer.specs.Writing.{Ready, Lent, LentJoin, WithinBuffer, WritesNode, WritesBehind, WritesJoin, WritesMatch};
+ghost use Rattle.writer.specs.Writing.{Ready, Lent, LentJoin, WithinBuffer, WritesNode, WritesBehind, WritesJoin, WritesMatch, EntryFound};
 
 // A sheet is put onto an old text.
 pub fn put(
@@ -223,7 +224,27 @@ fn no_marks() -> [u64; 128]
     [0u64; 128]
 }
 
-// A match: put onto the entry that the key finds, or create where there is none. The pad lends room for the path of the sheet's text.
+// The entry that the key of a sheet text finds, and the book without it. The pad lends room for the text's path.
+fn find_entry(
+    bytes: &[u8],
+    prepared: &[u64],
+    child: usize,
+    new: &[u8],
+    deck: &[u8],
+    book: Book,
+    pad: &mut [u8],
+) -> Lookup
+    requires { ⌜ Ready (now bytes) (now prepared) child (now deck) book ⌝ }
+    requires { ⌜ Lent (now bytes) child (now new) (now pad) ⌝ }
+    ensures { λ r. ⌜ EntryFound (now (bytes .entry)) child (now (deck .entry)) (now (new .entry)) book r ⌝ }
+{
+    let mut card = no_card();
+    let mut marks = no_marks();
+    let n = card_of(bytes, prepared, child, new, &mut marks, pad, &mut card);
+    book.take(child, &card[0..n], deck)
+}
+
+// A match: put onto the entry that the key finds, or create where there is none.
 fn write_match(
     bytes: &[u8],
     prepared: &[u64],
@@ -238,10 +259,7 @@ fn write_match(
     requires { ⌜ Lent (now bytes) child (now new) (now pad) ⌝ }
     ensures { λ r. ⌜ WritesMatch (now (bytes .entry)) child (now (deck .entry)) (now (new .entry)) book (now (out .entry)) (now (out .exit)) r ⌝ }
 {
-    let mut card = no_card();
-    let mut marks = no_marks();
-    let n = card_of(bytes, prepared, child, new, &mut marks, pad, &mut card);
-    let lookup = book.take(child, &card[0..n], deck);
+    let lookup = find_entry(bytes, prepared, child, new, deck, book, pad);
     let rest = lookup.book;
     let found = lookup.old;
     match found {

@@ -14,7 +14,7 @@ use Rattle.steps.proofs.Stepping.{rest-size, inside-at, inside-none}
 use Rattle.writer.specs.Writing.{Lent}
 use Rattle.writer.proofs.Behind.{progress-within, node-within, behind-full, behind-next, behind-within}
 use Rattle.writer.proofs.Below.{ready-left, ready-below, ready-after, lent-kept, lent-below, lent-join, lent-left, lent-right, lent-behind, part-short, rest-back, repeat-room}
-use Rattle.writer.proofs.ByKind.{default-below, leaf-writes, join-writes, match-writes, halves-write, arm-chosen, looked-up-key, found-writes}
+use Rattle.writer.proofs.ByKind.{default-below, leaf-writes, join-writes, match-writes, halves-write, arm-chosen, found-writes}
 use Rattle.writer.proofs.Parts.{Parting, span-inside, span-reaches, between-inside, parting-begins, part-fits, parting-next, parting-ends}
 use borrow.Fn.Kinds.{In}
 use borrow.Fn.PlainCycle.{Measures, is, falls, and}
@@ -39,8 +39,6 @@ use Rattle.writer.proofs.write.+create+put+write_behind+write_join+writ
 use Rattle.writer.proofs.write.write_parts.Reads as write-parts
 use Rattle.writer.proofs.write.write_parts.Kinds as write-parts-kinds
 use Rattle.writer.proofs.write.+create+put+write_behind+write_join+write_match+write_node+write_parts.Lts-write_parts as write-parts-lts
-use Rattle.books.proofs.Book.take.Reads as take-reads
-use Rattle.books.proofs.cards.card_of.Reads as card-of-reads
 use Rattle.lens.proofs.texts.write_text.Reads as write-text-reads
 use Rattle.table.proofs.Table.node.Reads as node-reads
 use Rattle.steps.proofs.behind.Reads as behind-reads
@@ -52,8 +50,7 @@ use Rattle.steps.proofs.old_between.Reads as old-between-reads
 use Rattle.steps.proofs.part_end.Reads as part-end-reads
 use Rattle.steps.proofs.span_of.Reads as span-of-reads
 use Rattle.steps.proofs.write_leaf.Reads as write-leaf-reads
-use Rattle.writer.proofs.write.no_card.Reads as no-card-reads
-use Rattle.writer.proofs.write.no_marks.Reads as no-marks-reads
+use Rattle.writer.proofs.write.find_entry.Reads as find-entry-reads
 use Rattle.writer.proofs.write.+create+put+write_behind+write_join+write_match+write_node+write_parts.{
   statement,
 }
@@ -161,7 +158,7 @@ abbrev write-join-calls : ℕ → write-join-lts.Claims
 write-join-calls t = (cut-of-reads.Asked, cut-of-reads.Learnt, halves-of-reads.Asked, halves-of-reads.Learnt, write-node-below t, write-node.Post, write-behind-below t, write-behind.Post)
 
 abbrev write-match-calls : ℕ → write-match-lts.Claims
-write-match-calls t = (no-card-reads.Asked, no-card-reads.Learnt, no-marks-reads.Asked, no-marks-reads.Learnt, card-of-reads.Asked, card-of-reads.Learnt, take-reads.Asked, take-reads.Learnt, put-below t, put.Post, create-below t, create.Post)
+write-match-calls t = (find-entry-reads.Asked, find-entry-reads.Learnt, put-below t, put.Post, create-below t, create.Post)
 
 abbrev write-node-calls : ℕ → write-node-lts.Claims
 write-node-calls t = (node-reads.Asked, node-reads.Learnt, write-join-below t, write-join.Post, choose-reads.Asked, choose-reads.Learnt, write-node-below t, write-node.Post, write-parts-below t, write-parts.Post, write-match-below t, write-match.Post, write-leaf-reads.Asked, write-leaf-reads.Learnt)
@@ -346,39 +343,10 @@ write-join-returns t c =
     let (ready-first, ready-second) = start .pre .1 .0 in
     halves-write (ready-first .lens-node) (ready-second .lens-node) (at-cut-of .cut-of .ensures) (at-halves-of .halves-of .ensures) (at-write-node .write-node .ensures) (at-write-behind .write-behind .ensures)
 
-write-match-no-card-requires : (t : ℕ) → write-match-lts.Need-no-card-requires (write-match-calls t) (write-match-at t) write-match.Post
-write-match-no-card-requires t c κs = search needs
-
-write-match-no-marks-requires : (t : ℕ) → write-match-lts.Need-no-marks-requires (write-match-calls t) (write-match-at t) write-match.Post
-write-match-no-marks-requires t c κs = search needs
-
-write-match-slice-aggregate-card-of : (t : ℕ) → write-match-lts.Need-slice-aggregate-card-of (write-match-calls t) (write-match-at t) write-match.Post
-write-match-slice-aggregate-card-of t c = search needs
-
-write-match-slice-aggregate-card-of-2 : (t : ℕ) → write-match-lts.Need-slice-aggregate-card-of-2 (write-match-calls t) (write-match-at t) write-match.Post
-write-match-slice-aggregate-card-of-2 t c = search needs
-
-write-match-card-of-requires : (t : ℕ) → write-match-lts.Need-card-of-requires (write-match-calls t) (write-match-at t) write-match.Post
-write-match-card-of-requires t c κs =
-    let start = c .before .before .before .before .before .before .before .before .before .before .before in
-    let lent = start .pre .1 .1 in
-    (start .pre .1 .0 .lens-node, (lent .new-fits, ((omega (arith, lent .new-short, lent .pad-room), omega (arith, lent .new-short, c .before .before .before .no-marks .ensures), omega (arith, lent .new-short)), search needs)))
-
-write-match-sub-take : (t : ℕ) → write-match-lts.Need-sub-take (write-match-calls t) (write-match-at t) write-match.Post
-write-match-sub-take t c = search needs
-
-write-match-part-take-start : (t : ℕ) → write-match-lts.Need-part-take-start (write-match-calls t) (write-match-at t) write-match.Post
-write-match-part-take-start t c = search needs
-
-write-match-part-take-end : (t : ℕ) → write-match-lts.Need-part-take-end (write-match-calls t) (write-match-at t) write-match.Post
-write-match-part-take-end t c =
-    let at-card-of = c .before .before .before .before .before in
-    omega (arith, at-card-of .card-of .ensures .within)
-
-write-match-take-requires : (t : ℕ) → write-match-lts.Need-take-requires (write-match-calls t) (write-match-at t) write-match.Post
-write-match-take-requires t c κs =
-    let start = c .before .before .before .before .before .before .before .before .before .before .before .before .before .before .before .before .before .before in
-    (start .pre .1 .0 .over, start .pre .1 .0 .deck-size)
+write-match-find-entry-requires : (t : ℕ) → write-match-lts.Need-find-entry-requires (write-match-calls t) (write-match-at t) write-match.Post
+write-match-find-entry-requires t c κs =
+    let start = c .before .before .before .before .before .before .before in
+    (start .pre .1 .0, start .pre .1 .1)
 
 write-match-enum-known-found : (t : ℕ) → write-match-lts.Need-enum-known-found (write-match-calls t) (write-match-at t) write-match.Post
 write-match-enum-known-found t c = search needs
@@ -386,26 +354,24 @@ write-match-enum-known-found t c = search needs
 write-match-put-requires : (t : ℕ) → write-match-lts.Need-put-requires (write-match-calls t) (write-match-at t) write-match.Post
 write-match-put-requires t c κs =
     let at-found = c .before .before .before in
-    let at-take = at-found .before .before .before in
-    let at-card-of = c .before .before .before .before .before .before .before .before .before .before .before .before .before in
-    let start = c .before .before .before .before .before .before .before .before .before .before .before .before .before .before .before .before .before .before .before .before .before .before .before .before .before in
+    let at-find-entry = c .before .before .before .before .before .before .before .before in
+    let start = c .before .before .before .before .before .before .before .before .before .before .before .before .before .before .before .before in
     let ready = start .pre .1 .0 in
-    let looked = looked-up-key (at-card-of .card-of .ensures) (start .pre .1 .1 .new-short) (ready .cards-fit) (at-take .take .ensures) (ready .lens-node .tree) (ready .lens-node .tree-is) in
+    let looked = at-find-entry .find-entry .ensures .found (ready .lens-node .tree) (ready .lens-node .tree-is) in
     let left = ready-left ready (ready .lens-node) (looked .over) (looked .same-entries) in
-    (omega (arith, start .pre .0), (left, (lent-kept (start .pre .1 .1) (at-card-of .card-of .kept .1 .1 .1 .1 .1 .0), looked .inside _ _ (at-found .found .given .1))))
+    (omega (arith, start .pre .0), (left, (lent-kept (start .pre .1 .1) (at-find-entry .find-entry .kept .1 .1 .1 .1 .1 .1 .0), looked .inside _ _ (at-found .found .given .1))))
 
 write-match-enum-told : (t : ℕ) → write-match-lts.Need-enum-told (write-match-calls t) (write-match-at t) write-match.Post
 write-match-enum-told t c = search needs
 
 write-match-create-requires : (t : ℕ) → write-match-lts.Need-create-requires (write-match-calls t) (write-match-at t) write-match.Post
 write-match-create-requires t c κs =
-    let at-take = c .before .before .before .before .before in
-    let at-card-of = c .before .before .before .before .before .before .before .before .before .before .before .before in
-    let start = c .before .before .before .before .before .before .before .before .before .before .before .before .before .before .before .before .before .before .before .before .before .before .before .before in
+    let at-find-entry = c .before .before .before .before .before .before .before in
+    let start = c .before .before .before .before .before .before .before .before .before .before .before .before .before .before .before in
     let ready = start .pre .1 .0 in
-    let looked = looked-up-key (at-card-of .card-of .ensures) (start .pre .1 .1 .new-short) (ready .cards-fit) (at-take .take .ensures) (ready .lens-node .tree) (ready .lens-node .tree-is) in
+    let looked = at-find-entry .find-entry .ensures .found (ready .lens-node .tree) (ready .lens-node .tree-is) in
     let left = ready-left ready (ready .lens-node) (looked .over) (looked .same-entries) in
-    (omega (arith, start .pre .0), (left, lent-kept (start .pre .1 .1) (at-card-of .card-of .kept .1 .1 .1 .1 .1 .0)))
+    (omega (arith, start .pre .0), (left, lent-kept (start .pre .1 .1) (at-find-entry .find-entry .kept .1 .1 .1 .1 .1 .1 .0)))
 
 write-match-same-length : (t : ℕ) → write-match-lts.Need-same-length (write-match-calls t) (write-match-at t) write-match.Post
 write-match-same-length t c = search needs
@@ -418,11 +384,10 @@ unfolding oldText
 write-match-returns t c =
     let at-put = c .before .before .before .before in
     let at-found = at-put .before .before .before .before in
-    let at-take = at-found .before .before .before in
-    let at-card-of = c .before .before .before .before .before .before .before .before .before .before .before .before .before .before .before .before .before .before in
-    let start = c .before .before .before .before .before .before .before .before .before .before .before .before .before .before .before .before .before .before .before .before .before .before .before .before .before .before .before .before .before .before in
+    let at-find-entry = c .before .before .before .before .before .before .before .before .before .before .before .before .before in
+    let start = c .before .before .before .before .before .before .before .before .before .before .before .before .before .before .before .before .before .before .before .before .before in
     let ready = start .pre .1 .0 in
-    let looked = looked-up-key (at-card-of .card-of .ensures) (start .pre .1 .1 .new-short) (ready .cards-fit) (at-take .take .ensures) in
+    let looked = at-find-entry .find-entry .ensures .found in
     found-writes looked (rw (at-found .found .given .1) (at-put .put .ensures))
 
 write-match-same-length-3 : (t : ℕ) → write-match-lts.Need-same-length-3 (write-match-calls t) (write-match-at t) write-match.Post
@@ -436,11 +401,10 @@ unfolding oldText
 write-match-returns-2 t c =
     let at-create = c .before .before .before .before in
     let at-enum-told = at-create .before .before .before in
-    let at-take = at-enum-told .before .before .before in
-    let at-card-of = c .before .before .before .before .before .before .before .before .before .before .before .before .before .before .before .before .before in
-    let start = c .before .before .before .before .before .before .before .before .before .before .before .before .before .before .before .before .before .before .before .before .before .before .before .before .before .before .before .before .before in
+    let at-find-entry = c .before .before .before .before .before .before .before .before .before .before .before .before in
+    let start = c .before .before .before .before .before .before .before .before .before .before .before .before .before .before .before .before .before .before .before .before in
     let ready = start .pre .1 .0 in
-    let looked = looked-up-key (at-card-of .card-of .ensures) (start .pre .1 .1 .new-short) (ready .cards-fit) (at-take .take .ensures) in
+    let looked = at-find-entry .find-entry .ensures .found in
     found-writes looked (rw (at-enum-told .enum-told .given .1) (at-create .create .ensures))
 
 write-node-node-requires : (t : ℕ) → write-node-lts.Need-node-requires (write-node-calls t) (write-node-at t) write-node.Post
@@ -901,15 +865,7 @@ pub +create+put+write-behind+write-join+write-match+write-node+write-parts-spec 
     (λ t. write-match-lts.spec (write-match-calls t)
     (write-match-at t)
     write-match.Post
-    (write-match-no-card-requires t)
-    (write-match-no-marks-requires t)
-    (write-match-slice-aggregate-card-of t)
-    (write-match-slice-aggregate-card-of-2 t)
-    (write-match-card-of-requires t)
-    (write-match-sub-take t)
-    (write-match-part-take-start t)
-    (write-match-part-take-end t)
-    (write-match-take-requires t)
+    (write-match-find-entry-requires t)
     (write-match-enum-known-found t)
     (write-match-put-requires t)
     (write-match-enum-told t)
