@@ -49,11 +49,11 @@ pub fn no_text() -> [u8; 4096]
     [0u8; 4096]
 }
 
-// Room for the sets that finding the path of a text keeps.
-pub fn no_marks() -> [u64; 128]
-    ensures { λ r. ⌜ 128 ≡ length r ⌝ }
+// Finding the path of a text of at most 4,096 bytes needs no room lent for the sets that it keeps.
+pub fn no_marks() -> [u64; 1]
+    ensures { λ r. ⌜ 1 ≡ length r ⌝ }
 {
-    [0u64; 128]
+    [0u64; 1]
 }
 
 // A refusal that concerns no node: that of a text, of its entries or of a result.

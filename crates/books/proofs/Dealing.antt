@@ -140,9 +140,8 @@ module _ {sheet₀ marks₀ path₀ sheet marks path : List ℕ} (same : SameRoo
   same-room-left room =
       record {
         least-room = omega (arith, room .least-room, same .sheet-same);
-        most-room = omega (arith, room .most-room, same .sheet-same);
         same-room = same .path-same ∙ room .same-room ∙ sym (same .sheet-same);
-        marks-room = rw (same .sheet-same, same .marks-same) (room .marks-room);
+        marks-room = record { bounded = omega (arith, room .marks-room .bounded, same .sheet-same); long-room = rw (same .sheet-same, same .marks-same) (room .marks-room .long-room) };
       }
 
 -- ---- The deck, card by card

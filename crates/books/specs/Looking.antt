@@ -3,7 +3,7 @@ use mathlib.Core.Path.{_≡_, refl, sym, ap, _∙_}
 use mathlib.Core.Bool.{Bool, true, false, cond}
 use mathlib.Core.List.{List, [], _∷_}
 use mathlib.Core.Option.{Option, none, some}
-use Prim.Native.Nat.{ℕ, zero, suc, _+_, _*_, _/_, _≤_, _<_}
+use Prim.Native.Nat.{ℕ, zero, suc, _+_, _*_, _≤_, _<_}
 use native.Mathlib.Omega.{arith}
 use lib.Dec.{eqb}
 use lib.ListN.{length, take, drop, getD}
@@ -20,6 +20,7 @@ use Rattle.laws.specs.PutGet.{entries-fit}
 use Rattle.laws.specs.Accepted.{lens-typed, accepted-iff, accepted}
 use Rattle.laws.specs.NodeTrees.{lens-below, lens-tree, tree-length}
 use Rattle.automaton.specs.Built.{Built}
+use Rattle.paths.specs.Walking.{MarksRoom}
 use Rattle.lens.specs.Emitting.{LensNode}
 use Rattle.books.specs.declared.Book.{Book}
 use Rattle.books.specs.declared.Old.{Old}
@@ -74,9 +75,8 @@ pub record EntryCard (bytes : Text) (child : ℕ) (text slot : Text) : Type 0 wh
 -- Room for the sheet of an entry and its path, for 4,096 bytes at least.
 pub record SheetRoom (sheet marks path : List ℕ) : Type 0 where
   pub least-room : 4096 ≤ length sheet
-  pub most-room : length sheet < 1048576
   pub same-room : length path ≡ length sheet
-  pub marks-room : 2 * ((length sheet + 63) / 64) ≤ length marks
+  pub marks-room : MarksRoom sheet marks
 
 -- The card was made, or the entry's sheet is longer than the room for it. No sheet is longer than 524,288 bytes.
 pub record CardTried (bytes : Text) (child : ℕ) (text room slot : Text) (done : Bool) : Type 0 where

@@ -4,9 +4,10 @@ use lens::Wrote;
 use lens::read::read_text;
 ghost use mathlib.Core.Path.{_≡_};
 ghost use mathlib.Core.List.{_++_};
-ghost use Prim.Native.Nat.{_+_, _*_, _/_, _≤_, _<_};
+ghost use Prim.Native.Nat.{_+_, _≤_, _<_};
 ghost use lib.ListN.{length, take, drop};
 ghost use Rattle.semantics.specs.Lens.{sheet};
+ghost use Rattle.paths.specs.Walking.{MarksRoom};
 ghost use Rattle.lens.specs.Emitting.{LensNode, Fits};
 ghost use Rattle.books.specs.Cards.{printOf, twoBytes, KeyBehind, Sealed, CardIs};
 
@@ -67,7 +68,7 @@ pub fn card_of(
 ) -> usize
     requires { ⌜ LensNode (now bytes) (now prepared) node ⌝ }
     requires { ⌜ Fits (now bytes) node sheet (now text) ⌝ }
-    requires { ⌜ (length (now text) ≤ length (now path)) × (2 * ((length (now text) + 63) / 64) ≤ length (now marks)) × (length (now text) < 1048576) ⌝ }
+    requires { ⌜ (length (now text) ≤ length (now path)) × MarksRoom (now text) (now marks) ⌝ }
     requires { ⌜ length (now card) ≡ 4100 ⌝ }
     ensures { λ r. ⌜ CardIs (now (bytes .entry)) node (now (text .entry)) (now (card .exit)) r ⌝ }
 {

@@ -174,11 +174,11 @@ neither-long a old k h = rw (not-too-long a k, not-too-long old h) refl
 -- ---- The desks of a put
 
 -- room for the sheet of an entry, as long as a text may be or as long as any
-pub short-room : {sheet marks path : List ℕ} → 4096 ≡ length sheet → 128 ≡ length marks → 4096 ≡ length path → SheetRoom sheet marks path
-short-room s m p = record { least-room = omega arith; most-room = omega arith; same-room = omega arith; marks-room = omega arith }
+pub short-room : {sheet marks path : List ℕ} → 4096 ≡ length sheet → 1 ≡ length marks → 4096 ≡ length path → SheetRoom sheet marks path
+short-room s m p = record { least-room = omega arith; same-room = omega arith; marks-room = record { bounded = omega arith; long-room = λ long. omega arith } }
 
 pub long-room : {sheet marks path : List ℕ} → 524288 ≡ length sheet → 16384 ≡ length marks → 524288 ≡ length path → SheetRoom sheet marks path
-long-room s m p = record { least-room = omega arith; most-room = omega arith; same-room = omega arith; marks-room = omega arith }
+long-room s m p = record { least-room = omega arith; same-room = omega arith; marks-room = record { bounded = omega arith; long-room = λ long. omega arith } }
 
 -- how many desks there are after a desk, in the order in which they are tried
 abbrev pub desksAfter : Desk → ℕ

@@ -12,12 +12,13 @@ use paths::goes_left;
 use table::Kind;
 use table::Table;
 ghost use mathlib.Core.Path.{_≡_};
-ghost use Prim.Native.Nat.{_+_, _*_, _/_, _≤_, _<_};
+ghost use Prim.Native.Nat.{_≤_};
 ghost use lib.ListN.{length};
 ghost use Rattle.semantics.specs.Table.{trees, lens};
 ghost use Rattle.semantics.specs.Lens.{repeat};
 ghost use Rattle.table.specs.Prepared.{OneLens};
 ghost use Rattle.automaton.specs.Rows.{automatonAt};
+ghost use Rattle.paths.specs.Walking.{MarksRoom};
 ghost use Rattle.lens.specs.Overlay.{Writes};
 ghost use Rattle.lens.specs.Reading.{modeSide, copied};
 ghost use Rattle.lens.specs.Emitting.{sideFor, Prepared, WordNode, WordIs, LensNode, Fits, Emits, EmitsJoin};
@@ -215,7 +216,7 @@ pub fn read_text(
 ) -> Wrote
     requires { ⌜ LensNode (now bytes) (now prepared) node ⌝ }
     requires { ⌜ Fits (now bytes) node (modeSide mode) (now text) ⌝ }
-    requires { ⌜ (length (now text) ≤ length (now path)) × (2 * ((length (now text) + 63) / 64) ≤ length (now marks)) × (length (now text) < 1048576) ⌝ }
+    requires { ⌜ (length (now text) ≤ length (now path)) × MarksRoom (now text) (now marks) ⌝ }
     ensures { λ r. ⌜ Emits (now (bytes .entry)) node mode (now (text .entry)) (now (out .entry)) (now (out .exit)) r ⌝ }
 {
     let a = automaton_for(prepared, node, mode);

@@ -3,7 +3,8 @@ use mathlib.Core.Path.{_≡_}
 use mathlib.Core.Bool.{Bool, true, false}
 use mathlib.Core.List.{List, [], _∷_, _++_}
 use mathlib.Core.Logic.{_↔_}
-use Prim.Native.Nat.{ℕ, suc, _+_, _-_, _*_, _≤_, _<_, min}
+use Prim.Native.Nat.{ℕ, suc, _+_, _-_, _*_, _/_, _≤_, _<_, min}
+use native.Mathlib.Omega.{arith}
 use lib.ListN.{length, take, drop}
 use Rattle.semantics.specs.Text.{Text}
 use Rattle.semantics.specs.Pattern.{Pattern, In, matches}
@@ -63,6 +64,20 @@ blockEnd n k = min (64 * k + 64) n
 -- The slice has, for each block of 64 bytes from block k on, the set behind it.
 pub record Marked (prepared : List ℕ) (a : Automaton) (text : Text) (k : ℕ) (marks : List ℕ) : Type 0 where
   pub behind : (j : ℕ) → k ≤ j → 64 * j < length text → BehindAt prepared a text (blockEnd (length text) j) (setAt marks (2 * j))
+
+-- Room for the sets behind a text's blocks, two numbers for each. A text of at most 4,096 bytes needs none: there is room of its own for it.
+pub record MarksRoom (text marks : List ℕ) : Type 0 where
+  pub bounded : length text < 1048576
+  pub long-room : 4096 < length text → 2 * ((length text + 63) / 64) ≤ length marks
+
+-- so a short text always has room,
+pub short-marks : {text marks : List ℕ} → length text ≤ 4096 → MarksRoom text marks
+short-marks short = record { bounded = omega arith; long-room = λ long. absurd (omega arith) }
+
+-- and a text that is no longer than one that has
+pub less-marks : {text more marks room : List ℕ} → length text ≤ length more → length room ≡ length marks → MarksRoom more marks → MarksRoom text room
+less-marks less same known =
+    record { bounded = omega (arith, known .bounded); long-room = λ long. omega (arith, known .long-room (omega arith)) }
 
 -- ---- The path so far
 

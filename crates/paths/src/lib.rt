@@ -10,7 +10,7 @@ ghost use lib.ListN.{length};
 ghost use Rattle.laws.specs.Paths.{border, goesLeft, firstLoop};
 ghost use Rattle.positions.specs.Positions.{holds};
 ghost use Rattle.automaton.specs.Rows.{Room};
-ghost use Rattle.paths.specs.Walking.{Lowest, Alone, Past, Stored, Filled, BehindAt, blockEnd, Marked, Walked, WalkedTo, PathFound};
+ghost use Rattle.paths.specs.Walking.{Lowest, Alone, Past, Stored, Filled, BehindAt, blockEnd, Marked, MarksRoom, Walked, WalkedTo, PathFound};
 
 // How far a path has come: so many bytes are read, whether the text may end here, and at which positions the next byte can stand.
 pub struct Walk {
@@ -230,16 +230,47 @@ fn walk_blocks(
     walk.here
 }
 
-// Room for the sets of a block.
+// Room for the sets of a block, or of the blocks of a text of at most 4,096 bytes.
 fn no_sets() -> [u64; 128]
     ensures { λ r. ⌜ 128 ≡ length r ⌝ }
 {
     [0u64; 128]
 }
 
+// The rest of a path, from the first choice on, with room for the sets that are kept.
+fn choose(
+    prepared: &[u64],
+    a: Automaton,
+    text: &[u8],
+    walk: Walk,
+    marks: &mut [u64],
+    path: &mut [u8],
+) -> bool
+    requires { ⌜ Room a (now prepared) ⌝ }
+    requires { ⌜ (2 * ((length (now text) + 63) / 64) ≤ length (now marks)) × (length (now text) < 1048576) ⌝ }
+    requires { ⌜ length (now path) ≡ length (now text) ⌝ }
+    requires { ⌜ Walked (now prepared) a (now text) (now path) walk ⌝ }
+    ensures { λ found. ⌜ PathFound (now (prepared .entry)) a (now (text .entry)) (now (path .exit)) found ⌝ }
+{
+    let mut sets = no_sets();
+    mark_blocks(prepared, a, text, walk.at / 64, &mut sets, marks);
+    walk_blocks(prepared, a, text, walk, &mut sets, marks, path)
+}
+
+// The same for a text of at most 4,096 bytes, with room of its own.
+fn choose_short(prepared: &[u64], a: Automaton, text: &[u8], walk: Walk, path: &mut [u8]) -> bool
+    requires { ⌜ Room a (now prepared) ⌝ }
+    requires { ⌜ (length (now text) ≤ 4096) × (length (now path) ≡ length (now text)) ⌝ }
+    requires { ⌜ Walked (now prepared) a (now text) (now path) walk ⌝ }
+    ensures { λ found. ⌜ PathFound (now (prepared .entry)) a (now (text .entry)) (now (path .exit)) found ⌝ }
+{
+    let mut marks = no_sets();
+    choose(prepared, a, text, walk, &mut marks, path)
+}
+
 // ---- The path of a text
 
-// Whether the text belongs, and its least path if it does. Only a text with choices needs the sets of its blocks, two numbers of `marks` for each.
+// Whether the text belongs, and its least path if it does. Only a text with choices needs sets of its blocks, and room is lent for those of a long one.
 pub fn find_path(
     prepared: &[u64],
     a: Automaton,
@@ -248,7 +279,7 @@ pub fn find_path(
     path: &mut [u8],
 ) -> bool
     requires { ⌜ Room a (now prepared) ⌝ }
-    requires { ⌜ (2 * ((length (now text) + 63) / 64) ≤ length (now marks)) × (length (now text) < 1048576) ⌝ }
+    requires { ⌜ MarksRoom (now text) (now marks) ⌝ }
     requires { ⌜ length (now path) ≡ length (now text) ⌝ }
     ensures { λ found. ⌜ PathFound (now (prepared .entry)) a (now (text .entry)) (now (path .exit)) found ⌝ }
 {
@@ -256,9 +287,10 @@ pub fn find_path(
     if walk.at == text.len() {
         return walk.here;
     }
-    let mut sets = no_sets();
-    mark_blocks(prepared, a, text, walk.at / 64, &mut sets, marks);
-    walk_blocks(prepared, a, text, walk, &mut sets, marks, path)
+    if text.len() <= 4096 {
+        return choose_short(prepared, a, text, walk, path);
+    }
+    choose(prepared, a, text, walk, marks, path)
 }
 
 // ---- What is read off a path

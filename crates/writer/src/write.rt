@@ -217,11 +217,11 @@ fn no_card() -> [u8; 4100]
     [0u8; 4100]
 }
 
-// Room for the sets that finding the path of a text keeps.
-fn no_marks() -> [u64; 128]
-    ensures { λ r. ⌜ 128 ≡ length r ⌝ }
+// Finding the path of a text of at most 4,096 bytes needs no room lent for the sets that it keeps.
+fn no_marks() -> [u64; 1]
+    ensures { λ r. ⌜ 1 ≡ length r ⌝ }
 {
-    [0u64; 128]
+    [0u64; 1]
 }
 
 // The entry that the key of a sheet text finds, and the book without it. The pad lends room for the text's path.

@@ -1,7 +1,5 @@
 -- `paths::find_path` meets its contract. Assumes nothing.
 use mathlib.Core.Path.{_∙_}
-use native.Mathlib.Omega.{arith}
-use borrow.Author.Needs.{needs}
 use Rattle.paths.proofs.Stepping.{walked-all}
 use borrow.Author.Needs.{needs}
 use Rattle.paths.proofs.find_path.Statement.{statement}
@@ -16,29 +14,26 @@ same-length c = search needs
 returns : tie.Need-returns
 returns c = walked-all (c .before .before .before .before .walk-alone .ensures) (c .if1 .taken) (c .before .before .before .before .walk-alone .kept .1 .1 .1 .0 ∙ c .before .before .before .before .before .before .before .before .before .before .pre .1 .1)
 
-no-sets-requires : tie.Need-no-sets-requires
-no-sets-requires c κs = search needs
-
-slice-aggregate-mark-blocks : tie.Need-slice-aggregate-mark-blocks
-slice-aggregate-mark-blocks c = search needs
-
-mark-blocks-requires : tie.Need-mark-blocks-requires
-mark-blocks-requires c κs = search needs
-
-slice-aggregate-walk-blocks : tie.Need-slice-aggregate-walk-blocks
-slice-aggregate-walk-blocks c = search needs
-
-walk-blocks-requires : tie.Need-walk-blocks-requires
-walk-blocks-requires c κs = (c .before .before .before .before .before .before .before .before .before .before .before .before .before .before .before .before .before .before .before .before .before .pre .0, ((omega (arith, c .before .before .before .before .before .before .before .before .before .before .no-sets .ensures, c .before .before .before .before .before .before .mark-blocks .kept .1 .1 .1 .1 .0), omega (arith, c .before .before .before .before .before .before .before .before .before .before .before .before .before .before .before .before .before .before .before .before .before .pre .1 .0 .0, c .before .before .before .before .before .before .mark-blocks .kept .1 .1 .1 .1 .1 .0), c .before .before .before .before .before .before .before .before .before .before .before .before .before .before .before .before .before .before .before .before .before .pre .1 .0 .1), (c .before .before .before .before .before .before .before .before .before .before .before .before .before .before .before .walk-alone .kept .1 .1 .1 .0 ∙ c .before .before .before .before .before .before .before .before .before .before .before .before .before .before .before .before .before .before .before .before .before .pre .1 .1, (c .before .before .before .before .before .before .before .before .before .before .before .before .before .before .before .walk-alone .ensures, c .before .before .before .before .before .before .mark-blocks .ensures))))
+choose-short-requires : tie.Need-choose-short-requires
+choose-short-requires c κs = (c .before .before .before .before .before .before .before .before .before .before .before .before .pre .0, ((c .before .if2 .taken, c .before .before .before .before .before .before .walk-alone .kept .1 .1 .1 .0 ∙ c .before .before .before .before .before .before .before .before .before .before .before .before .pre .1 .1), c .before .before .before .before .before .before .walk-alone .ensures))
 
 same-length-2 : tie.Need-same-length-2
 same-length-2 c = search needs
 
+returns-2 : tie.Need-returns-2
+returns-2 c = search needs
+
+choose-requires : tie.Need-choose-requires
+choose-requires c κs = (c .before .before .before .before .before .before .before .before .before .before .before .before .before .pre .0, ((c .before .before .before .before .before .before .before .before .before .before .before .before .before .pre .1 .0 .long-room (c .before .before .if2 .left), c .before .before .before .before .before .before .before .before .before .before .before .before .before .pre .1 .0 .bounded), (c .before .before .before .before .before .before .before .walk-alone .kept .1 .1 .1 .0 ∙ c .before .before .before .before .before .before .before .before .before .before .before .before .before .pre .1 .1, c .before .before .before .before .before .before .before .walk-alone .ensures)))
+
 same-length-3 : tie.Need-same-length-3
 same-length-3 c = search needs
 
-returns-2 : tie.Need-returns-2
-returns-2 c = search needs
+same-length-4 : tie.Need-same-length-4
+same-length-4 c = search needs
+
+returns-3 : tie.Need-returns-3
+returns-3 c = search needs
 
 pub find-path-spec : {M : Type 1} → statement M
 find-path-spec =
@@ -47,11 +42,10 @@ find-path-spec =
     walk-alone-requires
     same-length
     returns
-    no-sets-requires
-    slice-aggregate-mark-blocks
-    mark-blocks-requires
-    slice-aggregate-walk-blocks
-    walk-blocks-requires
+    choose-short-requires
     same-length-2
+    returns-2
+    choose-requires
     same-length-3
-    returns-2)
+    same-length-4
+    returns-3)

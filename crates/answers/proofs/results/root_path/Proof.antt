@@ -1,5 +1,5 @@
 -- `answers::results::root_path` meets its contract: the root's automaton is that of its language. Assumes nothing.
-use native.Mathlib.Omega.{arith}
+use Rattle.paths.specs.Walking.{short-marks}
 use Rattle.answers.proofs.Giving.{root-words, root-room, path-of-root}
 use borrow.Author.Needs.{needs}
 use Rattle.answers.proofs.results.root_path.Statement.{statement}
@@ -18,7 +18,7 @@ slice-aggregate-find-path : tie.Need-slice-aggregate-find-path
 slice-aggregate-find-path c = search needs
 
 find-path-requires : tie.Need-find-path-requires
-find-path-requires c κs = (root-room (c .before .before .before .before .before .before .before .before .before .pre .0) (c .before .before .before .before .root-of .ensures) (c .before .before .before .before .before .before .before .before .before .args .side) (c .before .before .before .automaton-of .ensures), ((omega (arith, c .before .before .before .before .before .before .before .before .before .pre .1 .0, c .before .before .no-marks .ensures), omega (arith, c .before .before .before .before .before .before .before .before .before .pre .1 .0)), c .before .before .before .before .before .before .before .before .before .pre .1 .1))
+find-path-requires c κs = (root-room (c .before .before .before .before .before .before .before .before .before .pre .0) (c .before .before .before .before .root-of .ensures) (c .before .before .before .before .before .before .before .before .before .args .side) (c .before .before .before .automaton-of .ensures), (short-marks (c .before .before .before .before .before .before .before .before .before .pre .1 .0), c .before .before .before .before .before .before .before .before .before .pre .1 .1))
 
 same-length : tie.Need-same-length
 same-length c = search needs

@@ -4,6 +4,7 @@ use native.Mathlib.Omega.{arith}
 use borrow.Author.Needs.{needs}
 use lib.ListN.{length-take}
 use Rattle.lens.specs.Reading.{modeSide}
+use Rattle.paths.specs.Walking.{short-marks, less-marks}
 use Rattle.books.proofs.Dealing.{sheet-over, sheet-within, entry-fits, sheet-belongs, entry-told}
 use borrow.Author.Needs.{needs}
 use Rattle.books.proofs.deck.entry_card.Statement.{statement}
@@ -11,7 +12,7 @@ use Rattle.books.proofs.deck.entry_card.Tie as tie
 
 read-text-requires : tie.Need-read-text-requires
 unfolding modeSide
-read-text-requires c κs = let room = c .before .before .before .before .before .before .before .before .before .before .pre .1 .1 .1 in (c .before .before .before .before .before .before .before .before .before .before .pre .0, (entry-fits (c .before .before .before .before .before .before .before .before .before .before .pre .1 .0), (omega (arith, c .before .before .before .before .before .before .before .before .before .before .pre .1 .1 .0 .0, room .least-room, room .same-room), omega (arith, c .before .before .before .before .before .before .before .before .before .before .pre .1 .1 .0 .0, room .least-room, room .marks-room), omega (arith, c .before .before .before .before .before .before .before .before .before .before .pre .1 .1 .0 .0))))
+read-text-requires c κs = let room = c .before .before .before .before .before .before .before .before .before .before .pre .1 .1 .1 in (c .before .before .before .before .before .before .before .before .before .before .pre .0, (entry-fits (c .before .before .before .before .before .before .before .before .before .before .pre .1 .0), (omega (arith, c .before .before .before .before .before .before .before .before .before .before .pre .1 .1 .0 .0, room .least-room, room .same-room), short-marks (c .before .before .before .before .before .before .before .before .before .before .pre .1 .1 .0 .0))))
 
 enum-known-wrote : tie.Need-enum-known-wrote
 enum-known-wrote c = search needs
@@ -41,7 +42,7 @@ part-card-of-end : tie.Need-part-card-of-end
 part-card-of-end c = sheet-within (c .before .before .before .before .before .before .before .before .before .before .before .before .before .before .before .before .before .before .before .before .before .pre .0) (rw (c .before .before .wrote .given .1) at (c .before .before .before .before .before .before .before .before .before .before .read-text .ensures))
 
 card-of-requires : tie.Need-card-of-requires
-card-of-requires c κs = let room = c .before .before .before .before .before .before .before .before .before .before .before .before .before .before .before .before .before .before .before .before .before .before .before .before .before .pre .1 .1 .1 in let marks = c .before .before .before .before .before .before .before .before .before .before .before .before .before .before .read-text .kept .1 .1 .1 .1 .1 .0 in let path = c .before .before .before .before .before .before .before .before .before .before .before .before .before .before .read-text .kept .1 .1 .1 .1 .1 .1 .0 in let sheet = c .before .before .before .before .before .before .before .before .before .before .before .before .before .before .read-text .kept .1 .1 .1 .1 .1 .1 .1 .0 in (c .before .before .before .before .before .before .before .before .before .before .before .before .before .before .before .before .before .before .before .before .before .before .before .before .before .pre .0, (sheet-belongs (c .before .before .before .before .before .before .before .before .before .before .before .before .before .before .before .before .before .before .before .before .before .before .before .before .before .pre .1 .0) (rw (c .before .before .before .before .before .before .wrote .given .1) at (c .before .before .before .before .before .before .before .before .before .before .before .before .before .before .read-text .ensures)), ((simp length-take (omega (arith, path, sheet, room .same-room)), simp length-take (omega (arith, marks, sheet, room .marks-room)), simp length-take (omega (arith, sheet, room .most-room))), c .before .before .before .before .before .before .before .before .before .before .before .before .before .before .before .before .before .before .before .before .before .before .before .before .before .pre .1 .1 .0 .1)))
+card-of-requires c κs = let room = c .before .before .before .before .before .before .before .before .before .before .before .before .before .before .before .before .before .before .before .before .before .before .before .before .before .pre .1 .1 .1 in let marks = c .before .before .before .before .before .before .before .before .before .before .before .before .before .before .read-text .kept .1 .1 .1 .1 .1 .0 in let path = c .before .before .before .before .before .before .before .before .before .before .before .before .before .before .read-text .kept .1 .1 .1 .1 .1 .1 .0 in let sheet = c .before .before .before .before .before .before .before .before .before .before .before .before .before .before .read-text .kept .1 .1 .1 .1 .1 .1 .1 .0 in (c .before .before .before .before .before .before .before .before .before .before .before .before .before .before .before .before .before .before .before .before .before .before .before .before .before .pre .0, (sheet-belongs (c .before .before .before .before .before .before .before .before .before .before .before .before .before .before .before .before .before .before .before .before .before .before .before .before .before .pre .1 .0) (rw (c .before .before .before .before .before .before .wrote .given .1) at (c .before .before .before .before .before .before .before .before .before .before .before .before .before .before .read-text .ensures)), ((simp length-take (omega (arith, path, sheet, room .same-room)), less-marks (simp length-take (omega (arith, sheet))) marks (room .marks-room)), c .before .before .before .before .before .before .before .before .before .before .before .before .before .before .before .before .before .before .before .before .before .before .before .before .before .pre .1 .1 .0 .1)))
 
 same-length-4 : tie.Need-same-length-4
 same-length-4 c = search needs

@@ -27,9 +27,9 @@ find-path-requires : tie.Need-find-path-requires
 find-path-requires c κs =
     let start = c .before .before .before .before .before .before .before .before .before in
     let room = (node-prepared (start .pre .0) (sideFor (start .args .mode))) .room in
-    let (long, marks, short) = start .pre .1 .1 in
+    let (long, marks) = start .pre .1 .1 in
     let n = length (start .args .text .now) in
-    (rw (c .before .before .automaton-for .ensures) room, ((marks, short), lent-length n (start .args .path .now) long))
+    (rw (c .before .before .automaton-for .ensures) room, (marks, lent-length n (start .args .path .now) long))
 
 same-length : tie.Need-same-length
 same-length c = search needs

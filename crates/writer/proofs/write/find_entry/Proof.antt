@@ -1,5 +1,6 @@
 -- `writer::write::find_entry` meets its contract: the card of the sheet's key finds what the key finds. Assumes nothing.
 use native.Mathlib.Omega.{arith}
+use Rattle.paths.specs.Walking.{short-marks}
 use Rattle.writer.proofs.ByKind.{looked-up-key}
 use borrow.Author.Needs.{needs}
 use Rattle.writer.proofs.write.find_entry.Statement.{statement}
@@ -18,7 +19,7 @@ slice-aggregate-card-of-2 : tie.Need-slice-aggregate-card-of-2
 slice-aggregate-card-of-2 c = search needs
 
 card-of-requires : tie.Need-card-of-requires
-card-of-requires c κs = let lent = c .before .before .before .before .before .before .before .before .before .before .pre .1 in (c .before .before .before .before .before .before .before .before .before .before .pre .0 .lens-node, (lent .new-fits, ((omega (arith, lent .new-short, lent .pad-room), omega (arith, lent .new-short, c .before .before .before .no-marks .ensures), omega (arith, lent .new-short)), search needs)))
+card-of-requires c κs = let lent = c .before .before .before .before .before .before .before .before .before .before .pre .1 in (c .before .before .before .before .before .before .before .before .before .before .pre .0 .lens-node, (lent .new-fits, ((omega (arith, lent .new-short, lent .pad-room), short-marks (lent .new-short)), search needs)))
 
 sub-take : tie.Need-sub-take
 sub-take c = search needs
