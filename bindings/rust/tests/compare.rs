@@ -6,6 +6,7 @@
 mod common;
 
 use common::{with_stack, Engine};
+use noontrough_reference::census::Census;
 use noontrough_reference::demand3;
 use noontrough_reference::trial::compare;
 
@@ -30,10 +31,12 @@ fn the_engine_answers_as_the_reference_does() {
         .into_iter()
         .map(|seed| std::thread::spawn(move || (seed, with_stack(move || compare(&Engine, seed, count)))))
         .collect();
-    let (mut total, mut numbers) = (0, [0; 17]);
+    let (mut total, mut numbers, mut census) = (0, [0; 17], Census::default());
     for thread in threads {
         let (seed, compared) = thread.join().expect("the comparison ends");
-        let tally = compared.unwrap_or_else(|difference| panic!("seed {seed}: {difference:?}"));
+        let compared = compared.unwrap_or_else(|difference| panic!("seed {seed}: {difference:?}"));
+        let tally = compared.tally;
+        census.add(&compared.census);
         println!("seed {seed}: {} calls, all alike\n{tally}", tally.total());
         total += tally.total();
         for (number, count) in numbers.iter_mut().enumerate() {
@@ -41,6 +44,7 @@ fn the_engine_answers_as_the_reference_does() {
         }
     }
     println!("{total} calls in all, {} with a result", numbers[0]);
+    println!("{census}");
     for (number, count) in numbers.iter().enumerate().skip(1) {
         println!("refusal {number:>2}: {count}");
     }

@@ -63,6 +63,19 @@ impl Automaton {
         run.is_at(self.end)
     }
 
+    /// Whether several states can read some byte of the text, so that the bytes
+    /// before it don't say which way to go.
+    pub fn has_choices(&self, text: &[u8]) -> bool {
+        let mut run = Run::new(&self.states, self.start);
+        for &byte in text {
+            if run.count_readers(byte) > 1 {
+                return true;
+            }
+            run.step(byte);
+        }
+        false
+    }
+
     /// Flag i says whether the first i bytes belong to the language.
     pub fn prefixes(&self, text: &[u8]) -> Vec<bool> {
         flags(Run::new(&self.states, self.start), self.end, text.iter(), text.len())
@@ -245,6 +258,11 @@ impl<'a> Run<'a> {
             }
         }
         self.follow_free_moves();
+    }
+
+    fn count_readers(&self, byte: u8) -> usize {
+        let readings = self.active.iter().filter_map(|&state| self.states[state].reading);
+        readings.filter(|reading| reading.takes(byte)).count()
     }
 
     fn is_at(&self, state: usize) -> bool {

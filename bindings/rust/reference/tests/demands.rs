@@ -99,6 +99,6 @@ fn accepted_once_in_a_while(random: &mut Random) -> Vec<u8> {
 
 #[test]
 fn the_reference_agrees_with_itself() {
-    let tally = compare(&Reference, 7, 200).expect("no difference");
+    let tally = compare(&Reference, 7, 200).expect("no difference").tally;
     assert!(tally.total() > 1000);
 }
