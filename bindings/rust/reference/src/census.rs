@@ -51,14 +51,16 @@ pub enum Kind {
     LongEntry,
     LongEntryOfEight,
     LongEntryOfNineOrMore,
-    /// Its key is as long.
+    /// The entry's sheet has over 65,536 bytes.
+    HugeEntry,
+    /// Its key is longer than a text may be.
     LongKey,
     /// The sheet has an entry with its key.
     LongEntryFound,
 }
 
 impl Kind {
-    pub const ALL: [Kind; 25] = [
+    pub const ALL: [Kind; 26] = [
         Kind::UnionsTwoDeep,
         Kind::UnionsThreeDeep,
         Kind::UnionsOnTheLeft,
@@ -82,6 +84,7 @@ impl Kind {
         Kind::LongEntry,
         Kind::LongEntryOfEight,
         Kind::LongEntryOfNineOrMore,
+        Kind::HugeEntry,
         Kind::LongKey,
         Kind::LongEntryFound,
     ];
@@ -328,12 +331,13 @@ fn entry_kinds(program: &Program, case: &Case) -> Vec<Kind> {
     if positions * case.source.len().max(1) <= MAX_TEXT {
         return Vec::new();
     }
-    let (mut count, mut long_ones) = (0, Vec::new());
+    let (mut count, mut longest, mut long_ones) = (0, 0, Vec::new());
     program.each_part(Side::Source, &case.source, &mut |node, text| {
         let Node::Match(child) = *program.node(node) else { return };
         let mut sheet = Vec::new();
         program.get_at(child, text, &mut sheet);
         count += 1;
+        longest = longest.max(sheet.len());
         if sheet.len() > MAX_TEXT {
             long_ones.push((child, program.key(child, &sheet)));
         }
@@ -345,6 +349,7 @@ fn entry_kinds(program: &Program, case: &Case) -> Vec<Kind> {
         (true, Kind::LongEntry),
         (count == 8, Kind::LongEntryOfEight),
         (count > 8, Kind::LongEntryOfNineOrMore),
+        (longest > 1 << 16, Kind::HugeEntry),
         (long_ones.iter().any(|(_, key)| key.len() > MAX_TEXT), Kind::LongKey),
         (asks_for_one_of(program, &case.sheet, &long_ones), Kind::LongEntryFound),
     ];

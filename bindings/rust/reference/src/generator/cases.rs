@@ -30,15 +30,16 @@ pub struct Case {
 }
 
 /// Calls about one program: refused ones are checked and called with texts that
-/// would fit other programs, accepted ones get texts of all sorts.
+/// would fit other programs, accepted ones get texts of all sorts. Programs with
+/// long old entries bring their own texts.
 pub fn program_cases(random: &mut Random) -> Vec<Case> {
-    let table = match random.below(24) {
-        0 => return long_entry_cases(random),
-        1..=3 => {
+    let table = match random.below(25) {
+        0..=1 => return long_entry_cases(random),
+        2..=4 => {
             let number = random.between(usize::from(*PROGRAM_REFUSALS.start()), usize::from(*PROGRAM_REFUSALS.end()));
             refused(random, number as u8, &mut accepted)
         }
-        4..=6 => {
+        5..=7 => {
             let table = accepted(random).table();
             mutated(random, &table)
         }
@@ -111,8 +112,8 @@ fn any_text(random: &mut Random, program: &Program, side: Side) -> Vec<u8> {
             let legal = legal_text(random, program, side);
             garbage(random, &legal)
         }
-        2..=4 => text_at_length_limit(random, program, side),
-        5 => text_at_entry_limit(random, program, side),
+        2..=5 => text_at_length_limit(random, program, side),
+        6 => text_at_entry_limit(random, program, side),
         _ => legal_text(random, program, side),
     }
 }
@@ -122,13 +123,14 @@ pub fn legal_text(random: &mut Random, program: &Program, side: Side) -> Vec<u8>
     draw(random, program.table(), program.root(), side, more, 120)
 }
 
-/// Lengths at and beside the limits, and beside one and two blocks of 64 bytes.
-const LENGTHS: [usize; 11] = [0, 1, 63, 64, 65, 127, 128, 129, MAX_TEXT - 1, MAX_TEXT, MAX_TEXT + 1];
-
-/// A legal text of one of these lengths if there is one; otherwise garbage of
-/// that length.
+/// A legal text of a length at or beside a limit or a multiple of 64 if there is
+/// one; otherwise garbage of that length.
 pub fn text_at_length_limit(random: &mut Random, program: &Program, side: Side) -> Vec<u8> {
-    let length = *random.pick(&LENGTHS);
+    let length = match random.below(11) {
+        0 => random.below(2),
+        1..=3 => MAX_TEXT - 1 + random.below(3),
+        _ => 64 * random.pick(&[1, 1, 1, 2, 2, 2, 3, 4, 9]) - 1 + random.below(3),
+    };
     draw_of_length(random, program.automaton(program.root(), side), length).unwrap_or_else(|| vec![b'A'; length])
 }
 

@@ -216,6 +216,12 @@ pub fn loose(random: &mut Random) -> Draft {
 /// Entries of patterns that are ambiguous in themselves.
 fn loose_entries(random: &mut Random, draft: &mut Draft) {
     let mut row = Vec::new();
+    // A stretch of any length in which the way is forced.
+    if random.once_in(2) {
+        let digit = draft.range(b'0', b'9');
+        let digits = draft.pattern_repeat(digit);
+        row.push(draft.copy(digits));
+    }
     for _ in 0..random.between(1, 2) {
         let pattern = loose_pattern(random, draft);
         row.push(if random.once_in(2) { draft.key(pattern) } else { draft.copy(pattern) });
@@ -223,8 +229,8 @@ fn loose_entries(random: &mut Random, draft: &mut Draft) {
     }
     if random.once_in(2) {
         let pattern = loose_pattern(random, draft);
-        row.insert(1, draft.copy_word(b","));
-        row.insert(2, draft.delete(pattern, b"abbaabbabbaabba"));
+        row.push(draft.delete(pattern, b"abbaabbabbaabba"));
+        row.push(draft.copy_word(b","));
     }
     let line = draft.lens_row(&row);
     let entry = if random.once_in(4) { line } else { draft.matched(line) };

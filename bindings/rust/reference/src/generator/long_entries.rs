@@ -4,6 +4,8 @@
 //! hundred bytes has a sheet of over 4,096. Get refuses it with 16; put is still
 //! defined, and has to read the key of such an entry off its sheet.
 
+use std::iter::repeat;
+
 use super::cases::{case, lent_length, Call, Case};
 use super::draft::{Draft, NodeNumber};
 use super::random::Random;
@@ -41,6 +43,9 @@ enum Place {
     /// The wide words come from one arm of a union; the other arm would read
     /// them as its key.
     InOtherArm,
+    /// Before a run of wide words, as one more byte of the run: only the end of
+    /// the run tells whether there is a key.
+    InRun,
 }
 
 struct Shape {
@@ -49,6 +54,8 @@ struct Shape {
     wide: Vec<u8>,
     /// Whether the program is one entry and not a list of them.
     single: bool,
+    /// Whether an entry has many empty leaves before its text.
+    deep: bool,
     table: Vec<u8>,
 }
 
@@ -69,10 +76,15 @@ impl Shape {
                 Place::Among,
                 Place::InOtherArm,
                 Place::InOtherArm,
+                Place::InRun,
+                Place::InRun,
             ]);
             let length = *random.pick(&[16, 31, 63, 64, 64, 100, 120]);
-            let wide = (0..length).map(|_| *random.pick(b"u-")).collect();
-            let mut shape = Shape { key, wide, single: random.once_in(6), table: Vec::new() };
+            let wide = match key {
+                Place::InRun => vec![b'z'; length],
+                _ => (0..length).map(|_| *random.pick(b"u-")).collect(),
+            };
+            let mut shape = Shape { key, wide, single: random.once_in(6), deep: random.once_in(8), table: Vec::new() };
             shape.table = shape.write(random).table();
             if let Ok(program) = Program::read(&shape.table) {
                 return (shape, program);
@@ -94,10 +106,15 @@ impl Shape {
             }
             Place::Among => vec![key_among(random, &mut draft, wide)],
             Place::InOtherArm => vec![key_of_other_arm(random, &mut draft, wide)],
+            Place::InRun => vec![key_in_run(random, &mut draft, wide)],
         };
         let digit = draft.range(b'0', b'9');
         row.push(draft.delete(digit, b"0"));
         row.push(draft.copy_word(b";"));
+        if self.deep {
+            let nothing = draft.copy_word(b"");
+            row.splice(..0, vec![nothing; random.between(20, 30)]);
+        }
         let line = draft.lens_row(&row);
         let entry = draft.matched(line);
         if !self.single {
@@ -134,12 +151,20 @@ impl Shape {
 
     /// So many wide words that they come to about 4,096 bytes, or to more.
     fn many_parts(&self, random: &mut Random) -> usize {
-        let about = match random.below(16) {
-            0..=6 => random.between(MAX_TEXT - self.wide.len(), MAX_TEXT + 2 * self.wide.len()),
-            7..=14 => random.between(MAX_TEXT, 2 * MAX_TEXT),
-            _ => random.between(2 * MAX_TEXT, 6 * MAX_TEXT),
+        // The reference takes long over what is both huge and deep.
+        let about = match random.below(if self.deep { 34 } else { 40 }) {
+            0..=16 => random.between(MAX_TEXT - self.wide.len(), MAX_TEXT + 2 * self.wide.len()),
+            17..=33 => random.between(MAX_TEXT, 2 * MAX_TEXT),
+            34..=38 => random.between(2 * MAX_TEXT, 6 * MAX_TEXT),
+            _ => random.between(16 * MAX_TEXT, 128 * MAX_TEXT),
         };
-        about / self.wide.len()
+        // Two such entries still make a source that a call takes.
+        let most = match self.key {
+            Place::Among => 900,
+            _ if self.single => 4000,
+            _ => 1800,
+        };
+        (about / self.wide.len()).min(most)
     }
 
     fn name(&self, random: &mut Random, parts: usize) -> Vec<u8> {
@@ -147,6 +172,7 @@ impl Shape {
             Place::Before | Place::Behind => vec![*random.pick(b"ABCD")],
             Place::Among => (0..parts).map(|_| *random.pick(b"xy")).collect(),
             Place::InOtherArm => Vec::new(),
+            Place::InRun => (0..random.between(1, 4)).map(|_| *random.pick(b"kk-")).collect(),
         }
     }
 
@@ -158,6 +184,10 @@ impl Shape {
             Place::Behind => [&hidden[..], &old.name].concat(),
             Place::Among => hidden.iter().zip(&old.name).flat_map(|(&hidden, &name)| [hidden, name]).collect(),
             Place::InOtherArm => [&hidden[..], b"!"].concat(),
+            Place::InRun => {
+                let runs = old.name.iter().zip(hidden.chunks(hidden.len() / old.name.len() + 1).chain(repeat(&[][..])));
+                runs.flat_map(|(&head, run)| [if head == b'k' { b"<z" } else { &b">"[..] }, run].concat()).collect()
+            }
         };
         [&text[..], &[digit, b';']].concat()
     }
@@ -189,6 +219,7 @@ impl Shape {
             Place::Behind => [&few[..], &old.name].concat(),
             Place::Among => self.mostly_plain(random, &old.name),
             Place::InOtherArm => self.key_like(random, old.parts),
+            Place::InRun => self.runs(random, &old.name),
         };
         text.push(b';');
         text
@@ -206,6 +237,16 @@ impl Shape {
         text
     }
 
+    /// The same heads, before shorter runs.
+    fn runs(&self, random: &mut Random, heads: &[u8]) -> Vec<u8> {
+        let mut text = Vec::new();
+        for &head in heads {
+            text.extend_from_slice(if head == b'k' { b"pz" } else { b"p" });
+            text.extend(self.wide.repeat(random.below(3)));
+        }
+        text
+    }
+
     /// So many wide words, cut off where a sheet must end; rarely not at the
     /// end of a word.
     fn key_like(&self, random: &mut Random, parts: usize) -> Vec<u8> {
@@ -216,6 +257,20 @@ impl Shape {
         }
         text
     }
+}
+
+/// Parts `p`, `p` with the key `z`, and so many `z`: a run of `z` behind a `p`
+/// has its key byte or not by its length.
+fn key_in_run(random: &mut Random, draft: &mut Draft, wide: NodeNumber) -> NodeNumber {
+    let plain = draft.replace(b">", b"p");
+    let mark = draft.replace(b"<", b"p");
+    let key = key_of(draft, b'z', b'z');
+    let named = draft.lens_join(mark, key);
+    let mut arms = [plain, named, wide];
+    random.shuffle(&mut arms);
+    let pair = draft.lens_union(arms[0], arms[1]);
+    let part = draft.lens_union(pair, arms[2]);
+    draft.lens_repeat(part)
 }
 
 fn key_of(draft: &mut Draft, first: u8, last: u8) -> NodeNumber {
