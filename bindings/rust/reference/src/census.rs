@@ -118,24 +118,18 @@ impl Census {
     pub fn note(&mut self, calls: &[(Case, Answer)]) {
         let Some(program) = calls.first().and_then(|(case, _)| Program::read(&case.table).ok()) else { return };
         let facts = Facts::of(&program);
-        let mut met = facts.kinds();
-        for kind in &met {
-            *self.programs.entry(*kind).or_default() += 1;
+        let mut met = facts.kinds.clone();
+        for (case, _) in calls.iter().filter(|(case, answer)| has_legal_texts(case, answer)) {
+            let of_call = call_kinds(&program, &facts, case);
+            for kind in facts.kinds.iter().chain(&of_call) {
+                *self.calls.entry(*kind).or_default() += 1;
+            }
+            met.extend(of_call);
         }
-        for (case, answer) in calls {
-            if !has_legal_texts(case, answer) {
-                continue;
-            }
-            for kind in facts.kinds() {
-                *self.calls.entry(kind).or_default() += 1;
-            }
-            for kind in call_kinds(&program, &facts, case) {
-                *self.calls.entry(kind).or_default() += 1;
-                if !met.contains(&kind) {
-                    met.push(kind);
-                    *self.programs.entry(kind).or_default() += 1;
-                }
-            }
+        met.sort_unstable();
+        met.dedup();
+        for kind in met {
+            *self.programs.entry(kind).or_default() += 1;
         }
     }
 }
@@ -163,6 +157,7 @@ struct Facts {
     depth: usize,
     left_depth: usize,
     right_depth: usize,
+    /// The kinds that the program itself is of.
     kinds: Vec<Kind>,
 }
 
@@ -178,10 +173,6 @@ impl Facts {
         let mut facts = Facts { overlaps, union_depths, depth, left_depth, right_depth, kinds: Vec::new() };
         facts.kinds = Kind::ALL.into_iter().filter(|&kind| facts.shows(program, kind)).collect();
         facts
-    }
-
-    fn kinds(&self) -> Vec<Kind> {
-        self.kinds.clone()
     }
 
     /// Whether a program is of a kind of programs.

@@ -4,8 +4,6 @@
 //! hundred bytes has a sheet of over 4,096. Get refuses it with 16; put is still
 //! defined, and has to read the key of such an entry off its sheet.
 
-use std::iter::repeat;
-
 use super::cases::{case, lent_length, Call, Case};
 use super::draft::{Draft, NodeNumber};
 use super::random::Random;
@@ -48,6 +46,21 @@ enum Place {
     InRun,
 }
 
+impl Place {
+    /// The first two are much alike, so together they come up as often as each
+    /// of the others.
+    const OFTEN: [Place; 8] = [
+        Place::Before,
+        Place::Behind,
+        Place::Among,
+        Place::Among,
+        Place::InOtherArm,
+        Place::InOtherArm,
+        Place::InRun,
+        Place::InRun,
+    ];
+}
+
 struct Shape {
     key: Place,
     /// What one hidden source byte is shown as.
@@ -69,16 +82,7 @@ struct Old {
 impl Shape {
     fn draw(random: &mut Random) -> (Shape, Program) {
         loop {
-            let key = *random.pick(&[
-                Place::Before,
-                Place::Behind,
-                Place::Among,
-                Place::Among,
-                Place::InOtherArm,
-                Place::InOtherArm,
-                Place::InRun,
-                Place::InRun,
-            ]);
+            let key = *random.pick(&Place::OFTEN);
             let length = *random.pick(&[16, 31, 63, 64, 64, 100, 120]);
             let wide = match key {
                 Place::InRun => vec![b'z'; length],
@@ -184,10 +188,7 @@ impl Shape {
             Place::Behind => [&hidden[..], &old.name].concat(),
             Place::Among => hidden.iter().zip(&old.name).flat_map(|(&hidden, &name)| [hidden, name]).collect(),
             Place::InOtherArm => [&hidden[..], b"!"].concat(),
-            Place::InRun => {
-                let runs = old.name.iter().zip(hidden.chunks(hidden.len() / old.name.len() + 1).chain(repeat(&[][..])));
-                runs.flat_map(|(&head, run)| [if head == b'k' { b"<z" } else { &b">"[..] }, run].concat()).collect()
-            }
+            Place::InRun => heads_with_runs(&old.name, &hidden),
         };
         [&text[..], &[digit, b';']].concat()
     }
@@ -257,6 +258,18 @@ impl Shape {
         }
         text
     }
+}
+
+/// The hidden bytes in as many runs as there are heads; a head `k` has a key.
+fn heads_with_runs(heads: &[u8], hidden: &[u8]) -> Vec<u8> {
+    let run_length = hidden.len() / heads.len() + 1;
+    let mut runs = hidden.chunks(run_length);
+    let mut text = Vec::new();
+    for &head in heads {
+        text.extend_from_slice(if head == b'k' { b"<z" } else { b">" });
+        text.extend_from_slice(runs.next().unwrap_or_default());
+    }
+    text
 }
 
 /// Parts `p`, `p` with the key `z`, and so many `z`: a run of `z` behind a `p`
