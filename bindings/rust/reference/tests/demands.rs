@@ -14,7 +14,7 @@ use noontrough_reference::generator::random::Random;
 use noontrough_reference::trial::{compare, lent_buffer, run, Tally};
 use noontrough_reference::Reference;
 
-const PROGRAMS: usize = 3000;
+const PROGRAMS: usize = 2000;
 
 #[test]
 fn an_unedited_sheet_gives_the_old_source_back() {
