@@ -6,6 +6,7 @@
 mod common;
 
 use common::{with_stack, Engine};
+use noontrough_reference::census::{Census, Kind};
 use noontrough_reference::demand3;
 use noontrough_reference::trial::compare;
 
@@ -16,10 +17,51 @@ const PROGRAMS: usize = 800;
 /// Programs for each clause of demand 3.
 const CLAUSE_PROGRAMS: usize = 300;
 
+/// How many accepted programs and how many calls of each kind there must be with
+/// [`PROGRAMS`] for each seed: about half of what there is. Longer comparisons
+/// must have more in proportion.
+const LEAST: [(Kind, usize, usize); 26] = [
+    (Kind::UnionsTwoDeep, 180, 1200),
+    (Kind::UnionsThreeDeep, 120, 800),
+    (Kind::UnionsOnTheLeft, 80, 550),
+    (Kind::UnionsOnTheRight, 80, 550),
+    (Kind::UnionsInAMatch, 75, 500),
+    (Kind::UnionsInARepeat, 100, 700),
+    (Kind::EmptyLeaf, 150, 1000),
+    (Kind::EmptySourceLeaf, 110, 750),
+    (Kind::EmptySheetLeaf, 600, 4500),
+    (Kind::Deep20, 150, 1000),
+    (Kind::Deep60, 25, 170),
+    (Kind::DeepOnTheLeft20, 65, 420),
+    (Kind::DeepOnTheRight20, 65, 420),
+    (Kind::SheetOfBothArms, 175, 700),
+    (Kind::OldRightArmLikeLeft, 150, 380),
+    (Kind::DeepShortText, 110, 430),
+    (Kind::DeepLongText, 80, 350),
+    (Kind::ChoicesAt63To65, 80, 90),
+    (Kind::ChoicesAt127To129, 80, 90),
+    (Kind::ChoicesAt4095To4096, 70, 100),
+    (Kind::LongEntry, 120, 520),
+    (Kind::LongEntryOfEight, 60, 80),
+    (Kind::LongEntryOfNineOrMore, 90, 200),
+    (Kind::HugeEntry, 4, 4),
+    (Kind::LongKey, 20, 80),
+    (Kind::LongEntryFound, 90, 280),
+];
+
 fn programs() -> usize {
     match std::env::var("NOONTROUGH_PROGRAMS") {
         Ok(text) => text.parse().expect("NOONTROUGH_PROGRAMS is a number"),
         Err(_) => PROGRAMS,
+    }
+}
+
+fn require_all_kinds(census: &Census, count: usize) {
+    assert!(Kind::ALL.iter().all(|kind| LEAST.iter().any(|(named, ..)| named == kind)), "a kind has no bound");
+    for (kind, programs, calls) in LEAST {
+        let enough = |found: usize, least: usize| found * PROGRAMS >= least * count;
+        let (found, called) = (census.programs(kind), census.calls(kind));
+        assert!(enough(found, programs) && enough(called, calls), "{kind:?}: {found} programs, {called} calls");
     }
 }
 
@@ -30,10 +72,12 @@ fn the_engine_answers_as_the_reference_does() {
         .into_iter()
         .map(|seed| std::thread::spawn(move || (seed, with_stack(move || compare(&Engine, seed, count)))))
         .collect();
-    let (mut total, mut numbers) = (0, [0; 17]);
+    let (mut total, mut numbers, mut census) = (0, [0; 17], Census::default());
     for thread in threads {
         let (seed, compared) = thread.join().expect("the comparison ends");
-        let tally = compared.unwrap_or_else(|difference| panic!("seed {seed}: {difference:?}"));
+        let compared = compared.unwrap_or_else(|difference| panic!("seed {seed}: {difference:?}"));
+        let tally = compared.tally;
+        census.add(&compared.census);
         println!("seed {seed}: {} calls, all alike\n{tally}", tally.total());
         total += tally.total();
         for (number, count) in numbers.iter_mut().enumerate() {
@@ -41,13 +85,18 @@ fn the_engine_answers_as_the_reference_does() {
         }
     }
     println!("{total} calls in all, {} with a result", numbers[0]);
+    println!("{census}");
     for (number, count) in numbers.iter().enumerate().skip(1) {
         println!("refusal {number:>2}: {count}");
     }
     for (number, count) in numbers.iter().enumerate() {
         assert!(*count > 0, "{number} never came up");
     }
-    assert!(count < PROGRAMS || total >= 20_000, "only {total} calls");
+    // A few programs are not enough to have everything among them.
+    if count >= PROGRAMS {
+        assert!(total >= 20_000, "only {total} calls");
+        require_all_kinds(&census, count);
+    }
 }
 
 #[test]

@@ -4,7 +4,9 @@
 //! They are never made deterministic: a run keeps the set of states that the
 //! bytes so far can lead to. Every construction below gives a state at most one
 //! reading move out and one in, so the automaton that reads backwards has the
-//! same form and is kept beside it.
+//! same form.
+
+use std::cell::OnceCell;
 
 use crate::table::{Node, Side, Table};
 
@@ -37,8 +39,9 @@ pub struct State {
 #[derive(Clone, Debug)]
 pub struct Automaton {
     pub states: Vec<State>,
-    /// The same moves turned round, for runs from the end of a text.
-    pub turned: Vec<State>,
+    /// The same moves turned round, made when first asked for: most automata
+    /// are only ever read forwards.
+    turned: OnceCell<Vec<State>>,
     pub start: usize,
     pub end: usize,
 }
@@ -47,8 +50,12 @@ impl Automaton {
     pub fn of(table: &Table, node: usize, side: Side) -> Automaton {
         let mut states = Vec::new();
         let (start, end) = Builder { table, side, states: &mut states }.add(node);
-        let turned = turned(&states);
-        Automaton { states, turned, start, end }
+        Automaton { states, turned: OnceCell::new(), start, end }
+    }
+
+    /// The same moves turned round, for runs from the end of a text.
+    pub fn turned(&self) -> &[State] {
+        self.turned.get_or_init(|| turned(&self.states))
     }
 
     /// Whether the text belongs to the language.
@@ -63,6 +70,19 @@ impl Automaton {
         run.is_at(self.end)
     }
 
+    /// Whether several states can read some byte of the text, so that the bytes
+    /// before it don't say which way to go.
+    pub fn has_choices(&self, text: &[u8]) -> bool {
+        let mut run = Run::new(&self.states, self.start);
+        for &byte in text {
+            if run.count_readers(byte) > 1 {
+                return true;
+            }
+            run.step(byte);
+        }
+        false
+    }
+
     /// Flag i says whether the first i bytes belong to the language.
     pub fn prefixes(&self, text: &[u8]) -> Vec<bool> {
         flags(Run::new(&self.states, self.start), self.end, text.iter(), text.len())
@@ -70,7 +90,7 @@ impl Automaton {
 
     /// Flag i says whether the bytes from i on belong to the language.
     pub fn suffixes(&self, text: &[u8]) -> Vec<bool> {
-        let mut flags = flags(Run::new(&self.turned, self.end), self.start, text.iter().rev(), text.len());
+        let mut flags = flags(Run::new(self.turned(), self.end), self.start, text.iter().rev(), text.len());
         flags.reverse();
         flags
     }
@@ -245,6 +265,11 @@ impl<'a> Run<'a> {
             }
         }
         self.follow_free_moves();
+    }
+
+    fn count_readers(&self, byte: u8) -> usize {
+        let readings = self.active.iter().filter_map(|&state| self.states[state].reading);
+        readings.filter(|reading| reading.takes(byte)).count()
     }
 
     fn is_at(&self, state: usize) -> bool {

@@ -4,6 +4,9 @@
 //! the texts (12), at the texts themselves (13, 14), at the number of old
 //! entries (15) and at the room for the result (16).
 
+use std::cell::RefCell;
+use std::rc::Rc;
+
 use crate::answer::*;
 use crate::program::Program;
 use crate::table::Side;
@@ -33,18 +36,18 @@ pub struct Reference;
 
 impl Calls for Reference {
     fn check(&self, table: &[u8]) -> Answer {
-        Program::read(table).map(|program| program.table().nodes.len())
+        read(table).map(|program| program.table().nodes.len())
     }
 
     fn get(&self, table: &[u8], source: &[u8], out: &mut [u8]) -> Answer {
-        let program = Program::read(table)?;
+        let program = read(table)?;
         limit_lengths(&[source])?;
         admit_source(&program, source)?;
         hand_over(&program.get(source), out)
     }
 
     fn put(&self, table: &[u8], sheet: &[u8], source: &[u8], out: &mut [u8]) -> Answer {
-        let program = Program::read(table)?;
+        let program = read(table)?;
         limit_lengths(&[sheet, source])?;
         admit_source(&program, source)?;
         admit_sheet(&program, sheet)?;
@@ -56,11 +59,28 @@ impl Calls for Reference {
     }
 
     fn create(&self, table: &[u8], sheet: &[u8], out: &mut [u8]) -> Answer {
-        let program = Program::read(table)?;
+        let program = read(table)?;
         limit_lengths(&[sheet])?;
         admit_sheet(&program, sheet)?;
         hand_over(&program.create(sheet), out)
     }
+}
+
+thread_local! {
+    /// The last accepted table with its program. Calls about one program mostly
+    /// come together, and checking a large one takes longer than a call.
+    static LAST: RefCell<Option<(Vec<u8>, Rc<Program>)>> = const { RefCell::new(None) };
+}
+
+/// The program of a table, as [`Program::read`] gives it.
+fn read(table: &[u8]) -> Result<Rc<Program>, Refusal> {
+    let last = LAST.with_borrow(Option::clone);
+    if let Some((_, program)) = last.filter(|(bytes, _)| bytes == table) {
+        return Ok(program);
+    }
+    let program = Rc::new(Program::read(table)?);
+    LAST.set(Some((table.to_vec(), Rc::clone(&program))));
+    Ok(program)
 }
 
 /// The line that the program `lenscheck` prints for a table.

@@ -19,6 +19,8 @@
 //! | [`lens`] | get, key, book, put and create |
 //! | [`calls`] | the four calls and their order of refusals (12 to 16) |
 //! | [`generator`] | seeded random programs, texts and calls |
+//! | [`walk`] | the parts of a text by the nodes that read them |
+//! | [`census`] | what the programs and calls of a comparison are like |
 //! | [`trial`] | any implementation compared with this one, call by call |
 //! | [`demand3`] | the clauses of demand 3, tried on any implementation |
 
@@ -26,12 +28,14 @@ pub mod ambiguity;
 pub mod answer;
 pub mod automaton;
 pub mod calls;
+pub mod census;
 pub mod demand3;
 pub mod generator;
 pub mod lens;
 pub mod program;
 pub mod table;
 pub mod trial;
+pub mod walk;
 
 pub use answer::{Answer, Refusal};
 pub use calls::{Calls, Reference};

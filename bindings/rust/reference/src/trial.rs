@@ -6,6 +6,7 @@ use std::fmt;
 
 use crate::answer::Answer;
 use crate::calls::{Calls, Reference};
+use crate::census::Census;
 use crate::generator::cases::{program_cases, Call, Case};
 use crate::generator::random::Random;
 
@@ -78,20 +79,30 @@ pub struct Difference {
     pub found: Outcome,
 }
 
+/// What a comparison without a difference saw.
+#[derive(Clone, Debug, Default)]
+pub struct Compared {
+    pub tally: Tally,
+    pub census: Census,
+}
+
 /// Compares an implementation with the reference on the calls of `programs`
 /// random programs, and stops at the first difference.
-pub fn compare(calls: &dyn Calls, seed: u64, programs: usize) -> Result<Tally, Box<Difference>> {
+pub fn compare(calls: &dyn Calls, seed: u64, programs: usize) -> Result<Compared, Box<Difference>> {
     let mut random = Random::new(seed);
-    let mut tally = Tally::default();
+    let mut compared = Compared::default();
     for _ in 0..programs {
+        let mut answered = Vec::new();
         for case in program_cases(&mut random) {
             let expected = run(&Reference, &case);
             let found = run(calls, &case);
             if found != expected {
                 return Err(Box::new(Difference { case, expected, found }));
             }
-            tally.note(case.call, expected.answer);
+            compared.tally.note(case.call, expected.answer);
+            answered.push((case, expected.answer));
         }
+        compared.census.note(&answered);
     }
-    Ok(tally)
+    Ok(compared)
 }

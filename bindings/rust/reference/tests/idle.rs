@@ -1,6 +1,7 @@
 //! The comparison finds engines that do too little or a little wrong. Each one
 //! here is the reference with one thing changed.
 
+use noontrough_reference::calls::MAX_TEXT;
 use noontrough_reference::table::{kind, HEADER};
 use noontrough_reference::trial::compare;
 use noontrough_reference::{Answer, Calls, Reference, Refusal};
@@ -54,6 +55,19 @@ fn with_kind(table: &[u8], from: u8, to: u8) -> Vec<u8> {
     let count = usize::from(table.first().copied().unwrap_or(0));
     for byte in changed.iter_mut().skip(HEADER).take(count).filter(|byte| **byte == from) {
         *byte = to;
+    }
+    changed
+}
+
+/// A table with the two operands of every lens union changed round.
+fn with_arms_turned(table: &[u8]) -> Vec<u8> {
+    let mut changed = table.to_vec();
+    let count = usize::from(table.first().copied().unwrap_or(0));
+    for node in 0..count {
+        if table.get(HEADER + node) == Some(&kind::LENS_UNION) {
+            let operands = HEADER + count + 3 * node;
+            changed.swap(operands, operands + 1);
+        }
     }
     changed
 }
@@ -126,6 +140,30 @@ fn a_put_that_only_creates_is_found() {
 fn a_put_that_ignores_keys_is_found() {
     let put = |table: &[u8], sheet: &[u8], source: &[u8], out: &mut [u8]| {
         Reference.put(&with_kind(table, kind::KEY, kind::COPY), sheet, source, out)
+    };
+    assert!(is_found(&OtherPut { put }));
+}
+
+#[test]
+fn a_put_that_prefers_the_right_arm_is_found() {
+    let put = |table: &[u8], sheet: &[u8], source: &[u8], out: &mut [u8]| {
+        Reference.check(table)?;
+        Reference.put(&with_arms_turned(table), sheet, source, out)
+    };
+    assert!(is_found(&OtherPut { put }));
+}
+
+#[test]
+fn a_put_that_gives_up_long_old_entries_is_found() {
+    let put = |table: &[u8], sheet: &[u8], source: &[u8], out: &mut [u8]| {
+        let before = out.to_vec();
+        let answer = Reference.put(table, sheet, source, out);
+        let shown = Reference.get(table, source, &mut [0; MAX_TEXT]);
+        if answer.is_err() || shown.is_ok() {
+            return answer;
+        }
+        out.copy_from_slice(&before);
+        Reference.create(table, sheet, out)
     };
     assert!(is_found(&OtherPut { put }));
 }

@@ -2,6 +2,7 @@
 
 use super::draft::Draft;
 use super::faults::{mutated, refused, PROGRAM_REFUSALS};
+use super::long_entries::long_entry_cases;
 use super::programs::accepted;
 use super::random::Random;
 use super::texts::{draw, draw_of_length, edit, garbage};
@@ -29,14 +30,16 @@ pub struct Case {
 }
 
 /// Calls about one program: refused ones are checked and called with texts that
-/// would fit other programs, accepted ones get texts of all sorts.
+/// would fit other programs, accepted ones get texts of all sorts. Programs with
+/// long old entries bring their own texts.
 pub fn program_cases(random: &mut Random) -> Vec<Case> {
-    let table = match random.below(8) {
-        0 => {
+    let table = match random.below(25) {
+        0..=1 => return long_entry_cases(random),
+        2..=4 => {
             let number = random.between(usize::from(*PROGRAM_REFUSALS.start()), usize::from(*PROGRAM_REFUSALS.end()));
             refused(random, number as u8, &mut accepted)
         }
-        1 => {
+        5..=7 => {
             let table = accepted(random).table();
             mutated(random, &table)
         }
@@ -58,14 +61,15 @@ pub fn cases_of(random: &mut Random, table: Vec<u8>) -> Vec<Case> {
         Err(_) => {
             for call in [Call::Get, Call::Put, Call::Create] {
                 let text = garbage(random, b"AB1;");
-                cases.push(case(call, &table, text.clone(), text, random.below(20)));
+                cases.push(case(call, &table, (text.clone(), text), random.below(20)));
             }
         }
     }
     cases
 }
 
-fn case(call: Call, table: &[u8], sheet: Vec<u8>, source: Vec<u8>, lent: usize) -> Case {
+/// A call with those of the two texts, sheet and source, that it takes.
+pub(super) fn case(call: Call, table: &[u8], (sheet, source): (Vec<u8>, Vec<u8>), lent: usize) -> Case {
     let (sheet, source) = match call {
         Call::Check => (Vec::new(), Vec::new()),
         Call::Get => (Vec::new(), source),
@@ -89,7 +93,7 @@ fn text_case(random: &mut Random, table: &[u8], program: &Program) -> Case {
         any_text(random, program, Side::Sheet)
     };
     let lent = lent_length(random, program, call, &sheet, &source);
-    case(call, table, sheet, source, lent)
+    case(call, table, (sheet, source), lent)
 }
 
 fn is_source(program: &Program, text: &[u8]) -> bool {
@@ -108,8 +112,8 @@ fn any_text(random: &mut Random, program: &Program, side: Side) -> Vec<u8> {
             let legal = legal_text(random, program, side);
             garbage(random, &legal)
         }
-        2 => text_at_length_limit(random, program, side),
-        3 => text_at_entry_limit(random, program, side),
+        2..=5 => text_at_length_limit(random, program, side),
+        6 => text_at_entry_limit(random, program, side),
         _ => legal_text(random, program, side),
     }
 }
@@ -119,10 +123,14 @@ pub fn legal_text(random: &mut Random, program: &Program, side: Side) -> Vec<u8>
     draw(random, program.table(), program.root(), side, more, 120)
 }
 
-/// A legal text of a length at or beside a limit if there is one; otherwise
-/// garbage of that length.
+/// A legal text of a length at or beside a limit or a multiple of 64 if there is
+/// one; otherwise garbage of that length.
 pub fn text_at_length_limit(random: &mut Random, program: &Program, side: Side) -> Vec<u8> {
-    let length = *random.pick(&[0, 1, MAX_TEXT - 1, MAX_TEXT, MAX_TEXT + 1]);
+    let length = match random.below(11) {
+        0 => random.below(2),
+        1..=3 => MAX_TEXT - 1 + random.below(3),
+        _ => 64 * random.pick(&[1, 1, 1, 2, 2, 2, 3, 4, 9]) - 1 + random.below(3),
+    };
     draw_of_length(random, program.automaton(program.root(), side), length).unwrap_or_else(|| vec![b'A'; length])
 }
 
@@ -136,7 +144,7 @@ pub fn text_at_entry_limit(random: &mut Random, program: &Program, side: Side) -
 }
 
 /// A length around that of the result, or around the longest result.
-fn lent_length(random: &mut Random, program: &Program, call: Call, sheet: &[u8], source: &[u8]) -> usize {
+pub(super) fn lent_length(random: &mut Random, program: &Program, call: Call, sheet: &[u8], source: &[u8]) -> usize {
     let legal = (call == Call::Create || is_source(program, source)) && (call == Call::Get || is_sheet(program, sheet));
     let exact = match call {
         Call::Get if legal => program.get(source).len(),

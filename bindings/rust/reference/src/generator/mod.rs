@@ -5,15 +5,23 @@
 //! | [`random`] | numbers, from a seed |
 //! | [`draft`] | nothing: it writes tables node by node |
 //! | [`programs`] | accepted programs of varied shape |
+//! | [`unions`] | nested unions whose sheets overlap |
+//! | [`empties`] | programs with empty leaves |
+//! | [`depths`] | programs nested deep, and texts in which the way is not forced |
+//! | [`long_entries`] | calls with old entries whose sheets are over 4,096 bytes |
 //! | [`faults`] | programs refused with a wanted number |
 //! | [`texts`] | sources, sheets, edits, garbage |
 //! | [`cases`] | whole calls, with buffers of every interesting size |
 //! | [`small`] | calls small enough to be evaluated from definitions |
 
 pub mod cases;
+pub mod depths;
 pub mod draft;
+pub mod empties;
 pub mod faults;
+pub mod long_entries;
 pub mod programs;
 pub mod random;
 pub mod small;
 pub mod texts;
+pub mod unions;

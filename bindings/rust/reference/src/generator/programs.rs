@@ -1,13 +1,17 @@
 //! Random accepted programs.
 //!
-//! Four ways, since each finds what the others miss: programs grown from any
+//! Several ways, since each finds what the others miss: programs grown from any
 //! nodes that still check (odd shapes, sharing, unreached nodes), records with
 //! fields and separators (what a publishing house would write), small programs
-//! around a union, and programs that go up to the limits.
+//! around a union, and programs that go up to the limits. Nested unions, empty
+//! leaves and deep nesting have modules of their own.
 
+use super::depths::{deep, loose};
 use super::draft::{Draft, NodeNumber};
+use super::empties::empty_leaves;
 use super::random::Random;
 use super::texts::draw;
+use super::unions::overlapping_unions;
 use crate::program::Program;
 use crate::table::{Side, Table, MAX_NODES, MAX_WORD};
 
@@ -27,11 +31,15 @@ impl Room {
 
 /// An accepted program of any sort.
 pub fn accepted(random: &mut Random) -> Draft {
-    match random.below(9) {
+    match random.below(16) {
         0..=3 => grown(random, Room::USUAL),
         4..=6 => records(random),
         7 => two_kinds(random),
-        _ => large(random),
+        8 => large(random),
+        9..=11 => overlapping_unions(random),
+        12 => empty_leaves(random),
+        13..=14 => deep(random),
+        _ => loose(random),
     }
 }
 
@@ -96,7 +104,7 @@ fn key_and_remark(random: &mut Random, draft: &mut Draft, alphabet: &Alphabet) {
 
 /// Ends a draft in a lens, mostly in a repeat over a match if that checks. The
 /// largest lenses are tried first, so that little of what was grown is unused.
-fn crown(random: &mut Random, draft: &mut Draft, room: Room) {
+pub(super) fn crown(random: &mut Random, draft: &mut Draft, room: Room) {
     let Some(&last) = draft.lenses().last() else { return };
     draft.truncate(usize::from(last) + 1);
     let Ok(table) = Table::read(&draft.table()) else { return };
@@ -241,7 +249,7 @@ pub fn default_of(random: &mut Random, draft: &Draft, pattern: NodeNumber) -> Ve
 
 /// One of the later nodes more often than one of the earlier, so that programs
 /// become deep.
-fn recent(random: &mut Random, nodes: &[NodeNumber]) -> NodeNumber {
+pub(super) fn recent(random: &mut Random, nodes: &[NodeNumber]) -> NodeNumber {
     let back = random.below(nodes.len()).min(random.below(nodes.len()));
     nodes[nodes.len() - 1 - back]
 }

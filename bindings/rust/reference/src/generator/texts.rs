@@ -96,14 +96,14 @@ fn states_with_end_in(automaton: &Automaton, length: usize) -> Vec<Vec<bool>> {
         reached.retain(|&state| !std::mem::replace(&mut marks[state], true));
         let mut next = 0;
         while next < reached.len() {
-            for &from in &automaton.turned[reached[next]].free {
+            for &from in &automaton.turned()[reached[next]].free {
                 if !std::mem::replace(&mut marks[from], true) {
                     reached.push(from);
                 }
             }
             next += 1;
         }
-        let before = reached.iter().filter_map(|&state| automaton.turned[state].reading).map(|reading| reading.to);
+        let before = reached.iter().filter_map(|&state| automaton.turned()[state].reading).map(|reading| reading.to);
         reached = before.collect();
         table.push(marks);
         if table.len() > length {

@@ -1,0 +1,359 @@
+//! What the programs and calls of a comparison are like, so that a generator
+//! that no longer draws some kind is found out. Each kind is looked up in the
+//! program and the texts themselves; how they were drawn plays no part.
+
+use std::collections::BTreeMap;
+use std::fmt;
+
+use crate::ambiguity::overlap;
+use crate::answer::{Answer, RESULT_TOO_LONG};
+use crate::calls::MAX_TEXT;
+use crate::generator::cases::{Call, Case};
+use crate::program::Program;
+use crate::table::{Node, Side, SIDES};
+
+#[derive(Clone, Copy, Debug, PartialEq, Eq, PartialOrd, Ord)]
+pub enum Kind {
+    // Programs, and the calls with legal texts of such programs.
+    /// A union with overlapping sheets below another one.
+    UnionsTwoDeep,
+    UnionsThreeDeep,
+    /// Such a union is the left arm of another one.
+    UnionsOnTheLeft,
+    UnionsOnTheRight,
+    UnionsInAMatch,
+    UnionsInARepeat,
+    /// A leaf with no positions on both sides, or on one alone.
+    EmptyLeaf,
+    EmptySourceLeaf,
+    EmptySheetLeaf,
+    /// A leaf so many lenses below the root.
+    Deep20,
+    Deep60,
+    /// So many times a first operand, a second operand, on one way down.
+    DeepOnTheLeft20,
+    DeepOnTheRight20,
+
+    // Calls with legal texts only.
+    /// Both arms of a union could read a part of the sheet.
+    SheetOfBothArms,
+    /// A part of the old source is of a right arm, and the left arm could read
+    /// its sheet.
+    OldRightArmLikeLeft,
+    /// A program of depth 20 with a text of at most 8, at least 100 bytes.
+    DeepShortText,
+    DeepLongText,
+    /// Several positions read a byte of a text of such a length.
+    ChoicesAt63To65,
+    ChoicesAt127To129,
+    ChoicesAt4095To4096,
+    /// A put with an old entry whose sheet is longer than a text may be.
+    LongEntry,
+    LongEntryOfEight,
+    LongEntryOfNineOrMore,
+    /// The entry's sheet has over 65,536 bytes.
+    HugeEntry,
+    /// Its key is longer than a text may be.
+    LongKey,
+    /// The sheet has an entry with its key.
+    LongEntryFound,
+}
+
+impl Kind {
+    pub const ALL: [Kind; 26] = [
+        Kind::UnionsTwoDeep,
+        Kind::UnionsThreeDeep,
+        Kind::UnionsOnTheLeft,
+        Kind::UnionsOnTheRight,
+        Kind::UnionsInAMatch,
+        Kind::UnionsInARepeat,
+        Kind::EmptyLeaf,
+        Kind::EmptySourceLeaf,
+        Kind::EmptySheetLeaf,
+        Kind::Deep20,
+        Kind::Deep60,
+        Kind::DeepOnTheLeft20,
+        Kind::DeepOnTheRight20,
+        Kind::SheetOfBothArms,
+        Kind::OldRightArmLikeLeft,
+        Kind::DeepShortText,
+        Kind::DeepLongText,
+        Kind::ChoicesAt63To65,
+        Kind::ChoicesAt127To129,
+        Kind::ChoicesAt4095To4096,
+        Kind::LongEntry,
+        Kind::LongEntryOfEight,
+        Kind::LongEntryOfNineOrMore,
+        Kind::HugeEntry,
+        Kind::LongKey,
+        Kind::LongEntryFound,
+    ];
+}
+
+/// How many accepted programs and how many calls were of each kind. A program
+/// is of a kind of calls if one of its calls is.
+#[derive(Clone, Debug, Default)]
+pub struct Census {
+    programs: BTreeMap<Kind, usize>,
+    calls: BTreeMap<Kind, usize>,
+}
+
+impl Census {
+    pub fn programs(&self, kind: Kind) -> usize {
+        self.programs.get(&kind).copied().unwrap_or(0)
+    }
+
+    pub fn calls(&self, kind: Kind) -> usize {
+        self.calls.get(&kind).copied().unwrap_or(0)
+    }
+
+    pub fn add(&mut self, other: &Census) {
+        for kind in Kind::ALL {
+            *self.programs.entry(kind).or_default() += other.programs(kind);
+            *self.calls.entry(kind).or_default() += other.calls(kind);
+        }
+    }
+
+    /// Notes the calls of one program with their answers.
+    pub fn note(&mut self, calls: &[(Case, Answer)]) {
+        let Some(program) = calls.first().and_then(|(case, _)| Program::read(&case.table).ok()) else { return };
+        let facts = Facts::of(&program);
+        let mut met = facts.kinds.clone();
+        for (case, _) in calls.iter().filter(|(case, answer)| has_legal_texts(case, answer)) {
+            let of_call = call_kinds(&program, &facts, case);
+            for kind in facts.kinds.iter().chain(&of_call) {
+                *self.calls.entry(*kind).or_default() += 1;
+            }
+            met.extend(of_call);
+        }
+        met.sort_unstable();
+        met.dedup();
+        for kind in met {
+            *self.programs.entry(kind).or_default() += 1;
+        }
+    }
+}
+
+impl fmt::Display for Census {
+    fn fmt(&self, f: &mut fmt::Formatter<'_>) -> fmt::Result {
+        for kind in Kind::ALL {
+            let name = format!("{kind:?}");
+            writeln!(f, "{name:>22}: {:>6} programs, {:>7} calls", self.programs(kind), self.calls(kind))?;
+        }
+        Ok(())
+    }
+}
+
+fn has_legal_texts(case: &Case, answer: &Answer) -> bool {
+    case.call != Call::Check && answer.map_or_else(|refusal| refusal.number == RESULT_TOO_LONG, |_| true)
+}
+
+/// What is worked out once for a program.
+struct Facts {
+    /// Whether a node is a union whose arms' sheets overlap.
+    overlaps: Vec<bool>,
+    /// The most such unions on one way down from a node.
+    union_depths: Vec<usize>,
+    depth: usize,
+    left_depth: usize,
+    right_depth: usize,
+    /// The kinds that the program itself is of.
+    kinds: Vec<Kind>,
+}
+
+impl Facts {
+    fn of(program: &Program) -> Facts {
+        let overlaps: Vec<bool> = (0..=program.root()).map(|node| sheets_overlap(program, node)).collect();
+        let union_depths = heights(program, &|node, _| usize::from(overlaps[node]));
+        let to_root = |weight: &dyn Fn(usize, usize) -> usize| heights(program, weight)[program.root()];
+        let is_pair = |node| program.node(node).children().len() == 2;
+        let depth = to_root(&|_, _| 1);
+        let left_depth = to_root(&|node, operand| usize::from(is_pair(node) && operand == 0));
+        let right_depth = to_root(&|node, operand| usize::from(is_pair(node) && operand == 1));
+        let mut facts = Facts { overlaps, union_depths, depth, left_depth, right_depth, kinds: Vec::new() };
+        facts.kinds = Kind::ALL.into_iter().filter(|&kind| facts.shows(program, kind)).collect();
+        facts
+    }
+
+    /// Whether a program is of a kind of programs.
+    fn shows(&self, program: &Program, kind: Kind) -> bool {
+        let any = |holds: &dyn Fn(&Node) -> bool| reached(program).into_iter().any(|node| holds(program.node(node)));
+        let is_overlapping = |union: usize| self.overlaps[union];
+        let nested = |arm_of: fn(&Node) -> Option<usize>| {
+            let unions = reached(program).into_iter().filter(|&node| is_overlapping(node));
+            unions.filter_map(|node| arm_of(program.node(node))).any(is_overlapping)
+        };
+        let union_depth = self.union_depths[program.root()];
+        match kind {
+            Kind::UnionsTwoDeep => union_depth >= 2,
+            Kind::UnionsThreeDeep => union_depth >= 3,
+            Kind::UnionsOnTheLeft => nested(|node| node.children().first().copied()),
+            Kind::UnionsOnTheRight => nested(|node| node.children().get(1).copied()),
+            Kind::UnionsInAMatch => any(&|node| matches!(*node, Node::Match(a) if self.union_depths[a] >= 2)),
+            Kind::UnionsInARepeat => any(&|node| matches!(*node, Node::LensRepeat(a) if self.union_depths[a] >= 2)),
+            Kind::EmptyLeaf => has_leaf(program, |source, sheet| source == 0 && sheet == 0),
+            Kind::EmptySourceLeaf => has_leaf(program, |source, sheet| source == 0 && sheet > 0),
+            Kind::EmptySheetLeaf => has_leaf(program, |source, sheet| source > 0 && sheet == 0),
+            Kind::Deep20 => self.depth >= 20,
+            Kind::Deep60 => self.depth >= 60,
+            Kind::DeepOnTheLeft20 => self.left_depth >= 20,
+            Kind::DeepOnTheRight20 => self.right_depth >= 20,
+            _ => false,
+        }
+    }
+}
+
+fn sheets_overlap(program: &Program, node: usize) -> bool {
+    match *program.node(node) {
+        Node::LensUnion(a, b) => overlap(program.automaton(a, Side::Sheet), program.automaton(b, Side::Sheet)),
+        _ => false,
+    }
+}
+
+/// For each lens the greatest sum of weights on a way down; a step has a weight
+/// by the node that it leaves and the operand that it takes.
+fn heights(program: &Program, weight: &dyn Fn(usize, usize) -> usize) -> Vec<usize> {
+    let mut heights: Vec<usize> = Vec::new();
+    for node in 0..=program.root() {
+        let children = program.node(node).children().into_iter().enumerate();
+        let lenses = children.filter(|&(_, child)| program.node(child).is_lens());
+        let height = lenses.map(|(operand, child)| weight(node, operand) + heights[child]).max();
+        heights.push(height.unwrap_or(0));
+    }
+    heights
+}
+
+/// The nodes that the root is made of.
+fn reached(program: &Program) -> Vec<usize> {
+    let mut is_reached = vec![false; program.root() + 1];
+    is_reached[program.root()] = true;
+    // Children have lower numbers, so a parent is always met first.
+    for node in (0..=program.root()).rev() {
+        let children = if is_reached[node] { program.node(node).children() } else { Vec::new() };
+        for child in children {
+            is_reached[child] = true;
+        }
+    }
+    (0..=program.root()).filter(|&node| is_reached[node]).collect()
+}
+
+fn has_leaf(program: &Program, holds: fn(usize, usize) -> bool) -> bool {
+    reached(program).into_iter().any(|node| {
+        let is_leaf = matches!(program.node(node), Node::Copy(_) | Node::Key(_) | Node::Const { .. });
+        let measure = &program.table().measures[node];
+        is_leaf && holds(measure.source_positions, measure.sheet_positions)
+    })
+}
+
+/// The kinds of a call with legal texts.
+fn call_kinds(program: &Program, facts: &Facts, case: &Case) -> Vec<Kind> {
+    let mut kinds = Vec::new();
+    if facts.union_depths[program.root()] >= 2 {
+        kinds.extend(union_kinds(program, facts, case));
+    }
+    if facts.depth >= 20 {
+        let longest = case.source.len().max(case.sheet.len());
+        kinds.extend((longest <= 8).then_some(Kind::DeepShortText));
+        kinds.extend((longest >= 100).then_some(Kind::DeepLongText));
+    }
+    kinds.extend(choice_kinds(program, case));
+    if case.call == Call::Put {
+        kinds.extend(entry_kinds(program, case));
+    }
+    kinds
+}
+
+fn has_side(call: Call, side: Side) -> bool {
+    match side {
+        Side::Source => call != Call::Create,
+        Side::Sheet => call != Call::Get,
+    }
+}
+
+fn union_kinds(program: &Program, facts: &Facts, case: &Case) -> Vec<Kind> {
+    let (mut of_both, mut like_left) = (false, false);
+    let arms = |node: usize| match *program.node(node) {
+        Node::LensUnion(a, b) if facts.overlaps[node] => Some((a, b)),
+        _ => None,
+    };
+    if has_side(case.call, Side::Sheet) {
+        program.each_part(Side::Sheet, &case.sheet, &mut |node, text| {
+            let fits = |arm| program.fits(arm, Side::Sheet, text);
+            of_both = of_both || arms(node).is_some_and(|(a, b)| fits(a) && fits(b));
+        });
+    }
+    if case.call == Call::Put {
+        program.each_part(Side::Source, &case.source, &mut |node, text| {
+            like_left = like_left || arms(node).is_some_and(|(a, b)| is_shown_as_left(program, a, b, text));
+        });
+    }
+    let found = [(of_both, Kind::SheetOfBothArms), (like_left, Kind::OldRightArmLikeLeft)];
+    found.into_iter().filter(|(holds, _)| *holds).map(|(_, kind)| kind).collect()
+}
+
+fn is_shown_as_left(program: &Program, left: usize, right: usize, source: &[u8]) -> bool {
+    if program.fits(left, Side::Source, source) {
+        return false;
+    }
+    let mut sheet = Vec::new();
+    program.get_at(right, source, &mut sheet);
+    program.fits(left, Side::Sheet, &sheet)
+}
+
+fn choice_kinds(program: &Program, case: &Case) -> Vec<Kind> {
+    let mut kinds = Vec::new();
+    for side in SIDES.into_iter().filter(|&side| has_side(case.call, side)) {
+        let text = if side == Side::Source { &case.source } else { &case.sheet };
+        let kind = match text.len() {
+            63..=65 => Kind::ChoicesAt63To65,
+            127..=129 => Kind::ChoicesAt127To129,
+            4095..=4096 => Kind::ChoicesAt4095To4096,
+            _ => continue,
+        };
+        if !kinds.contains(&kind) && program.automaton(program.root(), side).has_choices(text) {
+            kinds.push(kind);
+        }
+    }
+    kinds
+}
+
+fn entry_kinds(program: &Program, case: &Case) -> Vec<Kind> {
+    let positions = program.table().measures[program.root()].sheet_positions;
+    if positions * case.source.len().max(1) <= MAX_TEXT {
+        return Vec::new();
+    }
+    let (mut count, mut longest, mut long_ones) = (0, 0, Vec::new());
+    program.each_part(Side::Source, &case.source, &mut |node, text| {
+        let Node::Match(child) = *program.node(node) else { return };
+        let mut sheet = Vec::new();
+        program.get_at(child, text, &mut sheet);
+        count += 1;
+        longest = longest.max(sheet.len());
+        if sheet.len() > MAX_TEXT {
+            long_ones.push((child, program.key(child, &sheet)));
+        }
+    });
+    if long_ones.is_empty() {
+        return Vec::new();
+    }
+    let facts = [
+        (true, Kind::LongEntry),
+        (count == 8, Kind::LongEntryOfEight),
+        (count > 8, Kind::LongEntryOfNineOrMore),
+        (longest > 1 << 16, Kind::HugeEntry),
+        (long_ones.iter().any(|(_, key)| key.len() > MAX_TEXT), Kind::LongKey),
+        (asks_for_one_of(program, &case.sheet, &long_ones), Kind::LongEntryFound),
+    ];
+    facts.into_iter().filter(|(holds, _)| *holds).map(|(_, kind)| kind).collect()
+}
+
+fn asks_for_one_of(program: &Program, sheet: &[u8], entries: &[(usize, Vec<u8>)]) -> bool {
+    let mut asks = false;
+    program.each_part(Side::Sheet, sheet, &mut |node, text| {
+        if let Node::Match(child) = *program.node(node) {
+            let key = program.key(child, text);
+            asks = asks || entries.iter().any(|(of, long)| *of == child && *long == key);
+        }
+    });
+    asks
+}
