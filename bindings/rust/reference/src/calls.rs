@@ -31,23 +31,68 @@ pub trait Calls {
     fn create(&self, table: &[u8], sheet: &[u8], out: &mut [u8]) -> Answer;
 }
 
-/// This crate's own implementation of the calls.
+/// This crate's own implementation of the calls. Every call checks the program
+/// anew, as the engine's do.
 pub struct Reference;
 
 impl Calls for Reference {
     fn check(&self, table: &[u8]) -> Answer {
-        read(table).map(|program| program.table().nodes.len())
+        ByReading(read_anew).check(table)
     }
 
     fn get(&self, table: &[u8], source: &[u8], out: &mut [u8]) -> Answer {
-        let program = read(table)?;
+        ByReading(read_anew).get(table, source, out)
+    }
+
+    fn put(&self, table: &[u8], sheet: &[u8], source: &[u8], out: &mut [u8]) -> Answer {
+        ByReading(read_anew).put(table, sheet, source, out)
+    }
+
+    fn create(&self, table: &[u8], sheet: &[u8], out: &mut [u8]) -> Answer {
+        ByReading(read_anew).create(table, sheet, out)
+    }
+}
+
+/// The same, but a program that was accepted last is not checked again. Calls
+/// about one program mostly come together, and checking a large one takes longer
+/// than a call.
+pub struct Remembering;
+
+impl Calls for Remembering {
+    fn check(&self, table: &[u8]) -> Answer {
+        ByReading(remembered).check(table)
+    }
+
+    fn get(&self, table: &[u8], source: &[u8], out: &mut [u8]) -> Answer {
+        ByReading(remembered).get(table, source, out)
+    }
+
+    fn put(&self, table: &[u8], sheet: &[u8], source: &[u8], out: &mut [u8]) -> Answer {
+        ByReading(remembered).put(table, sheet, source, out)
+    }
+
+    fn create(&self, table: &[u8], sheet: &[u8], out: &mut [u8]) -> Answer {
+        ByReading(remembered).create(table, sheet, out)
+    }
+}
+
+/// The calls, by what gives the program of a table.
+struct ByReading(fn(&[u8]) -> Result<Rc<Program>, Refusal>);
+
+impl Calls for ByReading {
+    fn check(&self, table: &[u8]) -> Answer {
+        (self.0)(table).map(|program| program.table().nodes.len())
+    }
+
+    fn get(&self, table: &[u8], source: &[u8], out: &mut [u8]) -> Answer {
+        let program = (self.0)(table)?;
         limit_lengths(&[source])?;
         admit_source(&program, source)?;
         hand_over(&program.get(source), out)
     }
 
     fn put(&self, table: &[u8], sheet: &[u8], source: &[u8], out: &mut [u8]) -> Answer {
-        let program = read(table)?;
+        let program = (self.0)(table)?;
         limit_lengths(&[sheet, source])?;
         admit_source(&program, source)?;
         admit_sheet(&program, sheet)?;
@@ -59,26 +104,30 @@ impl Calls for Reference {
     }
 
     fn create(&self, table: &[u8], sheet: &[u8], out: &mut [u8]) -> Answer {
-        let program = read(table)?;
+        let program = (self.0)(table)?;
         limit_lengths(&[sheet])?;
         admit_sheet(&program, sheet)?;
         hand_over(&program.create(sheet), out)
     }
 }
 
+/// The program of a table, as [`Program::read`] gives it.
+fn read_anew(table: &[u8]) -> Result<Rc<Program>, Refusal> {
+    Program::read(table).map(Rc::new)
+}
+
 thread_local! {
-    /// The last accepted table with its program. Calls about one program mostly
-    /// come together, and checking a large one takes longer than a call.
+    /// The last accepted table with its program.
     static LAST: RefCell<Option<(Vec<u8>, Rc<Program>)>> = const { RefCell::new(None) };
 }
 
-/// The program of a table, as [`Program::read`] gives it.
-fn read(table: &[u8]) -> Result<Rc<Program>, Refusal> {
+/// The same, remembered from the last call.
+fn remembered(table: &[u8]) -> Result<Rc<Program>, Refusal> {
     let last = LAST.with_borrow(Option::clone);
     if let Some((_, program)) = last.filter(|(bytes, _)| bytes == table) {
         return Ok(program);
     }
-    let program = Rc::new(Program::read(table)?);
+    let program = read_anew(table)?;
     LAST.set(Some((table.to_vec(), Rc::clone(&program))));
     Ok(program)
 }

@@ -38,5 +38,5 @@ pub mod trial;
 pub mod walk;
 
 pub use answer::{Answer, Refusal};
-pub use calls::{Calls, Reference};
+pub use calls::{Calls, Reference, Remembering};
 pub use program::Program;

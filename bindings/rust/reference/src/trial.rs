@@ -5,7 +5,7 @@ use std::collections::BTreeMap;
 use std::fmt;
 
 use crate::answer::Answer;
-use crate::calls::{Calls, Reference};
+use crate::calls::{Calls, Remembering};
 use crate::census::Census;
 use crate::generator::cases::{program_cases, Call, Case};
 use crate::generator::random::Random;
@@ -94,7 +94,7 @@ pub fn compare(calls: &dyn Calls, seed: u64, programs: usize) -> Result<Compared
     for _ in 0..programs {
         let mut answered = Vec::new();
         for case in program_cases(&mut random) {
-            let expected = run(&Reference, &case);
+            let expected = run(&Remembering, &case);
             let found = run(calls, &case);
             if found != expected {
                 return Err(Box::new(Difference { case, expected, found }));

@@ -8,7 +8,7 @@ use super::programs::{grown, records, two_kinds, Room};
 use super::random::Random;
 use super::texts::{draw, edit, garbage};
 use crate::answer::{Answer, LIMIT_PASSED, NOT_A_SHEET, NOT_A_SOURCE};
-use crate::calls::Reference;
+use crate::calls::Remembering;
 use crate::program::Program;
 use crate::table::{Side, Table};
 use crate::trial::run;
@@ -43,7 +43,7 @@ pub fn small_call(random: &mut Random, call: Call) -> Case {
 /// texts handed in, and what put gives is not what create would give; or a text
 /// is refused.
 fn is_telling(case: &Case) -> bool {
-    let outcome = run(&Reference, case);
+    let outcome = run(&Remembering, case);
     let length = match outcome.answer {
         Ok(length) => length,
         Err(refusal) => return refusal.number == NOT_A_SOURCE || refusal.number == NOT_A_SHEET,
@@ -59,7 +59,7 @@ fn is_telling(case: &Case) -> bool {
 }
 
 fn result_is_short(case: &Case) -> bool {
-    run(&Reference, case).answer.map_or(true, |length| length <= RESULT)
+    run(&Remembering, case).answer.map_or(true, |length| length <= RESULT)
 }
 
 fn accepted_table(random: &mut Random) -> Vec<u8> {
@@ -123,7 +123,7 @@ fn text_case(random: &mut Random, call: Call) -> Case {
         _ => mostly_legal(random, &program, Side::Sheet),
     };
     let mut case = with_texts(call, table, sheet, source, RESULT);
-    case.lent = lent_length(random, run(&Reference, &case).answer);
+    case.lent = lent_length(random, run(&Remembering, &case).answer);
     case
 }
 
