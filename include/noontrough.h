@@ -48,10 +48,11 @@ extern "C" {
 
 /* The stack that any call of any program keeps to: 5.25 MiB. A call takes what
  * its program needs. For a program like that of examples/k, check, get and
- * create take under 96 KiB, and a put with up to 8 old entries about 1.2 MB. A
- * put with more entries or of a large program, and a create of a large program,
- * can need more than the 2 MiB that a default thread of Rust has: start a thread
- * with this much stack for them. The bound is measured on x86-64, not proved
+ * create take under 96 KiB, a put about 150 KB with up to 8 old entries and about
+ * 1.2 MB with more. A put of a large program or with an old entry whose sheet is
+ * longer than 4,096 bytes, and a create of a large program, can need more than the
+ * 2 MiB that a default thread of Rust has: start a thread with this much stack for
+ * them. The bound is measured on x86-64, not proved
  * (docs/PERFORMANCE.md); the tests of bindings/rust fail if a call of the
  * programs that take most passes it. */
 #define NOONTROUGH_STACK_BYTES (5376 * 1024)

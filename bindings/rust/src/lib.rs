@@ -24,9 +24,10 @@
 /// The stack that any call of any program keeps to.
 ///
 /// A call takes what its program needs. For a program like K of the repository's
-/// examples, check, get and create take under 96 KiB. A put takes at least about
-/// 1.2 MB, and over 2 MiB with more than 8 old entries or a large program. A
-/// create of a large program can take over 2 MiB too.
+/// examples, check, get and create take under 96 KiB, a put about 150 KB with up
+/// to 8 old entries and about 1.2 MB with more. A put of a large program or with
+/// an old entry whose sheet is longer than 4,096 bytes, and a create of a large
+/// program, can take over 2 MiB.
 ///
 /// The main thread usually has 8 MiB. A thread of `std::thread` has 2 MiB unless
 /// it is started with `std::thread::Builder::stack_size`, or `RUST_MIN_STACK` is

@@ -62,7 +62,7 @@ fn a_default_thread_is_enough_for_check_and_get() {
 }
 
 #[test]
-fn a_default_thread_is_enough_for_k_but_for_a_put_of_many_entries() {
-    assert_come_back_by_default(k(256), &[Call::Check, Call::Get, Call::Create]);
+fn a_default_thread_is_enough_for_k() {
+    assert_come_back_by_default(k(256), &CALLS);
     assert_come_back_by_default(k(8), &CALLS);
 }
