@@ -9,7 +9,6 @@ use lib.ListN.{length, take, drop}
 use lib.Seq.{take-append-seam}
 use borrow.Author.Tests.{lt-ltb, le-ltb}
 use Rattle.semantics.specs.Text.{Text}
-use Rattle.semantics.specs.Pattern.{Pattern, matches}
 use Rattle.semantics.specs.Lens.{Lens, language}
 use Rattle.semantics.specs.Table.{nodeCount, positions, lens, treeAt, trees}
 use Rattle.semantics.specs.Calls.{gives, refuses, refuseIf, program, withProgram, maxText, tooLong, notOf, output, bufferAfter}

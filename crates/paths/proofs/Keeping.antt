@@ -1,6 +1,6 @@
 -- Sets that are kept beside a text, byte by byte and block by block: what the loops backward cite. Assumes nothing.
 use mathlib.Core.Path.{_≡_, refl, subst, _∙_}
-use mathlib.Core.List.{List, [], _∷_}
+use mathlib.Core.List.{List}
 use mathlib.Core.Logic.{_≢_, ⊎-elim}
 use Prim.Native.Nat.{ℕ, suc, _+_, _-_, _*_, _≤_, _<_, min}
 use native.Mathlib.Omega.{arith}
@@ -9,11 +9,10 @@ use lib.Dec.{eqb}
 use lib.ListN.{length, getD, drop, set, length-set}
 use lib.Seq.{getD-set-same, getD-set-other, drop-cons, drop-length}
 use Rattle.semantics.specs.Text.{Text}
-use Rattle.semantics.specs.Pattern.{Pattern}
 use Rattle.laws.specs.Basics.{bool-cases}
 use Rattle.positions.specs.declared.Set.{Set}
 use Rattle.automaton.specs.declared.Automaton.{Automaton}
-use Rattle.automaton.specs.Rows.{setAt, Room, Describes}
+use Rattle.automaton.specs.Rows.{Room}
 use Rattle.language.specs.Runs.{Behind, SteppedBack}
 use Rattle.language.proofs.Steps.{behind-begins}
 use Rattle.paths.specs.Walking.{Stored, Filled, BehindAt, blockEnd, Marked}

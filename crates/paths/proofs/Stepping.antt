@@ -1,6 +1,6 @@
 -- The path of a text, step by step: what the loops forward cite. Assumes nothing.
-use mathlib.Core.Path.{_≡_, refl, sym, ap, subst, _∙_}
-use mathlib.Core.Bool.{Bool, true, false, _&&_}
+use mathlib.Core.Path.{_≡_, sym, ap, subst, _∙_}
+use mathlib.Core.Bool.{Bool, true, false}
 use mathlib.Core.List.{List, [], _∷_, _++_, append-nil, append-assoc}
 use mathlib.Core.Logic.{_↔_, Iff·trans, ⊎-elim}
 use Prim.Native.Nat.{ℕ, suc, _+_, _≤_, _<_}
@@ -16,7 +16,7 @@ use Rattle.semantics.specs.Table.{positions}
 use Rattle.laws.specs.Basics.{not-both, false-of-not-true, and-both, and-of, bool-cases}
 use Rattle.laws.specs.Membership.{matches-in, in-matches, in-nullable, nullable-in}
 use Rattle.laws.specs.PositionAutomaton.{standsAt, firstAt, lastAt, followAt, restAt, ReadsAt, first-law, follow-law, last-law}
-use Rattle.laws.specs.Paths.{LeastStep, LeastFrom, LeastPath}
+use Rattle.laws.specs.Paths.{LeastStep}
 use Rattle.positions.specs.declared.Set.{Set}
 use Rattle.positions.specs.Positions.{holds, Met, FirstFrom}
 use Rattle.automaton.specs.declared.Automaton.{Automaton}
@@ -24,7 +24,7 @@ use Rattle.automaton.specs.Rows.{Room, Describes}
 use Rattle.language.specs.Runs.{Behind}
 use Rattle.language.proofs.Steps.{stands-is, counted}
 use Rattle.paths.specs.declared.Walk.{Walk}
-use Rattle.paths.specs.Walking.{Reads, Lowest, Alone, Past, ReadsOn, WalkedBy, Walked, WalkedTo, PathFound}
+use Rattle.paths.specs.Walking.{Reads, Lowest, Alone, Past, ReadsOn, Walked, PathFound}
 
 -- a text belongs exactly if it can be read on from the first positions
 whole-reads : (r : Pattern) (t : Text) → In r t ↔ ReadsOn r (nullable r) (firstAt r) t

@@ -1,7 +1,6 @@
 -- `paths::first_loop` meets its contract. The loop's invariant: no step among the first i positions goes from a last position to a first one. Assumes nothing.
 use mathlib.Core.Path.{sym, _∙_}
 use Prim.Native.Nat.{_-_}
-use native.Mathlib.Omega.{arith}
 use borrow.Author.Needs.{needs}
 use lib.ListN.{length}
 use Rattle.positions.specs.Positions.{holds}

@@ -1,7 +1,7 @@
 -- `calls::create::create_into` meets its contract, from what the root writes with an empty book. Assumes nothing.
 use borrow.Author.Needs.{needs}
 use native.Mathlib.Omega.{arith}
-use mathlib.Core.Path.{refl, sym}
+use mathlib.Core.Path.{refl}
 use denote.Ref.{now}
 use Rattle.books.specs.Looking.{oldText}
 use Rattle.steps.proofs.Stepping.{inside-none}
