@@ -31,25 +31,19 @@ pub trait Calls {
     fn create(&self, table: &[u8], sheet: &[u8], out: &mut [u8]) -> Answer;
 }
 
+/// What gives the program of a table. Everything else of the calls is the same.
+pub trait Reads {
+    /// The program of a table, as [`Program::read`] gives it.
+    fn read(&self, table: &[u8]) -> Result<Rc<Program>, Refusal>;
+}
+
 /// This crate's own implementation of the calls. Every call checks the program
 /// anew, as the engine's do.
 pub struct Reference;
 
-impl Calls for Reference {
-    fn check(&self, table: &[u8]) -> Answer {
-        ByReading(read_anew).check(table)
-    }
-
-    fn get(&self, table: &[u8], source: &[u8], out: &mut [u8]) -> Answer {
-        ByReading(read_anew).get(table, source, out)
-    }
-
-    fn put(&self, table: &[u8], sheet: &[u8], source: &[u8], out: &mut [u8]) -> Answer {
-        ByReading(read_anew).put(table, sheet, source, out)
-    }
-
-    fn create(&self, table: &[u8], sheet: &[u8], out: &mut [u8]) -> Answer {
-        ByReading(read_anew).create(table, sheet, out)
+impl Reads for Reference {
+    fn read(&self, table: &[u8]) -> Result<Rc<Program>, Refusal> {
+        Program::read(table).map(Rc::new)
     }
 }
 
@@ -58,41 +52,37 @@ impl Calls for Reference {
 /// than a call.
 pub struct Remembering;
 
-impl Calls for Remembering {
-    fn check(&self, table: &[u8]) -> Answer {
-        ByReading(remembered).check(table)
-    }
+thread_local! {
+    /// The last accepted table with its program.
+    static LAST: RefCell<Option<(Vec<u8>, Rc<Program>)>> = const { RefCell::new(None) };
+}
 
-    fn get(&self, table: &[u8], source: &[u8], out: &mut [u8]) -> Answer {
-        ByReading(remembered).get(table, source, out)
-    }
-
-    fn put(&self, table: &[u8], sheet: &[u8], source: &[u8], out: &mut [u8]) -> Answer {
-        ByReading(remembered).put(table, sheet, source, out)
-    }
-
-    fn create(&self, table: &[u8], sheet: &[u8], out: &mut [u8]) -> Answer {
-        ByReading(remembered).create(table, sheet, out)
+impl Reads for Remembering {
+    fn read(&self, table: &[u8]) -> Result<Rc<Program>, Refusal> {
+        let last = LAST.with_borrow(Option::clone);
+        if let Some((_, program)) = last.filter(|(bytes, _)| bytes == table) {
+            return Ok(program);
+        }
+        let program = Reference.read(table)?;
+        LAST.set(Some((table.to_vec(), Rc::clone(&program))));
+        Ok(program)
     }
 }
 
-/// The calls, by what gives the program of a table.
-struct ByReading(fn(&[u8]) -> Result<Rc<Program>, Refusal>);
-
-impl Calls for ByReading {
+impl<R: Reads> Calls for R {
     fn check(&self, table: &[u8]) -> Answer {
-        (self.0)(table).map(|program| program.table().nodes.len())
+        self.read(table).map(|program| program.table().nodes.len())
     }
 
     fn get(&self, table: &[u8], source: &[u8], out: &mut [u8]) -> Answer {
-        let program = (self.0)(table)?;
+        let program = self.read(table)?;
         limit_lengths(&[source])?;
         admit_source(&program, source)?;
         hand_over(&program.get(source), out)
     }
 
     fn put(&self, table: &[u8], sheet: &[u8], source: &[u8], out: &mut [u8]) -> Answer {
-        let program = (self.0)(table)?;
+        let program = self.read(table)?;
         limit_lengths(&[sheet, source])?;
         admit_source(&program, source)?;
         admit_sheet(&program, sheet)?;
@@ -104,32 +94,11 @@ impl Calls for ByReading {
     }
 
     fn create(&self, table: &[u8], sheet: &[u8], out: &mut [u8]) -> Answer {
-        let program = (self.0)(table)?;
+        let program = self.read(table)?;
         limit_lengths(&[sheet])?;
         admit_sheet(&program, sheet)?;
         hand_over(&program.create(sheet), out)
     }
-}
-
-/// The program of a table, as [`Program::read`] gives it.
-fn read_anew(table: &[u8]) -> Result<Rc<Program>, Refusal> {
-    Program::read(table).map(Rc::new)
-}
-
-thread_local! {
-    /// The last accepted table with its program.
-    static LAST: RefCell<Option<(Vec<u8>, Rc<Program>)>> = const { RefCell::new(None) };
-}
-
-/// The same, remembered from the last call.
-fn remembered(table: &[u8]) -> Result<Rc<Program>, Refusal> {
-    let last = LAST.with_borrow(Option::clone);
-    if let Some((_, program)) = last.filter(|(bytes, _)| bytes == table) {
-        return Ok(program);
-    }
-    let program = read_anew(table)?;
-    LAST.set(Some((table.to_vec(), Rc::clone(&program))));
-    Ok(program)
 }
 
 /// The line that the program `lenscheck` prints for a table.

@@ -74,12 +74,20 @@ fn row_of_words(random: &mut Random, draft: &mut Draft) -> NodeNumber {
         leaves.push(word_leaf(random, draft));
     }
     let (growth, steps) = (Growth::draw(random), random.between(20, 86));
-    let mut chain = leaves[0];
-    for step in 0..steps {
-        let (a, b) = growth.order(step, *random.pick(&leaves), chain);
-        chain = draft.lens_join(a, b);
-    }
-    chain
+    let more = (0..steps).map(|_| *random.pick(&leaves));
+    chain_of_joins(draft, growth, leaves[0], more)
+}
+
+fn chain_of_joins(
+    draft: &mut Draft,
+    growth: Growth,
+    first: NodeNumber,
+    more: impl Iterator<Item = NodeNumber>,
+) -> NodeNumber {
+    more.enumerate().fold(first, |chain, (step, leaf)| {
+        let (a, b) = growth.order(step, leaf, chain);
+        draft.lens_join(a, b)
+    })
 }
 
 fn word_leaf(random: &mut Random, draft: &mut Draft) -> NodeNumber {
@@ -119,12 +127,8 @@ fn row_of_runs(random: &mut Random, draft: &mut Draft) -> NodeNumber {
         }
     });
     let growth = *random.pick(&[Growth::First, Growth::Second]);
-    let mut chain = runs[0];
-    for step in 1..random.between(20, 63) {
-        let (a, b) = growth.order(step, runs[step % 2], chain);
-        chain = draft.lens_join(a, b);
-    }
-    chain
+    let more = (1..random.between(20, 63)).map(|step| runs[step % 2]);
+    chain_of_joins(draft, growth, runs[0], more)
 }
 
 /// A union of an end and one more step, which leads to such a union again.
