@@ -78,7 +78,7 @@ pub record SheetRoom (sheet marks path : List ℕ) : Type 0 where
   pub same-room : length path ≡ length sheet
   pub marks-room : MarksRoom sheet marks
 
--- The card was made, or the entry's sheet is longer than the room for it. No sheet is longer than 524,288 bytes.
+-- The card was made, or the room for the entry's sheet is shorter than 524,288 bytes, which no sheet passes.
 pub record CardTried (bytes : Text) (child : ℕ) (text room slot : Text) (done : Bool) : Type 0 where
   pub made : done ≡ true → EntryCard bytes child text slot
   pub too-long : done ≡ false → length room < 524288
