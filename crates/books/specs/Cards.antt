@@ -1,16 +1,17 @@
--- The card of a key: equal keys have equal cards, and cards of different keys differ, most of them in their first four bytes.
-use mathlib.Core.Path.{_≡_}
+-- The card of a key: equal keys have equal cards, and cards of different keys differ. Beside it goes a byte of the key's fingerprint.
+use mathlib.Core.Path.{_≡_, refl, sym, ap, _∙_}
 use mathlib.Core.Bool.{Bool, true, false, _&&_, cond}
 use mathlib.Core.List.{[], _∷_, _++_, map}
-use Prim.Native.Nat.{ℕ, zero, suc, _+_, _*_, _/_, _%_, _≤_}
+use Prim.Native.Nat.{ℕ, zero, suc, _+_, _*_, _/_, _%_, _≤_, _<_}
 use native.Mathlib.Omega.{arith}
-use lib.ListN.{length, take, drop, length-append, length-take, length-drop}
+use lib.Dec.{leb}
+use lib.ListN.{length, take, drop, take-append-drop, length-append, length-take, length-drop}
+use lib.Seq.{take-take, take-append-seam}
+use borrow.Author.Tests.{leb-true, leb-false}
 use Rattle.semantics.specs.Text.{Text, sameText, joined, least}
 use Rattle.semantics.specs.Pattern.{Pattern, star, matches}
 use Rattle.semantics.specs.Lens.{Lens, copy, const, key, join, union, repeat, match, sheet, language, cutAt, parts, partsWithin, keyOf, sameKey}
-use Rattle.semantics.specs.Table.{trees, treeAt, lens}
-use Rattle.lens.specs.declared.Wrote.{Wrote}
-use Rattle.lens.specs.declared.Wrote.the-variants.{Count, Full}
+use Rattle.laws.specs.Basics.{not-both, false-of-not-true, sameText-refl, sameText-eq}
 
 -- the fingerprint with one byte more
 unfoldable pub printNext : ℕ → ℕ → ℕ
@@ -24,47 +25,100 @@ printFrom print (byte ∷ text) = printFrom (printNext print byte) text
 unfoldable pub printOf : Text → ℕ
 printOf text = printFrom 0 text
 
+-- the byte of the fingerprint that goes beside a card
+unfoldable pub printByte : Text → ℕ
+printByte text = printOf text / 256
+
 -- a number in two bytes, the high one first
 abbrev pub twoBytes : ℕ → Text
 twoBytes n = n / 256 ∷ n % 256 ∷ []
 
 -- the card of a key
 unfoldable pub cardOf : Text → Text
-cardOf text = twoBytes (length text) ++ (twoBytes (printOf text) ++ text)
+cardOf text = twoBytes (length text) ++ text
 
 -- whether a text begins with another
 unfoldable pub begins : Text → Text → Bool
 begins start text = sameText (take (length start) text) start
 
--- A slot that holds a card tells whether its key is one that is looked up, which has at most 4,096 bytes.
-pub record Tells (key slot : Text) : Type 0 where
+-- A slot that holds a card tells whether its key is one that is looked up, which has at most 4,096 bytes; so does the byte beside it, where it differs.
+pub record Tells (key slot : Text) (print : ℕ) : Type 0 where
   pub tells : (k : Text) → length k ≤ 4096 → begins (cardOf k) slot ≡ sameKey key k
+  pub prints : (k : Text) → length k ≤ 4096 → sameKey key k ≡ true → print ≡ printByte k
 
--- ---- How a card is made
+-- A slot begins with the card of a key, of `size` bytes, and `print` goes beside it; or the key has more than 4,096 bytes, and the slot begins with a length that no card has.
+pub record CardAt (key slot : Text) (size print : ℕ) : Type 0 where
+  pub within : size ≤ length slot
+  pub small : size ≤ 4098
+  pub short : length key ≤ 4096 → (take size slot ≡ cardOf key) × (print ≡ printByte key)
+  pub long : 4096 < length key → (2 ≤ size) × (take 2 slot ≡ twoBytes 65535)
 
--- A key of that many bytes was written behind the head of a card.
-pub record KeyBehind (card : Text) (wrote : Wrote) : Type 0 where
-  pub within : (n : ℕ) → wrote ≡ Count n → 4 + n ≤ length card
+-- ---- What a card tells
 
--- the card that was sealed, of a key that had room; of another, a length that no card has
-abbrev pub sealedCard : Text → Wrote → Text
-sealedCard card (Count n) = cardOf (take n (drop 4 card)) ++ drop (4 + n) card
-sealedCard card Full = twoBytes 65535 ++ drop 2 card
+-- a number is told by its two bytes
+same-two : (m n : ℕ) → m / 256 ≡ n / 256 → m % 256 ≡ n % 256 → m ≡ n
+same-two m n high low = omega arith
 
-abbrev pub sealedLength : Wrote → ℕ
-sealedLength (Count n) = 4 + n
-sealedLength Full = 4
+-- a slot that holds the card of a key begins with that of no other
+card-begins : (own behind k : Text) → begins (cardOf k) (cardOf own ++ behind) ≡ true → own ≡ k
+unfolding begins cardOf
+card-begins own behind k e =
+    let same = sameText-eq _ _ e in
+    let high : length own / 256 ≡ length k / 256 = cc in
+    let low : length own % 256 ≡ length k % 256 = cc in
+    let as-long = same-two (length own) (length k) high low in
+    let rest : take (length k) (own ++ behind) ≡ k = cc in
+    rw (← as-long, take-append-seam) at rest
 
--- The head was set, and the rest is as it was.
-pub record Sealed (before : Text) (wrote : Wrote) (after : Text) (r : ℕ) : Type 0 where
-  pub card-is : after ≡ sealedCard before wrote
-  pub length-is : r ≡ sealedLength wrote
+-- a test is another's answer where each passes if the other does
+same-test : (a b : Bool) → (a ≡ true → b ≡ true) → (b ≡ true → a ≡ true) → a ≡ b
+same-test true b h k = sym (h refl)
+same-test false b h k = sym (false-of-not-true b (λ e. not-both (k e) refl))
 
--- The slot tells the key of a sheet text, and begins with its card, of r bytes, where the text has no more than 4,096.
-pub record CardIs (bytes : Text) (node : ℕ) (text slot : Text) (r : ℕ) : Type 0 where
-  pub within : r ≤ length slot
-  pub tells-key : (l : Lens) → treeAt (trees bytes) node ≡ lens l → Tells (keyOf l text) slot
-  pub card-is : (l : Lens) → treeAt (trees bytes) node ≡ lens l → length text ≤ 4096 → take r slot ≡ cardOf (keyOf l text)
+-- a card tells its key, whatever stands behind it
+tells-card : (own behind : Text) → Tells own (cardOf own ++ behind) (printByte own)
+unfolding begins sameKey
+tells-card own behind =
+    record {
+      tells = λ k small.
+          same-test
+          (begins (cardOf k) (cardOf own ++ behind))
+          (sameKey own k)
+          (λ e. rw (card-begins own behind k e) (sameText-refl k))
+          (λ e. rw (sameText-eq own k e, take-append-seam) (sameText-refl (cardOf k)));
+      prints = λ k small e. ap printByte (sameText-eq own k e);
+    }
+
+-- a length that no card has tells a key that is too long to be looked up
+tells-none : (own behind : Text) (print : ℕ) → 4096 < length own → Tells own (twoBytes 65535 ++ behind) print
+unfolding begins cardOf sameKey
+tells-none own behind print long =
+    record {
+      tells = λ k small.
+          false-of-not-true
+          (begins (cardOf k) (twoBytes 65535 ++ behind))
+          (λ e. let same = sameText-eq _ _ e in let high : 255 ≡ length k / 256 = cc in omega arith)
+          ∙ sym (false-of-not-true (sameKey own k) (λ e. omega (arith, ap length (sameText-eq own k e))));
+      prints = λ k small e. absurd (omega (arith, ap length (sameText-eq own k e)));
+    }
+
+-- a slot tells the key whose card it begins with, whatever stands behind it
+pub card-tells :
+    {own card slot : Text} {size print : ℕ} → CardAt own card size print → take size slot ≡ take size card → Tells own slot print
+card-tells {own} {card} {slot} {size} {print} made same = go (leb (length own) 4096) refl
+  where
+    go : (short : Bool) → leb (length own) 4096 ≡ short → Tells own slot print
+    go true e =
+        let (card-is, print-is) = made .short (leb-true (length own) 4096 e) in
+        let slot-is : slot ≡ cardOf own ++ drop size slot = sym (take-append-drop size slot) ∙ ap (λ t. t ++ drop size slot) (same ∙ card-is) in
+        rw (slot-is, print-is) (tells-card own (drop size slot))
+    go false e =
+        let long = leb-false (length own) 4096 e in
+        let (two, head-is) = made .long (omega (arith, long)) in
+        let front : take 2 slot ≡ twoBytes 65535 =
+        sym (take-take 2 size slot two) ∙ ap (take 2) same ∙ take-take 2 size card two ∙ head-is in
+        let slot-is : slot ≡ twoBytes 65535 ++ drop 2 slot = sym (take-append-drop 2 slot) ∙ ap (λ t. t ++ drop 2 slot) front in
+        rw slot-is (tells-none own (drop 2 slot) print (omega (arith, long)))
 
 -- ---- How long a key is
 

@@ -4,18 +4,20 @@ use mathlib.Core.Bool.{Bool, true, false, cond}
 use mathlib.Core.List.{[], _∷_, _++_, append-nil}
 use mathlib.Core.Option.{none, some}
 use Prim.Native.Nat.{ℕ, zero, suc, _+_, _-_, _≤_, _<_}
-use native.Mathlib.Nat.{le-refl, not-suc-le-zero, zero-add, add-zero, suc-add, add-suc}
+use native.Mathlib.Nat.{le-refl, zero-add, add-zero, suc-add, add-suc}
 use native.Mathlib.Omega.{arith}
 use lib.Dec.{eqb}
 use lib.ListN.{length, take, drop, getD, set, length-append, length-set}
 use lib.Seq.{getD-set-same, getD-set-other}
-use borrow.Author.Tests.{eqb-true, eqb-false}
+use borrow.Author.Tests.{eqb-true, eqb-false, eq-eqb, ne-eqb}
 use Rattle.semantics.specs.Text.{Text, All, orElse}
 use Rattle.semantics.specs.Pattern.{word}
 use Rattle.semantics.specs.Lens.{Lens, copy, match, Entry, entryOf, entries, answers, keeping, takeEntry}
 use Rattle.semantics.specs.Lens.{Book as Entries}
 use Rattle.semantics.specs.Table.{Trees, lensAt}
-use Rattle.laws.specs.Basics.{not-both, cond-true, cond-false}
+use Rattle.laws.specs.Basics.{not-both, or-left, or-right, cond-true, cond-false}
+use Rattle.positions.specs.declared.Set.{Set}
+use Rattle.positions.specs.Positions.{holds, Added, Removed}
 use Rattle.books.specs.declared.Book.{Book}
 
 -- the text of entry i of the book, in the old source
@@ -37,33 +39,63 @@ unusedFrom ts old b i (suc n) = cond (getD (b .used) i false) (unusedFrom ts old
 unfoldable pub unused : Trees → Text → Book → Entries
 unused ts old b = unusedFrom ts old b 0 (b .count)
 
--- Every entry stands in a text of that length, and there are at most 256.
+-- Every entry stands in a text of that length, there are at most 256, and the child of one that is not taken is among those of which one may be left.
 pub record BookFits (room : ℕ) (b : Book) : Type 0 where
   pub few : b .count ≤ 256
   pub inside : (i : ℕ) → i < b .count → getD (b .starts) i 0 + getD (b .lengths) i 0 ≤ room
+  pub still-left : (i : ℕ) → i < b .count → getD (b .used) i false ≡ false → holds (b .left) (getD (b .children) i 0) ≡ true
 
 -- The arrays have 256 places.
 pub record Sized (b : Book) : Type 0 where
   pub starts-sized : length (b .starts) ≡ 256
   pub lengths-sized : length (b .lengths) ≡ 256
+  pub bases-sized : length (b .bases) ≡ 256
   pub children-sized : length (b .children) ≡ 256
   pub used-sized : length (b .used) ≡ 256
 
--- the book with one more entry behind the others
-abbrev pub added : Book → ℕ → ℕ → ℕ → Book
-added b start size child =
+-- the book with one more entry behind the others, and `left` for the children of which one may be left
+abbrev pub added : Book → ℕ → ℕ → ℕ → ℕ → Set → Book
+added b start size base child left =
     record {
       starts = set (b .starts) (b .count) start;
       lengths = set (b .lengths) (b .count) size;
+      bases = set (b .bases) (b .count) base;
       children = set (b .children) (b .count) child;
       used = set (b .used) (b .count) false;
+      left = left;
       count = b .count + 1;
     }
+
+-- One more entry stands behind the others.
+pub record Entered (b : Book) (start size base child : ℕ) (r : Book) : Type 0 where
+  pub book-is : r ≡ added b start size base child (r .left)
+  pub left-is : Added (b .left) child (r .left)
 
 -- the book with entry i taken
 abbrev pub marked : Book → ℕ → Book
 marked b i =
-    record { starts = b .starts; lengths = b .lengths; children = b .children; used = set (b .used) i true; count = b .count }
+    record {
+      starts = b .starts;
+      lengths = b .lengths;
+      bases = b .bases;
+      children = b .children;
+      used = set (b .used) i true;
+      left = b .left;
+      count = b .count;
+    }
+
+-- the book with `left` for the children of which one may be left
+abbrev pub leaving : Book → Set → Book
+leaving b left =
+    record {
+      starts = b .starts;
+      lengths = b .lengths;
+      bases = b .bases;
+      children = b .children;
+      used = b .used;
+      left = left;
+      count = b .count;
+    }
 
 -- No unused entry before i is of child n and has the key k.
 pub record Passed (ts : Trees) (old : Text) (b : Book) (n : ℕ) (k : Text) (i : ℕ) : Type 0 where
@@ -73,14 +105,16 @@ pub record Passed (ts : Trees) (old : Text) (b : Book) (n : ℕ) (k : Text) (i :
 
 -- a book with no entries fits
 pub fits-none : (room : ℕ) (b : Book) → b .count ≡ 0 → BookFits room b
-fits-none room b e = record { few = omega arith; inside = λ i h. absurd (omega arith) }
+fits-none room b e =
+    record { few = omega arith; inside = λ i h. absurd (omega arith); still-left = λ i h unused. absurd (omega arith) }
 
 -- the arrays keep their size
-pub sized-added : (b : Book) (start size child : ℕ) → Sized b → Sized (added b start size child)
-sized-added b start size child sized =
+pub sized-added : (b : Book) (start size base child : ℕ) (left : Set) → Sized b → Sized (added b start size base child left)
+sized-added b start size base child left sized =
     record {
       starts-sized = length-set (b .starts) (b .count) start ∙ sized .starts-sized;
       lengths-sized = length-set (b .lengths) (b .count) size ∙ sized .lengths-sized;
+      bases-sized = length-set (b .bases) (b .count) base ∙ sized .bases-sized;
       children-sized = length-set (b .children) (b .count) child ∙ sized .children-sized;
       used-sized = length-set (b .used) (b .count) false ∙ sized .used-sized;
     }
@@ -90,39 +124,108 @@ sized-marked b i sized =
     record {
       starts-sized = sized .starts-sized;
       lengths-sized = sized .lengths-sized;
+      bases-sized = sized .bases-sized;
       children-sized = sized .children-sized;
       used-sized = length-set (b .used) i true ∙ sized .used-sized;
     }
 
+pub sized-leaving : (b : Book) (left : Set) → Sized b → Sized (leaving b left)
+sized-leaving b left sized =
+    record {
+      starts-sized = sized .starts-sized;
+      lengths-sized = sized .lengths-sized;
+      bases-sized = sized .bases-sized;
+      children-sized = sized .children-sized;
+      used-sized = sized .used-sized;
+    }
+
 -- an entry that stands in the old source keeps a book that fits
 pub fits-added :
-    (room : ℕ) (b : Book) (start size child : ℕ)
+    (room : ℕ) (b : Book) (start size base child : ℕ) (left : Set)
     → Sized b
     → BookFits room b
     → b .count < 256
     → start + size ≤ room
-    → BookFits room (added b start size child)
-fits-added room b start size child sized fits few within = record { few = omega arith; inside = λ i h. go i h (eqb i (b .count)) refl }
+    → Added (b .left) child left
+    → BookFits room (added b start size base child left)
+fits-added room b start size base child left sized fits few within now-left =
+    record {
+      few = omega arith;
+      inside = λ i h. stands i h (eqb i (b .count)) refl;
+      still-left = λ i h unused. waits i h unused (eqb i (b .count)) refl;
+    }
   where
-    go :
+    stands :
         (i : ℕ)
         → i < b .count + 1
         → (new : Bool)
         → eqb i (b .count) ≡ new
         → getD (set (b .starts) (b .count) start) i 0 + getD (set (b .lengths) (b .count) size) i 0 ≤ room
-    go i h true e =
+    stands i h true e =
         rw
         (eqb-true i (b .count) e, getD-set-same (b .starts) (b .count) start 0 (omega arith), getD-set-same (b .lengths) (b .count) size 0 (omega arith))
         within
-    go i h false e =
+    stands i h false e =
         let other = eqb-false i (b .count) e in
         rw
         (getD-set-other (b .starts) (b .count) i start 0 other, getD-set-other (b .lengths) (b .count) i size 0 other)
         (fits .inside i (omega arith))
 
+    waits :
+        (i : ℕ)
+        → i < b .count + 1
+        → getD (set (b .used) (b .count) false) i false ≡ false
+        → (new : Bool)
+        → eqb i (b .count) ≡ new
+        → holds left (getD (set (b .children) (b .count) child) i 0) ≡ true
+    waits i h unused true e =
+        rw
+        (eqb-true i (b .count) e, getD-set-same (b .children) (b .count) child 0 (omega arith))
+        (now-left child ∙ or-left (eqb child child) (holds (b .left) child) (eq-eqb child child refl))
+    waits i h unused false e =
+        let other = eqb-false i (b .count) e in
+        let before = rw (getD-set-other (b .used) (b .count) i false false other) at unused in
+        let own = getD (b .children) i 0 in
+        rw
+        (getD-set-other (b .children) (b .count) i child 0 other)
+        (now-left own ∙ or-right (eqb own child) (holds (b .left) own) (fits .still-left i (omega arith) before))
+
 -- where an entry stands does not change when one is taken
-pub fits-marked : (room : ℕ) (b : Book) (i : ℕ) → BookFits room b → BookFits room (marked b i)
-fits-marked room b i fits = record { few = fits .few; inside = fits .inside }
+pub fits-marked : (room : ℕ) (b : Book) (i : ℕ) → Sized b → BookFits room b → BookFits room (marked b i)
+fits-marked room b i sized fits =
+    record { few = fits .few; inside = fits .inside; still-left = λ j h unused. waits j h unused (eqb j i) refl }
+  where
+    waits :
+        (j : ℕ)
+        → j < b .count
+        → getD (set (b .used) i true) j false ≡ false
+        → (taken : Bool)
+        → eqb j i ≡ taken
+        → holds (b .left) (getD (b .children) j 0) ≡ true
+    waits j h unused true e =
+        let same = eqb-true j i e in
+        absurd
+        (not-both
+        (getD-set-same (b .used) i true false (omega (arith, fits .few, sized .used-sized)))
+        (rw same at unused))
+    waits j h unused false e =
+        fits .still-left j h (rw (getD-set-other (b .used) i j true false (eqb-false j i e)) at unused)
+
+-- a child of which no entry is left may be left out
+pub fits-leaving :
+    (room : ℕ) (b : Book) (child : ℕ) (left : Set)
+    → BookFits room b
+    → ((i : ℕ) → i < b .count → getD (b .used) i false ≡ false → ¬ (getD (b .children) i 0 ≡ child))
+    → Removed (b .left) child left
+    → BookFits room (leaving b left)
+fits-leaving room b child left fits no-more now-left =
+    record {
+      few = fits .few;
+      inside = fits .inside;
+      still-left = λ i h unused.
+          let own = getD (b .children) i 0 in
+          now-left own ∙ rw (ne-eqb own child (no-more i h unused)) (fits .still-left i h unused);
+    }
 
 -- a lookup goes past entries that do not answer
 take-past :
@@ -207,9 +310,9 @@ module _ (ts : Trees) (old : Text) where
 
   -- ---- One more entry
 
-  module _ (b : Book) (start size child : ℕ) (sized : Sized b) (room : b .count < 256) where
+  module _ (b : Book) (start size base child : ℕ) (left : Set) (sized : Sized b) (room : b .count < 256) where
     -- the places in front are as they were
-    before-added : (i : ℕ) → i < b .count → SameAt (added b start size child) old b i
+    before-added : (i : ℕ) → i < b .count → SameAt (added b start size base child left) old b i
     unfolding entryAt textAt
     before-added i h =
         let other : ¬ (i ≡ b .count) = omega arith in
@@ -221,7 +324,7 @@ module _ (ts : Trees) (old : Text) where
 
     -- the new place holds the new entry
     added-entry :
-        entryAt ts old (added b start size child) (b .count) ≡ entryOf child (orElse (copy (word [])) (lensAt ts child)) (take size (drop start old))
+        entryAt ts old (added b start size base child left) (b .count) ≡ entryOf child (orElse (copy (word [])) (lensAt ts child)) (take size (drop start old))
     unfolding entryAt textAt
     added-entry =
         rw
@@ -229,26 +332,31 @@ module _ (ts : Trees) (old : Text) where
 
     -- the entry stands behind those that were there
     pub unused-add :
-        unused ts old (added b start size child)
+        unused ts old (added b start size base child left)
         ≡ unused ts old b ++ (entryOf child (orElse (copy (word [])) (lensAt ts child)) (take size (drop start old)) ∷ [])
     unfolding unused unusedFrom
     unused-add =
-        unused-around (added b start size child) (b .count) 0 refl
+        unused-around (added b start size base child left) (b .count) 0 refl
         ∙ ap₂
         _++_
-        (unused-same (added b start size child) old b 0 (b .count) (λ i h k. before-added i (omega arith)))
-        (step-unused (added b start size child) (b .count) 0 (getD-set-same (b .used) (b .count) false false (omega arith))
+        (unused-same (added b start size base child left) old b 0 (b .count) (λ i h k. before-added i (omega arith)))
+        (step-unused (added b start size base child left) (b .count) 0 (getD-set-same (b .used) (b .count) false false (omega arith))
         ∙ ap (λ e. e ∷ []) added-entry)
 
     -- that is what a match lists, where the child node's lens is l
     pub unused-match :
-        (l : Lens) → lensAt ts child ≡ some l → unused ts old (added b start size child) ≡ unused ts old b ++ entries (match child l) (take size (drop start old))
+        (l : Lens) → lensAt ts child ≡ some l → unused ts old (added b start size base child left) ≡ unused ts old b ++ entries (match child l) (take size (drop start old))
     unfolding entries orElse
     unused-match l e = rw e at unused-add
 
     -- while none is taken, there are as many left as the book counts
-    pub unused-length : length (unused ts old b) ≡ b .count → length (unused ts old (added b start size child)) ≡ b .count + 1
+    pub unused-length : length (unused ts old b) ≡ b .count → length (unused ts old (added b start size base child left)) ≡ b .count + 1
     unused-length e = rw (unused-add, length-append, e)
+
+  -- which children may be left changes no entry
+  pub unused-leaving : (b : Book) (left : Set) → unused ts old (leaving b left) ≡ unused ts old b
+  unfolding unused entryAt textAt
+  unused-leaving b left = unused-same (leaving b left) old b 0 (b .count) (λ i h k. record { used-is = refl; entry-is = refl })
 
   -- the other places are as they were where entry i is taken
   beside-marked : (b : Book) (i j : ℕ) → ¬ (j ≡ i) → SameAt (marked b i) old b j
@@ -269,33 +377,9 @@ module _ (ts : Trees) (old : Text) where
       (step-used (marked b i) i m (getD-set-same (b .used) i true false within)
       ∙ unused-same (marked b i) old b (suc i) m (λ j l h. beside-marked b i j (omega arith)))
 
-  -- ---- The walk over the book: it begins, goes on by one entry, and ends
+  -- ---- The walk over the book ends
 
   module _ (b : Book) (n : ℕ) (k : Text) where
-    -- nothing was passed yet
-    pub passed-none : Passed ts old b n k 0
-    passed-none = record { passed = λ j h. absurd (not-suc-le-zero h) }
-
-    -- past an entry that is taken or does not answer
-    passed-more :
-        (i : ℕ)
-        → Passed ts old b n k i
-        → (getD (b .used) i false ≡ false → answers n k (entryAt ts old b i) ≡ false)
-        → Passed ts old b n k (i + 1)
-    passed-more i p here = record { passed = λ j h. go j h (eqb j i) refl }
-      where
-        go : (j : ℕ) → j < i + 1 → (last : Bool) → eqb j i ≡ last → getD (b .used) j false ≡ false → answers n k (entryAt ts old b j) ≡ false
-        go j h true e = rw (eqb-true j i e) here
-        go j h false e = p .passed j (let other = eqb-false j i e in omega arith)
-
-    -- past an entry that was taken
-    pub passed-used : (i : ℕ) → Passed ts old b n k i → getD (b .used) i false ≡ true → Passed ts old b n k (i + 1)
-    passed-used i p u = passed-more i p (λ e. absurd (not-both u e))
-
-    -- past an entry that does not answer
-    pub passed-other : (i : ℕ) → Passed ts old b n k i → answers n k (entryAt ts old b i) ≡ false → Passed ts old b n k (i + 1)
-    passed-other i p a = passed-more i p (λ e. a)
-
     -- what is left of the entries before i does not answer
     none-answers :
         (i : ℕ) → Passed ts old b n k i → (j m : ℕ) → j + m ≤ i → All (λ e. answers n k e ≡ false) (unusedFrom ts old b j m)

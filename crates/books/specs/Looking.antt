@@ -1,6 +1,6 @@
 -- What the deck and a lookup in the book are given, what they owe, and what a lookup leaves as it was.
 use mathlib.Core.Path.{_≡_, refl, sym, ap, _∙_}
-use mathlib.Core.Bool.{Bool, true, false, cond}
+use mathlib.Core.Bool.{Bool, true, false, not, _&&_}
 use mathlib.Core.List.{List, [], _∷_}
 use mathlib.Core.Option.{Option, none, some}
 use Prim.Native.Nat.{ℕ, zero, suc, _+_, _*_, _≤_, _<_}
@@ -8,120 +8,130 @@ use native.Mathlib.Omega.{arith}
 use lib.Dec.{eqb}
 use lib.ListN.{length, take, drop, getD}
 use lib.Seq.{take-length, take-take}
-use borrow.Author.Tests.{eqb-true, eqb-false}
-use Rattle.semantics.specs.Text.{Text, All}
-use Rattle.semantics.specs.Pattern.{In}
-use Rattle.semantics.specs.Lens.{Lens, source, language, get, keyOf, Entry, entryOf, entries, takeEntry}
-use Rattle.semantics.specs.Lens.{Book as Entries}
-use Rattle.semantics.specs.Table.{Trees, trees, treeAt, lensAt, lens}
-use Rattle.semantics.specs.Calls.{gives, program}
-use Rattle.laws.specs.WellTyped.{WellTyped, EntryFits}
-use Rattle.laws.specs.PutGet.{entries-fit}
-use Rattle.laws.specs.Accepted.{lens-typed, accepted-iff, accepted}
-use Rattle.laws.specs.NodeTrees.{lens-below, lens-tree, tree-length}
-use Rattle.automaton.specs.Built.{Built}
-use Rattle.paths.specs.Walking.{MarksRoom}
-use Rattle.lens.specs.Emitting.{LensNode}
+use Rattle.semantics.specs.Text.{Text}
+use Rattle.semantics.specs.Lens.{source, takeEntry}
+use Rattle.semantics.specs.Table.{Trees, trees}
+use Rattle.lens.specs.Parsed.{Parsed}
+use Rattle.positions.specs.declared.Set.{Set}
 use Rattle.books.specs.declared.Book.{Book}
+use Rattle.books.specs.declared.Place.{Place}
 use Rattle.books.specs.declared.Old.{Old}
 use Rattle.books.specs.declared.Old.the-variants.{At, Nothing}
 use Rattle.books.specs.declared.Lookup.{Lookup}
-use Rattle.books.specs.Cards.{Tells}
-use Rattle.books.specs.Listed.{textAt, entryAt, unusedFrom, unused, marked, BookFits, Sized, unused-same}
+use Rattle.books.specs.Cards.{begins, Tells}
+use Rattle.books.specs.Listed.{textAt, entryAt, unused, marked, leaving, BookFits, Sized, unused-same}
 
 -- A book whose entries stand in a text of at most that length.
 pub record BookOver (room : ℕ) (b : Book) : Type 0 where
   pub sized : Sized b
   pub fits : BookFits room b
 
--- The lenses of the program keep the typing rules, and every entry of the book, taken or not, is a source of its child node.
-pub record EntriesFit (bytes source : Text) (b : Book) : Type 0 where
-  pub typed : (k : ℕ) (l : Lens) → lensAt (trees bytes) k ≡ some l → WellTyped l
-  pub each : (i : ℕ) → i < b .count → EntryFits (trees bytes) (entryAt (trees bytes) source b i)
-
 -- The entries of two books stand at the same places, whichever of them are taken.
 pub record SameEntries (b b′ : Book) : Type 0 where
   pub starts-same : b′ .starts ≡ b .starts
   pub lengths-same : b′ .lengths ≡ b .lengths
+  pub bases-same : b′ .bases ≡ b .bases
   pub children-same : b′ .children ≡ b .children
   pub count-same : b′ .count ≡ b .count
 
--- ---- The deck, in whose first 4,096 bytes the old source stands: texts of entries are read there
+-- ---- Where old texts stand, and how they are parsed
 
--- the slot of entry i's card
-abbrev pub slotAt : Text → ℕ → Text
-slotAt deck i = take 4100 (drop (4096 + 4100 * i) deck)
+-- where entry i stands
+abbrev pub placeAt : Book → ℕ → Place
+placeAt b i = record { start = getD (b .starts) i 0; len = getD (b .lengths) i 0; base = getD (b .bases) i 0 }
 
--- The slot of each entry, taken or not, tells its key.
-pub record CardsFit (bytes deck : Text) (b : Book) : Type 0 where
-  pub each : (i : ℕ) → i < b .count → Tells (entryAt (trees bytes) deck b i .key-text) (slotAt deck i)
+-- what stands at a place of a list
+abbrev pub partAt : List ℕ → Place → List ℕ
+partAt xs p = take (p .len) (drop (p .start) xs)
 
--- The deck begins with the old source and has its entries' cards.
-pub record Dealt (bytes source : Text) (b : Book) (deck : Text) : Type 0 where
-  pub source-is : take (length source) deck ≡ source
-  pub cards-fit : CardsFit bytes deck b
+-- Every entry of the book, taken or not, is a source of its child node, and the path of the old source is its own from its base on.
+pub record EntriesParsed (bytes old trail : Text) (b : Book) : Type 0 where
+  pub each :
+      (i : ℕ)
+      → i < b .count
+      → Parsed bytes (getD (b .children) i 0) source (getD (b .bases) i 0) (partAt trail (placeAt b i)) (partAt old (placeAt b i))
 
--- The text is a source of the child node, whose lens keeps the typing rules.
-pub record EntryOf (bytes : Text) (child : ℕ) (text : Text) : Type 0 where
-  pub tree : Lens
-  pub at-child : lensAt (trees bytes) child ≡ some tree
-  pub typed : WellTyped tree
-  pub in-source : In (language source tree) text
+-- ---- The deck: the old source in the first 4,096 bytes, its path in the next 4,096, a byte of 256 fingerprints, 256 places in three bytes, and the cards
 
--- The slot tells the key of an entry, that of its own sheet.
-pub record EntryCard (bytes : Text) (child : ℕ) (text slot : Text) : Type 0 where
-  pub tells-entry : (l : Lens) → treeAt (trees bytes) child ≡ lens l → Tells (keyOf l (get l text)) slot
+-- the path that the deck holds
+abbrev pub trailOf : Text → Text
+trailOf deck = drop 4096 deck
 
--- Room for the sheet of an entry and its path, for 4,096 bytes at least.
-pub record SheetRoom (sheet marks path : List ℕ) : Type 0 where
-  pub least-room : 4096 ≤ length sheet
-  pub same-room : length path ≡ length sheet
-  pub marks-room : MarksRoom sheet marks
-
--- The card was made, or the room for the entry's sheet is shorter than 524,288 bytes, which no sheet passes.
-pub record CardTried (bytes : Text) (child : ℕ) (text room slot : Text) (done : Bool) : Type 0 where
-  pub made : done ≡ true → EntryCard bytes child text slot
-  pub too-long : done ≡ false → length room < 524288
-
--- The same of the cards of all entries.
-pub record DeckTried (bytes source : Text) (b : Book) (room deck : Text) (done : Bool) : Type 0 where
-  pub made : done ≡ true → Dealt bytes source b deck
-  pub too-long : done ≡ false → length room < 524288
-
--- ---- Lookups
+-- The old text at a place of the deck is parsed at the node by the path that the deck holds.
+pub record OldParsed (bytes : Text) (node : ℕ) (deck : Text) (p : Place) : Type 0 where
+  pub inside : p .start + p .len ≤ 4096
+  pub parsed : Parsed bytes node source (p .base) (partAt (trailOf deck) p) (partAt deck p)
 
 -- the old text, where there is one
 unfoldable pub oldText : Text → Old → Option Text
-oldText deck (At start len) = some (take len (drop start deck))
+oldText deck (At p) = some (partAt deck p)
 oldText deck Nothing = none
+
+-- If there is an old text, it is parsed at the node.
+pub record OldFits (bytes : Text) (node : ℕ) (deck : Text) (old : Old) : Type 0 where
+  pub fits : (p : Place) → old ≡ At p → OldParsed bytes node deck p
+
+-- where the card of entry i stands
+abbrev pub cardPlace : Text → ℕ → ℕ
+cardPlace deck i = getD deck (8448 + 3 * i) 0 * 65536 + getD deck (8448 + 3 * i + 1) 0 * 256 + getD deck (8448 + 3 * i + 2) 0
+
+-- The card of each entry, taken or not, tells its key.
+pub record CardsFit (bytes deck : Text) (b : Book) : Type 0 where
+  pub inside : (i : ℕ) → i < b .count → cardPlace deck i ≤ length deck
+  pub each : (i : ℕ) → i < b .count → Tells (entryAt (trees bytes) deck b i .key-text) (drop (cardPlace deck i) deck) (getD deck (8192 + i) 0)
+
+-- The deck has the old source and its path, and its entries' cards.
+pub record Dealt (bytes old trail : Text) (b : Book) (deck : Text) : Type 0 where
+  pub source-is : take (length old) deck ≡ old
+  pub trail-is : take (length trail) (trailOf deck) ≡ trail
+  pub cards-fit : CardsFit bytes deck b
+
+-- ---- Lookups
+
+-- Whether entry i has that card.
+pub record HasCard (deck : Text) (i : ℕ) (card : Text) (r : Bool) : Type 0 where
+  pub has : cardPlace deck i ≤ length deck → r ≡ begins card (drop (cardPlace deck i) deck)
+
+-- Whether entry i, taken or not and of its own child, is unused, of that child, and has that card.
+pub record Answers (used : Bool) (own child : ℕ) (deck : Text) (i : ℕ) (card : Text) (r : Bool) : Type 0 where
+  pub tells : cardPlace deck i ≤ length deck → r ≡ ((not used && eqb own child) && begins card (drop (cardPlace deck i) deck))
+
+-- the same of entry i of a book
+abbrev pub answering : List Bool → List ℕ → ℕ → Text → Text → ℕ → Bool
+answering used children child card deck i =
+    (not (getD used i false) && eqb (getD children i 0) child) && begins card (drop (cardPlace deck i) deck)
+
+-- No entry before i answers, of those with that byte.
+pub record NoneAnswers (used : List Bool) (children : List ℕ) (child print : ℕ) (card deck : Text) (i : ℕ) : Type 0 where
+  pub none-answers :
+      (j : ℕ)
+      → j < i
+      → cardPlace deck j ≤ length deck
+      → getD deck (8192 + j) 0 ≡ print
+      → answering used children child card deck j ≡ false
+
+-- It is the first entry that answers, of those with that byte; or as many as there are entries, and none answers.
+pub record Found (used : List Bool) (children : List ℕ) (count child print : ℕ) (card deck : Text) (r : ℕ) : Type 0 where
+  pub within : r ≤ count
+  pub passed : NoneAnswers used children child print card deck r
+  pub found : r < count → cardPlace deck r ≤ length deck → answering used children child card deck r ≡ true
+
+-- No unused entry before i is of that child.
+pub record NoneWaits (used : List Bool) (children : List ℕ) (child i : ℕ) : Type 0 where
+  pub none-waits : (j : ℕ) → j < i → getD used j false ≡ false → ¬ (getD children j 0 ≡ child)
+
+-- It tells that no entry of that child is unused.
+pub record NoneLeft (used : List Bool) (children : List ℕ) (count child : ℕ) (r : Bool) : Type 0 where
+  pub none-left : r ≡ true → NoneWaits used children child count
 
 -- What a lookup owes: the first unused entry of that child and key, and the book without it.
 pub record LookedUp (bytes deck : Text) (child : ℕ) (key : Text) (before : Book) (r : Lookup) : Type 0 where
   pub looked-up :
       takeEntry child key (unused (trees bytes) deck before)
       ≡ record { found = oldText deck (r .old); left = unused (trees bytes) deck (r .book) }
-  pub inside : (start len : ℕ) → r .old ≡ At start len → start + len ≤ 4096
+  pub from-book : (p : Place) → r .old ≡ At p → (i : ℕ) × (i < before .count) × (getD (before .children) i 0 ≡ child) × (p ≡ placeAt before i)
   pub over : BookOver 4096 (r .book)
   pub same-entries : SameEntries before (r .book)
-
--- ---- One entry
-
--- an entry of the book is a source of its child
-pub entry-of : {bytes source : Text} {b : Book} → EntriesFit bytes source b → (i : ℕ) → i < b .count → EntryOf bytes (getD (b .children) i 0) (textAt source b i)
-unfolding entryAt entryOf
-entry-of {bytes} {source} {b} fit i h =
-    let e = fit .each i h in
-    record { tree = e .lens; at-child = e .at-child; typed = fit .typed (getD (b .children) i 0) (e .lens) (e .at-child); in-source = e .in-source }
-
--- the child of an entry is a lens of the program
-pub entry-node : {bytes : Text} {prepared : List ℕ} {child : ℕ} {text : Text} → Built bytes prepared → EntryOf bytes child text → LensNode bytes prepared child
-entry-node {bytes} {child} built e =
-    record {
-      built = built;
-      inside = omega (arith, lens-below (trees bytes) child (e .tree) (e .at-child), tree-length bytes);
-      tree = e .tree;
-      tree-is = lens-tree (trees bytes) child (e .tree) (e .at-child);
-    }
 
 -- ---- Entries in the deck are those of the old source
 
@@ -130,7 +140,11 @@ pub over-more : {m n : ℕ} {b : Book} → m ≤ n → BookOver m b → BookOver
 over-more h over =
     record {
       sized = over .sized;
-      fits = record { few = over .fits .few; inside = λ i k. omega (arith, over .fits .inside i k) };
+      fits = record {
+        few = over .fits .few;
+        inside = λ i k. omega (arith, over .fits .inside i k);
+        still-left = over .fits .still-left;
+      };
     }
 
 -- what stands within the front of a text
@@ -153,14 +167,39 @@ module _ (ts : Trees) (source deck : Text) {b : Book} (over : BookOver (length s
   unfolding unused
   unused-dealt = unused-same ts deck b source b 0 (b .count) (λ j l h. record { used-is = refl; entry-is = entry-dealt j (omega arith) })
 
+-- every entry is parsed in the deck, by the path that the deck holds
+pub entries-parsed-deck :
+    {bytes old trail : Text} {b : Book} {deck : Text}
+    → Dealt bytes old trail b deck
+    → BookOver (length old) b
+    → length old ≤ 4096
+    → length trail ≡ length old
+    → EntriesParsed bytes old trail b
+    → (i : ℕ) → i < b .count → OldParsed bytes (getD (b .children) i 0) deck (placeAt b i)
+entries-parsed-deck {old = old} {trail = trail} {b = b} {deck = deck} dealt over small as-long parsed i h =
+    let start = getD (b .starts) i 0 in
+    let len = getD (b .lengths) i 0 in
+    let ends = over .fits .inside i h in
+    record {
+      inside = omega (arith, ends);
+      parsed =
+          rw
+          (same-within (length trail) (trailOf deck) trail (dealt .trail-is ∙ sym (take-length trail)) start len (omega (arith, ends, as-long)), same-within (length old) deck old (dealt .source-is ∙ sym (take-length old)) start len ends)
+          (parsed .each i h);
+    }
+
 -- ---- What stays while entries are taken
 
 -- no entry is taken, or one
 pub same-all : (b : Book) → SameEntries b b
-same-all b = record { starts-same = refl; lengths-same = refl; children-same = refl; count-same = refl }
+same-all b = record { starts-same = refl; lengths-same = refl; bases-same = refl; children-same = refl; count-same = refl }
+
+pub same-leaving : (b : Book) (left : Set) → SameEntries b (leaving b left)
+same-leaving b left =
+    record { starts-same = refl; lengths-same = refl; bases-same = refl; children-same = refl; count-same = refl }
 
 pub same-marked : (b : Book) (i : ℕ) → SameEntries b (marked b i)
-same-marked b i = record { starts-same = refl; lengths-same = refl; children-same = refl; count-same = refl }
+same-marked b i = record { starts-same = refl; lengths-same = refl; bases-same = refl; children-same = refl; count-same = refl }
 
 module _ {b b′ : Book} (same : SameEntries b b′) where
   -- and more after that
@@ -169,6 +208,7 @@ module _ {b b′ : Book} (same : SameEntries b b′) where
       record {
         starts-same = later .starts-same ∙ same .starts-same;
         lengths-same = later .lengths-same ∙ same .lengths-same;
+        bases-same = later .bases-same ∙ same .bases-same;
         children-same = later .children-same ∙ same .children-same;
         count-same = later .count-same ∙ same .count-same;
       }
@@ -181,71 +221,17 @@ module _ {b b′ : Book} (same : SameEntries b b′) where
   -- the cards are still those of the entries
   pub cards-fit-same : {bytes deck : Text} → CardsFit bytes deck b → CardsFit bytes deck b′
   cards-fit-same {bytes} {deck} fit =
-      record { each = λ i h. rw (same-entry (trees bytes) deck i) (fit .each i (omega (arith, same .count-same))) }
-
--- ---- A book of which no entry is taken
-
-module _ (ts : Trees) (old : Text) (b : Book) where
-  -- at most as many are left as there are
-  left-few : (i n : ℕ) → length (unusedFrom ts old b i n) ≤ n
-  unfolding unusedFrom
-  left-few i zero = omega arith
-  left-few i (suc n) = go (getD (b .used) i false) (left-few (suc i) n)
-    where
-      go : (u : Bool) → length (unusedFrom ts old b (suc i) n) ≤ n → length (cond u (unusedFrom ts old b (suc i) n) (entryAt ts old b i ∷ unusedFrom ts old b (suc i) n)) ≤ suc n
-      go true few = omega arith
-      go false few = omega arith
-
-  -- where as many are left as there are, what holds of those left holds of every entry
-  all-left :
-      (P : Entry → Type 0) (i n : ℕ)
-      → length (unusedFrom ts old b i n) ≡ n
-      → All P (unusedFrom ts old b i n)
-      → (j : ℕ) → i ≤ j → j < i + n → P (entryAt ts old b j)
-  unfolding unusedFrom
-  all-left P i zero e all j l h = absurd (omega arith)
-  all-left P i (suc n) e all j l h = go (getD (b .used) i false) e all (all-left P (suc i) n) (eqb j i) refl
-    where
-      rest : Entries
-      rest = unusedFrom ts old b (suc i) n
-
-      go :
-          (u : Bool)
-          → length (cond u rest (entryAt ts old b i ∷ rest)) ≡ suc n
-          → All P (cond u rest (entryAt ts old b i ∷ rest))
-          → (length rest ≡ n → All P rest → (k : ℕ) → suc i ≤ k → k < suc i + n → P (entryAt ts old b k))
-          → (first : Bool)
-          → eqb j i ≡ first
-          → P (entryAt ts old b j)
-      go true e all later first f = absurd (omega (arith, left-few (suc i) n))
-      go false e (here, all) later true f = rw (eqb-true j i f) here
-      go false e (here, all) later false f = later (omega arith) all j (let other = eqb-false j i f in omega arith) (omega arith)
-
-  -- so every entry is a source of its child, where those left are
-  each-left :
-      length (unused ts old b) ≡ b .count
-      → All (EntryFits ts) (unused ts old b)
-      → (i : ℕ) → i < b .count → EntryFits ts (entryAt ts old b i)
-  unfolding unused
-  each-left e all i h = all-left (EntryFits ts) 0 (b .count) e all i (omega arith) (omega arith)
-
--- ---- What a call begins with, where the program is accepted
-
-module _ (bytes : Text) (l : Lens) (accepted-as : program bytes ≡ gives l) where
-  -- every lens of the program keeps the typing rules
-  all-typed : (k : ℕ) (m : Lens) → lensAt (trees bytes) k ≡ some m → WellTyped m
-  all-typed k m e = lens-typed bytes (accepted-iff bytes .0 (l, accepted-as)) k m e .0
-
-  -- the book of an old source's entries, none of them taken
-  pub entries-fit-listed :
-      {old : Text} {b : Book}
-      → In (language source l) old
-      → unused (trees bytes) old b ≡ entries l old
-      → length (unused (trees bytes) old b) ≡ b .count
-      → EntriesFit bytes old b
-  entries-fit-listed {old} {b} inside listed counted =
-      let (typed, numbered) = accepted bytes l accepted-as in
       record {
-        typed = all-typed;
-        each = each-left (trees bytes) old b counted (rw listed (entries-fit (trees bytes) l numbered typed old inside));
+        inside = λ i h. fit .inside i (omega (arith, same .count-same));
+        each = λ i h. rw (same-entry (trees bytes) deck i) (fit .each i (omega (arith, same .count-same)));
+      }
+
+  -- and the entries are parsed as they were
+  pub parsed-same : {bytes old trail : Text} → EntriesParsed bytes old trail b → EntriesParsed bytes old trail b′
+  parsed-same parsed =
+      record {
+        each = λ i h.
+            rw
+            (same .starts-same, same .lengths-same, same .bases-same, same .children-same)
+            (parsed .each i (omega (arith, same .count-same)));
       }

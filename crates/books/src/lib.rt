@@ -1,21 +1,31 @@
-// The entries of an old source: the book of them, the cards of their keys, and lookups by key.
-pub mod cards;
-pub mod deck;
+// The entries of an old source: the book of them, and lookups by key.
+use positions::Set;
+
 pub mod entries;
 pub mod lookups;
 
-// The old source's entries: where each stands in the source, the child node of its match, and whether it was taken.
+// The old source's entries: where each stands in the source and where its match's positions begin there, the child node of its match, and whether it was taken. `left` has
+// the children of which an entry may be left: no other has one.
 pub struct Book {
     pub starts: [u16; 256],
     pub lengths: [u16; 256],
+    pub bases: [u8; 256],
     pub children: [u8; 256],
     pub used: [bool; 256],
+    pub left: Set,
     pub count: usize,
 }
 
-// An old text, where there is one: where it stands in the old source.
+// Where an old text stands in the old source, and where its node's positions begin.
+pub struct Place {
+    pub start: usize,
+    pub len: usize,
+    pub base: usize,
+}
+
+// An old text, where there is one.
 pub enum Old {
-    At { start: usize, len: usize },
+    At(Place),
     Nothing,
 }
 

@@ -1,39 +1,45 @@
 -- The book that a call begins with, and the source that is written with it.
 use mathlib.Core.Path.{_≡_, refl, sym, ap, subst, _∙_}
 use mathlib.Core.Bool.{Bool, true, false, _||_}
-use mathlib.Core.List.{List}
-use mathlib.Core.Option.{Option, none, some}
-use Prim.Native.Nat.{ℕ, _+_, _-_, _*_, _≤_, _<_}
+use mathlib.Core.List.{List, []}
+use mathlib.Core.Option.{some}
+use Prim.Native.Nat.{ℕ, _-_, _≤_, _<_}
 use native.Mathlib.Omega.{arith}
 use lib.Dec.{ltb}
-use lib.ListN.{length, take, drop}
+use lib.ListN.{length}
 use lib.Seq.{take-length}
-use borrow.Author.Tests.{lt-ltb, le-ltb, not-false}
+use borrow.Author.Tests.{lt-ltb, le-ltb}
 use Rattle.semantics.specs.Text.{Text}
-use Rattle.semantics.specs.Pattern.{In, matches}
-use Rattle.semantics.specs.Lens.{Lens, Side, source, sheet, language, entries, write, put, create}
+use Rattle.semantics.specs.Lens.{Lens, source, sheet, entries, andThen, put}
 use Rattle.semantics.specs.Table.{nodeCount, treeAt, trees}
-use Rattle.semantics.specs.Calls.{gives, program, maxText, maxEntries, tooLong, notOf}
-use Rattle.laws.specs.Membership.{matches-in}
-use Rattle.automaton.specs.declared.Side.the-variants.{Source, Sheet}
+use Rattle.semantics.specs.Calls.{gives, program, maxText, maxEntries, tooLong}
+use Rattle.automaton.specs.declared.Side.{Side}
 use Rattle.automaton.specs.Rows.{sideOf}
+use Rattle.lens.specs.declared.Mode.{Mode}
 use Rattle.lens.specs.declared.Wrote.{Wrote}
-use Rattle.lens.specs.Parsed.{parsed-fits}
+use Rattle.lens.specs.declared.Wrote.the-variants.{Count}
+use Rattle.lens.specs.Overlay.{writes-nothing}
+use Rattle.lens.specs.Parsed.{parsed-length}
+use Rattle.lens.specs.Reading.{reading}
+use Rattle.lens.specs.Emitting.{Emits}
 use Rattle.books.specs.declared.Book.{Book}
 use Rattle.books.specs.Listed.{Sized, unused, unused-none, fits-none}
-use Rattle.books.specs.Looking.{Dealt, SheetRoom, over-more, unused-dealt, entries-fit-listed}
+use Rattle.books.specs.Looking.{Dealt, EntriesParsed, OldParsed, partAt, over-more, unused-dealt, entries-parsed-deck, same-all}
+use Rattle.decks.specs.Below.{BelowIs}
+use Rattle.decks.specs.Dealing.{SheetRoom}
 use Rattle.listing.specs.declared.Listing.{Listing}
 use Rattle.listing.specs.Listing.{treeEntries, entries-of, ToList, StandsIn, Untaken, Lists, PutBehind}
+use Rattle.bookless.specs.Bookless.{Given}
 use Rattle.writer.specs.declared.Done.{Done as Did}
-use Rattle.writer.specs.Writing.{Lent, WritesNode, padNeeded}
+use Rattle.writer.specs.Writing.{WritesBehind, Fitted, Progress}
 use Rattle.writer.specs.Writing.{Ready as ToWrite}
 use Rattle.answers.specs.Answers.{Ready}
 use Rattle.answers.specs.Results.{RootPath, Makes}
 use Rattle.calls.specs.declared.put.Desk.{Desk}
-use Rattle.calls.specs.declared.put.Desk.the-variants.{Small, Full, Long}
+use Rattle.calls.specs.declared.put.Desk.the-variants.{Small, Long, Full}
 use Rattle.calls.specs.declared.put.Sourced.{Sourced}
-use Rattle.calls.specs.declared.put.Sourced.the-variants.{Done, Long as Long′}
-use Rattle.calls.specs.Sources.{SourceReady, SheetReady, BookReady, ListsSource, MakesOr}
+use Rattle.calls.specs.declared.put.Sourced.the-variants.{Done, Short}
+use Rattle.calls.specs.Sources.{TextReady, BookReady, ListsSource, wholeOf, MakesOr}
 use Rattle.answers.proofs.Giving.{root-at, root-node, too-long, not-too-long}
 
 -- ---- The empty book
@@ -44,6 +50,10 @@ module _ {b : Book} (empty : (b .count ≡ 0) × Sized b) where
   untaken-none bytes old =
       record { fits = fits-none (length old) b (empty .0); counted = rw (unused-none (trees bytes) old b (empty .0), empty .0) refl }
 
+  -- and each is parsed
+  parsed-none : (bytes old trail : Text) → EntriesParsed bytes old trail b
+  parsed-none bytes old trail = record { each = λ i h. absurd (omega (arith, empty .0)) }
+
   -- a source is listed into it
   pub to-list : {bytes old : Text} {prepared : List ℕ} → Ready bytes prepared → length old ≤ maxText → ToList bytes prepared old 0 b
   to-list ready short = record { built = ready .built; place-small = omega arith; sized = empty .1; few = omega (arith, empty .0) }
@@ -52,33 +62,34 @@ module _ {b : Book} (empty : (b .count ≡ 0) × Sized b) where
 stands-whole : (t : Text) → StandsIn t t 0
 stands-whole t = record { inside = omega arith; text-is = take-length t }
 
--- a text that passes the test belongs
-passes-in : (side : Side) (text : Text) (l : Lens) → notOf side l text ≡ false → In (language side l) text
-unfolding notOf
-passes-in side text l e = matches-in (language side l) text (not-false (matches (language side l) text) e)
-
 -- ---- The root
 
--- a sheet whose path was found belongs to the root
-pub sheet-ready : {bytes new : Text} {path : List ℕ} {found : Bool} → length new ≤ maxText → RootPath bytes Sheet new path found → found ≡ true → SheetReady bytes new
-unfolding sideOf
-sheet-ready short root told = record { new-short = short; new-fits = parsed-fits (root .parsed told) }
-
--- and so does a source
-pub source-ready : {bytes text : Text} {path : List ℕ} {found : Bool} → RootPath bytes Source text path found → found ≡ true → SourceReady bytes text path
-unfolding sideOf
-source-ready root told = record { parsed = root .parsed told }
+-- a text whose path was found belongs to the root
+pub text-ready :
+    {bytes text : Text} {side : Side} {path : List ℕ} {found : Bool}
+    → length text ≤ maxText
+    → RootPath bytes side text path found
+    → found ≡ true
+    → TextReady bytes (sideOf side) text path
+text-ready short root told = record { short = short; parsed = root .parsed told }
 
 module _ {bytes : Text} {prepared : List ℕ} (ready : Ready bytes prepared) {root : ℕ} (root-is : root ≡ nodeCount bytes - 1) where
+  -- what is read off it is written
+  pub root-reads :
+      {mode : Mode} {text before after : Text} {wrote : Wrote}
+      → Emits bytes root mode text before after wrote
+      → Makes bytes (λ l. reading mode l text) before after wrote
+  root-reads emitted = record { makes = λ l e. emitted .writes l (root-at ready root-is l e) }
+
   -- what was listed into an empty book are the source's entries
   pub lists-root :
-      {old : Text} {b : Book} {r : Listing}
-      → length old ≤ maxText
+      {old trail : Text} {b : Book} {r : Listing}
+      → TextReady bytes source old trail
       → (b .count ≡ 0) × Sized b
-      → Lists (trees bytes) (treeEntries (treeAt (trees bytes) root) old) old 0 b r
-      → ListsSource bytes old r
-  lists-root {old} {b} {r} short empty lists =
-      record { over-is = λ l e. over-is l e (r .over) refl; book-ready = λ l e within inside. ready-book l e within inside }
+      → Lists bytes (treeEntries (treeAt (trees bytes) root) old) old trail 0 b r
+      → ListsSource bytes old trail r
+  lists-root {old} {trail} {b} {r} known empty lists =
+      record { over-is = λ l e. over-is l e (r .over) refl; book-ready = ready-book }
     where
       all : PutBehind (trees bytes) old (treeEntries (treeAt (trees bytes) root) old) b r
       all = lists .lists old (stands-whole old) (untaken-none empty bytes old)
@@ -97,68 +108,81 @@ module _ {bytes : Text} {prepared : List ℕ} (ready : Ready bytes prepared) {ro
           let count = all .untaken o .counted in
           sym (le-ltb maxEntries (length (entries l old)) (rw (← listed o l e) (omega (arith, count, lists .few))))
 
-      ready-book : (l : Lens) → program bytes ≡ gives l → r .over ≡ false → notOf source l old ≡ false → BookReady bytes old (r .book)
-      ready-book l e within inside =
+      ready-book : r .over ≡ false → BookReady bytes old trail (r .book)
+      ready-book within =
           record {
             over = record { sized = lists .sized; fits = all .untaken within .fits };
-            entries-fit = entries-fit-listed bytes l e (passes-in source old l inside) (listed within l e) (all .untaken within .counted);
-            old-short = short;
+            entries-parsed = lists .lists-parsed old trail (stands-whole old) (stands-whole trail) (parsed-none empty bytes old trail) within;
+            old-ready = known;
             listed = listed within;
           }
 
-  -- the pad has room from the root down
-  pub root-lent : {new pad : List ℕ} → SheetReady bytes new → padNeeded bytes root ≤ length pad → Lent bytes root new pad
-  root-lent given room = record { new-short = given .new-short; new-fits = rw root-is (given .new-fits); pad-room = room }
-
-  -- the book of the old source and a deck with its cards are what the root puts with
-  pub to-put : {old deck : Text} {b : Book} → BookReady bytes old b → Dealt bytes old b deck → 4096 + 4100 * b .count ≤ length deck → ToWrite bytes prepared root deck b
-  to-put book dealt size =
-      record {
-        lens-node = root-node ready root-is;
-        over = over-more (book .old-short) (book .over);
-        cards-fit = dealt .cards-fit;
-        deck-size = size;
-      }
-
-  -- an empty book needs no cards
-  pub to-create : {deck : Text} {b : Book} → (b .count ≡ 0) × Sized b → length deck ≡ 4096 → ToWrite bytes prepared root deck b
-  to-create {b} empty size =
-      record {
-        lens-node = root-node ready root-is;
-        over = record { sized = empty .1; fits = fits-none 4096 b (empty .0) };
-        cards-fit = record { each = λ i h. absurd (omega (arith, empty .0)) };
-        deck-size = omega (arith, empty .0);
-      }
-
   -- ---- What the root writes
 
-  pub root-makes :
-      {deck : Text} {old : Option Text} {new before after : Text} {b : Book} {done : Did}
-      → WritesNode bytes root deck old new b before after done
-      → Makes bytes (λ l. write l old new (unused (trees bytes) deck b) .text) before after (done .wrote)
-  root-makes wrote = record { makes = λ l e. wrote .writes l (root-at ready root-is l e) .bytes-are }
+  module _ {old trail deck : Text} {b : Book} (book : BookReady bytes old trail b) (dealt : Dealt bytes old trail b deck) where
+    -- the path is as long as the old source
+    as-long : length trail ≡ length old
+    as-long = parsed-length (book .old-ready .parsed)
 
-module _ (deck new : Text) {bytes before after : Text} {b : Book} {wrote : Wrote} where
-  -- with the old source's entries it is put
-  pub put-made :
-      {old : Text}
-      → BookReady bytes old b
-      → Dealt bytes old b deck
-      → Makes bytes (λ l. write l (some (take (length old) (drop 0 deck))) new (unused (trees bytes) deck b) .text) before after wrote
-      → Makes bytes (λ l. put l new old) before after wrote
-  unfolding put
-  put-made {old} book dealt made =
-      record {
-        makes = λ l e.
-            let same = unused-dealt (trees bytes) old deck (book .over) (dealt .source-is) ∙ book .listed l e in
-            rw (dealt .source-is, same) at (made .makes l e);
-      }
+    -- the book of the old source and a deck with its cards are what the root puts with
+    pub to-put : {below : List ℕ} → BelowIs bytes below → 9216 ≤ length deck → ToWrite bytes prepared root deck below b
+    to-put below-is size =
+        record {
+          lens-node = root-node ready root-is;
+          looks-in = record {
+            over = over-more (book .old-ready .short) (book .over);
+            cards-fit = dealt .cards-fit;
+            entries-parsed = entries-parsed-deck dealt (book .over) (book .old-ready .short) as-long (book .entries-parsed);
+            deck-room = size;
+          };
+          below-is = below-is;
+        }
 
-  -- with no entries and no old source it is create
-  pub create-made :
-      (b .count ≡ 0) × Sized b → Makes bytes (λ l. write l none new (unused (trees bytes) deck b) .text) before after wrote → Makes bytes (λ l. create l new) before after wrote
-  unfolding create
-  create-made empty made = record { makes = λ l e. rw (unused-none (trees bytes) deck b (empty .0)) at (made .makes l e) }
+    -- the old source in the deck is parsed by the path there
+    old-in-deck : OldParsed bytes root deck (wholeOf (length old))
+    old-in-deck =
+        record {
+          inside = omega (arith, book .old-ready .short);
+          parsed = rw (root-is, ← as-long, dealt .trail-is, as-long, dealt .source-is) (book .old-ready .parsed);
+        }
+
+    -- it is what a sheet is put onto
+    pub to-give :
+        {new path : List ℕ}
+        → TextReady bytes sheet new path
+        → 9216 ≤ length deck
+        → Given bytes (record { node = root; base = 0 }) new path (wholeOf (length old)) deck
+    to-give known size =
+        record {
+          sheet-given = record { new-short = known .short; parsed = rw root-is (known .parsed); deck-room = omega arith };
+          old-parsed = old-in-deck;
+        }
+
+    -- what is then written, from nothing on, is what the root puts
+    pub put-made :
+        (new : Text) {before after : Text} {r : Did}
+        → WritesBehind bytes root deck (some (partAt deck (wholeOf (length old)))) new (record { wrote = Count 0; book = b }) before after r
+        → Makes bytes (λ l. put l new old) before after (r .wrote)
+    unfolding put andThen
+    put-made new {before} {after} {r} behind =
+        record {
+          makes = λ l e.
+              let same = unused-dealt (trees bytes) old deck (book .over) (dealt .source-is) ∙ book .listed l e in
+              let start : Progress bytes deck (record { text = []; book = unused (trees bytes) deck b }) b before before (record { wrote = Count 0; book = b }) =
+              record {
+                bytes-are = writes-nothing before;
+                book-is = λ counted. refl;
+                over = over-more (book .old-ready .short) (book .over);
+                same-entries = same-all b;
+              } in
+              let all =
+              behind .writes l (root-at ready root-is l e) .progress (record { text = []; book = unused (trees bytes) deck b }) b before start in
+              rw (dealt .source-is, same) at (all .bytes-are);
+        }
+
+-- nothing was written so far
+pub none-written : (out : Text) → Fitted (Count 0) out
+none-written out = record { within = λ n e. let z : _≡_ {A = ℕ} 0 n = cc e in omega arith }
 
 -- ---- The lengths of both texts, of which either may be too long
 
@@ -182,45 +206,42 @@ long-room s m p = record { least-room = omega arith; same-room = omega arith; ma
 
 -- how many desks there are after a desk, in the order in which they are tried
 abbrev pub desksAfter : Desk → ℕ
-desksAfter Small = 1
-desksAfter Full = 1
-desksAfter Long = 0
-
--- which desk has a small deck
-abbrev pub smallDeck : Desk → ℕ
-smallDeck Small = 1
-smallDeck Full = 0
-smallDeck Long = 0
-
--- the others are not that one
-pub not-small : {A : Type 0} {desk : Desk} → smallDeck desk ≡ 0 → desk ≡ Small → A
-not-small other e = absurd (let z : _≡_ {A = ℕ} 0 1 = sym other ∙ ap smallDeck e in omega arith)
+desksAfter Small = 2
+desksAfter Long = 1
+desksAfter Full = 0
 
 -- whether a desk had room
 abbrev hadRoom : Sourced → ℕ
 hadRoom (Done wrote) = 1
-hadRoom Long′ = 0
+hadRoom Short = 0
 
-module _ {room : ℕ} {bytes : Text} {make : Lens → Text} {before after : Text} where
+module _ {room deck : ℕ} {bytes : Text} {make : Lens → Text} {path path′ : List ℕ} {before after : Text} where
   -- it had, and wrote
-  pub desk-wrote : {wrote : Wrote} → Makes bytes make before after wrote → MakesOr room bytes make before after (Done wrote)
+  pub desk-wrote : {wrote : Wrote} → Makes bytes make before after wrote → MakesOr room deck bytes make path path′ before after (Done wrote)
   desk-wrote makes =
       record {
         done = λ w e. subst (Makes bytes make before after) (cc e) makes;
-        long = λ e. absurd (let z : _≡_ {A = ℕ} 1 0 = ap hadRoom e in omega arith);
+        short = λ e. absurd (let z : _≡_ {A = ℕ} 1 0 = ap hadRoom e in omega arith);
       }
 
   -- it had not, and wrote nothing
-  pub desk-short : after ≡ before → room < 524288 → MakesOr room bytes make before after Long′
-  desk-short same short =
-      record { done = λ w e. absurd (let z : _≡_ {A = ℕ} 0 1 = ap hadRoom e in omega arith); long = λ e. (same, short) }
+  pub desk-short : after ≡ before → path′ ≡ path → (524288 ≤ room → deck < 1058304) → MakesOr room deck bytes make path path′ before after Short
+  desk-short same-out same-path less =
+      record { done = λ w e. absurd (let z : _≡_ {A = ℕ} 0 1 = ap hadRoom e in omega arith); short = λ e. (same-out, same-path, less) }
 
--- what the next desk writes is then what the root makes
-pub desk-next :
-    {room : ℕ} {bytes : Text} {make : Lens → Text} {before mid after : Text} {tried : Sourced} {wrote : Wrote}
-    → MakesOr room bytes make before mid tried → tried ≡ Long′ → Makes bytes make mid after wrote → Makes bytes make before after wrote
-desk-next tried e next = rw (tried .long e .0) at next
+  module _ {tried : Sourced} (known : MakesOr room deck bytes make path path′ before after tried) (e : tried ≡ Short) where
+    -- the sheet and its path are then as they were
+    pub still-ready : {new : Text} → TextReady bytes sheet new path → TextReady bytes sheet new path′
+    still-ready ready = rw (known .short e .1) ready
 
--- the last desk always has room
-pub desk-last : {A : Type 0} {bytes : Text} {make : Lens → Text} {before after : Text} {tried : Sourced} → MakesOr 524288 bytes make before after tried → tried ≡ Long′ → A
-desk-last tried e = absurd (omega (arith, tried .long e .1))
+    -- what the next desk writes is then what the root makes
+    pub desk-next : {last : Text} {wrote : Wrote} → Makes bytes make after last wrote → Makes bytes make before last wrote
+    desk-next next = rw (known .short e .0) at next
+
+-- the full desk always has room
+pub desk-last :
+    {A : Type 0} {bytes : Text} {make : Lens → Text} {path path′ : List ℕ} {before after : Text} {tried : Sourced}
+    → MakesOr 524288 1058304 bytes make path path′ before after tried
+    → tried ≡ Short
+    → A
+desk-last tried e = absurd (omega (arith, tried .short e .2 (omega arith)))

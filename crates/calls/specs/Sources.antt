@@ -6,50 +6,54 @@ use Prim.Native.Nat.{ℕ, _-_, _≤_, _<_}
 use lib.Dec.{ltb}
 use lib.ListN.{length}
 use Rattle.semantics.specs.Text.{Text}
-use Rattle.semantics.specs.Lens.{Lens, source, sheet, entries}
+use Rattle.semantics.specs.Lens.{Lens, source, entries, put}
+use Rattle.semantics.specs.Lens.{Side as SideOf}
 use Rattle.semantics.specs.Table.{nodeCount, trees}
-use Rattle.semantics.specs.Calls.{gives, program, maxText, maxEntries, notOf}
+use Rattle.semantics.specs.Calls.{gives, refuseIf, program, maxText, maxEntries, output}
 use Rattle.lens.specs.declared.Wrote.{Wrote}
-use Rattle.lens.specs.Emitting.{Fits}
 use Rattle.lens.specs.Parsed.{Parsed}
-use Rattle.answers.specs.Results.{Makes}
+use Rattle.answers.specs.declared.Answer.{Answer}
+use Rattle.answers.specs.Results.{GivesText, Makes}
 use Rattle.books.specs.declared.Book.{Book}
+use Rattle.books.specs.declared.Place.{Place}
 use Rattle.books.specs.Listed.{unused}
-use Rattle.books.specs.Looking.{BookOver, EntriesFit}
+use Rattle.books.specs.Looking.{BookOver, EntriesParsed}
 use Rattle.listing.specs.declared.Listing.{Listing}
-use Rattle.calls.specs.declared.put.Desk.{Desk}
-use Rattle.calls.specs.declared.put.Desk.the-variants.{Small}
 use Rattle.calls.specs.declared.put.Sourced.{Sourced}
-use Rattle.calls.specs.declared.put.Sourced.the-variants.{Done, Long}
+use Rattle.calls.specs.declared.put.Sourced.the-variants.{Done, Short}
 
--- A sheet of at most 4,096 bytes that belongs to the root.
-pub record SheetReady (bytes new : Text) : Type 0 where
-  pub new-short : length new ≤ maxText
-  pub new-fits : Fits bytes (nodeCount bytes - 1) sheet new
+-- A text of at most 4,096 bytes that belongs to the root on a side, and its least path.
+pub record TextReady (bytes : Text) (side : SideOf) (text : Text) (path : List ℕ) : Type 0 where
+  pub short : length text ≤ maxText
+  pub parsed : Parsed bytes (nodeCount bytes - 1) side 0 path text
 
--- A source that belongs to the root, and its least path.
-pub record SourceReady (bytes text : Text) (path : List ℕ) : Type 0 where
-  pub parsed : Parsed bytes (nodeCount bytes - 1) source 0 path text
-
--- The book of the old source, a text of at most 4,096 bytes: the entries of the root.
-pub record BookReady (bytes old : Text) (b : Book) : Type 0 where
+-- The book of an old source with its path: the entries of the root, each parsed at its child.
+pub record BookReady (bytes old trail : Text) (b : Book) : Type 0 where
   pub over : BookOver (length old) b
-  pub entries-fit : EntriesFit bytes old b
-  pub old-short : length old ≤ maxText
+  pub entries-parsed : EntriesParsed bytes old trail b
+  pub old-ready : TextReady bytes source old trail
   pub listed : (l : Lens) → program bytes ≡ gives l → unused (trees bytes) old b ≡ entries l old
 
 -- The book has the entries of the old source, or there are more than 256.
-pub record ListsSource (bytes old : Text) (r : Listing) : Type 0 where
+pub record ListsSource (bytes old trail : Text) (r : Listing) : Type 0 where
   pub over-is : (l : Lens) → program bytes ≡ gives l → r .over ≡ ltb maxEntries (length (entries l old))
-  pub book-ready : (l : Lens) → program bytes ≡ gives l → r .over ≡ false → notOf source l old ≡ false → BookReady bytes old (r .book)
+  pub book-ready : r .over ≡ false → BookReady bytes old trail (r .book)
+
+-- What the root puts is given, or refused for the number of the old source's entries or for its length.
+pub record PutsInto (bytes new old before after : Text) (answer : Answer) : Type 0 where
+  pub puts :
+      (l : Lens)
+      → program bytes ≡ gives l
+      → GivesText (refuseIf (ltb maxEntries (length (entries l old))) 15 (output (length before) (put l new old))) before after answer
 
 -- ---- The desks of a put
 
--- What the root makes was written; or the room for an entry's sheet is shorter than such a sheet can be, and nothing was written.
-pub record MakesOr (room : ℕ) (bytes : Text) (make : Lens → Text) (before after : Text) (tried : Sourced) : Type 0 where
-  pub done : (wrote : Wrote) → tried ≡ Done wrote → Makes bytes make before after wrote
-  pub long : tried ≡ Long → (after ≡ before) × (room < 524288)
+-- where an old source of that length stands in the deck, and where its positions begin
+abbrev pub wholeOf : ℕ → Place
+wholeOf len = record { start = 0; len = len; base = 0 }
 
--- The desk has a card for each entry.
-pub record DeskFits (desk : Desk) (b : Book) : Type 0 where
-  pub few : desk ≡ Small → b .count ≤ 8
+-- What the root makes was written; or a desk with that much room for an entry's sheet and in its deck is not the full one, and both the slice and the path are
+-- as they were.
+pub record MakesOr (room deck : ℕ) (bytes : Text) (make : Lens → Text) (path path′ : List ℕ) (before after : Text) (tried : Sourced) : Type 0 where
+  pub done : (wrote : Wrote) → tried ≡ Done wrote → Makes bytes make before after wrote
+  pub short : tried ≡ Short → (after ≡ before) × (path′ ≡ path) × (524288 ≤ room → deck < 1058304)

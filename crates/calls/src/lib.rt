@@ -3,4 +3,4 @@ pub mod create;
 pub mod get;
 pub mod line;
 pub mod put;
-mod writing;
+mod reading;

@@ -40,11 +40,6 @@ module _ (gives : ℕ → ℕ → Type 0) where
   gathered-none s none =
       record { held-iff = λ q. (λ e. absurd (not-both e (none q)), λ g. let (p, l, x) = g in absurd (omega arith)) }
 
-  -- Nor to an empty set, where none gives anything.
-  pub gathered-not : (n : ℕ) (s : Set) → Empty s → ((p q : ℕ) → gives p q → ⊥) → Gathered gives n s
-  gathered-not n s none not =
-      record { held-iff = λ q. (λ e. absurd (not-both e (none q)), λ g. let (p, l, x) = g in absurd (not p q x)) }
-
   -- Positions from n to before m that give nothing make no difference.
   pub gathered-skip : (n m : ℕ) (s : Set) → n ≤ m → ((p q : ℕ) → n ≤ p → p < m → gives p q → ⊥) → Gathered gives n s ↔ Gathered gives m s
   gathered-skip n m s h none = (

@@ -1,5 +1,3 @@
 pub mod Gathering
 pub mod Steps
 pub mod Reading
-pub mod Marking
-pub mod Cutting

@@ -10,15 +10,14 @@ use Rattle.semantics.specs.Pattern.{Pattern, In, matches}
 use Rattle.semantics.specs.Table.{positions}
 use Rattle.laws.specs.Basics.{not-both, false-of-not-true}
 use Rattle.laws.specs.Membership.{matches-iff}
-use Rattle.laws.specs.PositionAutomaton.{standsAt, firstAt, followAt, restAt, ReadsAt, first-law, follow-law, last-law}
+use Rattle.laws.specs.PositionAutomaton.{standsAt, followAt, restAt, ReadsAt, first-law, follow-law, last-law}
 use Rattle.positions.specs.declared.Set.{Set}
 use Rattle.positions.specs.Positions.{holds, Empty, Shared}
 use Rattle.automaton.specs.declared.Automaton.{Automaton}
-use Rattle.automaton.specs.Rows.{Room, Describes, standsIn, followOf, precedingOf}
+use Rattle.automaton.specs.Rows.{Room, Describes, standsIn}
 use Rattle.language.specs.declared.Run.{Run}
-use Rattle.language.specs.Sets.{Gathered, Standing, Onward, Leading}
-use Rattle.language.specs.Runs.{Forward, Behind, Backward}
-use Rattle.language.proofs.Gathering.{gathered-not}
+use Rattle.language.specs.Sets.{Gathered, Standing, Onward, Back}
+use Rattle.language.specs.Runs.{Forward, Behind}
 
 -- Two tests that are true of the same agree.
 same-test : (a b : Bool) → (a ≡ true) ↔ (b ≡ true) → a ≡ b
@@ -61,6 +60,10 @@ module _ {r : Pattern} {a : Automaton} {prepared : List ℕ} (room : Room a prep
   unfolding standsIn standsAt
   stands-is p c l = let row = d .row-is p l in rw (row .low-is, row .high-is)
 
+  -- So a position of a set gives itself where by the pattern the byte may stand at it.
+  standing-at : {s : Set} {c : ℕ} (p : ℕ) → p < positions r → holds s p ≡ true → standsAt r p c ≡ true → Standing prepared a s c p p
+  standing-at {s} {c} p l e f = record { itself = refl; held = e; stands = stands-is p c l ∙ f }
+
   module _ {s : Set} {c : ℕ} {here : Set} (stood : Gathered (Standing prepared a s c) (a .count) here) where
     -- The positions of a set at which the byte may stand.
     stood-iff : (p : ℕ) → (holds here p ≡ true) ↔ ((p < positions r) × (holds s p ≡ true) × (standsAt r p c ≡ true))
@@ -71,7 +74,7 @@ module _ {r : Pattern} {a : Automaton} {prepared : List ℕ} (room : Room a prep
           rw (g .itself) (k, g .held, sym (stands-is p c k) ∙ g .stands),
       λ h.
           let (l, e, f) = h in
-          stood .held-iff q .1 (q, omega (arith, d .count-is), record { itself = refl; held = e; stands = stands-is q c l ∙ f }),
+          stood .held-iff q .1 (q, omega (arith, d .count-is), standing-at q l e f),
     )
 
     -- To read a byte from one of a set's positions is to be past one at which it may stand.
@@ -105,11 +108,10 @@ module _ {r : Pattern} {a : Automaton} {prepared : List ℕ} (room : Room a prep
           let y = follow-law r p l e u .0 (x .rest-in) in
           let q = y .position in
           let f = d .row-is p l .follow-is q ∙ y .allowed in
-          let there : Standing prepared a s c p p = record { itself = refl; held = x .allowed; stands = stands-is p c l ∙ x .stands } in
           record {
             position = q;
             in-pattern = y .in-pattern;
-            allowed = gone .held-iff q .1 (p, omega (arith, d .count-is), record { stood = there; follows = f });
+            allowed = gone .held-iff q .1 (p, omega (arith, d .count-is), record { stood = standing-at p l (x .allowed) (x .stands); follows = f });
             stands = y .stands;
             rest-in = y .rest-in;
           },
@@ -123,23 +125,6 @@ module _ {r : Pattern} {a : Automaton} {prepared : List ℕ} (room : Room a prep
           record { position = q; in-pattern = y .in-pattern; allowed = f; stands = y .stands; rest-in = y .rest-in }
           ) in
           record { position = p; in-pattern = k; allowed = g .stood .held; stands = sym (stands-is p c k) ∙ g .stood .stands; rest-in = i },
-    )
-
-    -- Where the set has the positions behind which t may stand, the byte and t can be read from one of the allowed positions exactly if one
-    -- of them is among those at which it may stand.
-    read-iff :
-        (t : Text) → ((p : ℕ) → p < positions r → (holds s p ≡ true) ↔ In (restAt r p) t)
-        → (may : Set) (allowed : ℕ → Bool) → ((p : ℕ) → holds may p ≡ allowed p)
-        → ReadsAt r allowed c t ↔ Shared may here
-    read-iff t behind may allowed is = (
-      λ x.
-          let p = x .position in
-          let l = x .in-pattern in
-          (p, few p l, is p ∙ x .allowed, stood-iff p .1 (l, behind p l .1 (x .rest-in), x .stands)),
-      λ h.
-          let (p, l, e, f) = h in
-          let (k, g, m) = stood-iff p .0 f in
-          record { position = p; in-pattern = k; allowed = sym (is p) ∙ e; stands = m; rest-in = behind p k .0 g },
     )
 
   -- ---- The run forward
@@ -159,7 +144,7 @@ module _ {r : Pattern} {a : Automaton} {prepared : List ℕ} (room : Room a prep
         onward-iff = λ e u. rw (append-assoc t (c ∷ []) (e ∷ u)) (Iff·trans (known .onward-iff c (e ∷ u)) (onward-iff stood gone e u));
       }
 
-  -- ---- The run backward
+  -- ---- One byte backward
 
   -- The text ends behind its last positions.
   pub behind-begins : Behind r [] (a .last)
@@ -167,55 +152,26 @@ module _ {r : Pattern} {a : Automaton} {prepared : List ℕ} (room : Room a prep
       record { behind-iff = λ p l. (λ e. last-law r p l .1 (sym (d .last-is p) ∙ e), λ i. d .last-is p ∙ last-law r p l .0 i) }
 
   pub behind-steps :
-      {t : Text} {s : Set} → Behind r t s → {c : ℕ} {here : Set} → Gathered (Standing prepared a s c) (a .count) here
-      → {next : Set} → Gathered (Leading prepared a here) (a .count) next
+      {t : Text} {s : Set} → Behind r t s → {c : ℕ} {next : Set} → Gathered (Back prepared a s c) (a .count) next
       → Behind r (c ∷ t) next
-  behind-steps {t} known {c} {here} stood {next} led =
-      record {
-        behind-iff = λ p l.
-            Iff·trans
-            (led-iff p l)
-            (Iff·symm (Iff·trans (follow-law r p l c t) (read-iff stood t (known .behind-iff) (followOf prepared (a .start + p)) (followAt r p) (d .row-is p l .follow-is))));
-      }
+  behind-steps {t} known {c} {next} led = record { behind-iff = λ p l. Iff·trans (led-iff p) (Iff·symm (follow-law r p l c t)) }
     where
-      -- q is among those that p may follow exactly if p is among those that may follow q
-      turned : (p q : ℕ) → p < positions r → q < positions r → holds (precedingOf prepared (a .start + p)) q ≡ holds (followOf prepared (a .start + q)) p
-      turned p q l k = d .row-is p l .preceding-is q ∙ sym (d .row-is q k .follow-is p)
-
-      led-iff : (p : ℕ) → p < positions r → (holds next p ≡ true) ↔ Shared (followOf prepared (a .start + p)) here
-      led-iff p l = (
+      -- The set has p exactly if the byte and t can be read from a position that may follow p.
+      led-iff : (p : ℕ) → (holds next p ≡ true) ↔ ReadsAt r (followAt r p) c t
+      led-iff p = (
         λ e.
             let (q, k, g) = led .held-iff p .0 e in
             let m = counted q k in
-            (q, few q m, sym (turned q p m l) ∙ g .leads, g .held),
-        λ s.
-            let (q, k, e, f) = s in
-            let m = stood-iff stood q .0 f .0 in
-            led .held-iff p .1 (q, omega (arith, d .count-is), record { held = f; leads = turned q p m l ∙ e }),
+            record {
+              position = q;
+              in-pattern = m;
+              allowed = sym (d .row-is q m .preceding-is p) ∙ g .leads;
+              stands = sym (stands-is q c m) ∙ g .stood .stands;
+              rest-in = known .behind-iff q m .0 (g .stood .held);
+            },
+        λ x.
+            let q = x .position in
+            let m = x .in-pattern in
+            let there = standing-at q m (known .behind-iff q m .1 (x .rest-in)) (x .stands) in
+            led .held-iff p .1 (q, omega (arith, d .count-is), record { stood = there; leads = d .row-is q m .preceding-is p ∙ x .allowed }),
       )
-
-  pub backward-begins : Backward r [] (record { here = a .nullable; set = a .last })
-  unfolding matches
-  backward-begins = record { here-is = d .nullable-is; behind-iff = behind-begins .behind-iff }
-
-  pub backward-steps :
-      {t : Text} {run : Run} → Backward r t run → {c : ℕ} {here : Set} → Gathered (Standing prepared a (run .set) c) (a .count) here
-      → {begins : Bool} → (begins ≡ true) ↔ Shared (a .first) here
-      → {next : Set} → Gathered (Leading prepared a here) (a .count) next
-      → Backward r (c ∷ t) (record { here = begins; set = next })
-  backward-steps {t} known {c} stood {begins} told led =
-      record {
-        here-is = answer-is r (c ∷ t) begins told (Iff·trans (first-law r c t) (read-iff stood t (known .behind-iff) (a .first) (firstAt r) (d .first-is)));
-        behind-iff = behind-steps (record { behind-iff = known .behind-iff }) stood led .behind-iff;
-      }
-
-  -- Where the set is empty, no text that ends in what was read belongs.
-  pub stuck-back : {t : Text} {run : Run} → Backward r t run → Empty (run .set) → (c : ℕ) → Backward r (c ∷ t) (record { here = false; set = run .set })
-  stuck-back {t} {run} known none c =
-      backward-steps known {c = c} {here = s}
-      (gathered-not _ (a .count) s none (λ p q g. not-both (g .held) (none p)))
-      (λ e. absurd (not-both e refl), λ h. let (p, l, e, f) = h in absurd (not-both f (none p)))
-      (gathered-not _ (a .count) s none (λ p q g. not-both (g .held) (none p)))
-    where
-      s : Set
-      s = run .set

@@ -25,11 +25,6 @@ pub record Forward (r : Pattern) (t : Text) (run : Run) : Type 0 where
 pub record Behind (r : Pattern) (t : Text) (s : Set) : Type 0 where
   pub behind-iff : (p : ℕ) → p < positions r → (holds s p ≡ true) ↔ In (restAt r p) t
 
--- The text t was read from its end; the set has the positions behind which it may stand.
-pub record Backward (r : Pattern) (t : Text) (run : Run) : Type 0 where
-  pub here-is : run .here ≡ matches r t
-  pub behind-iff : (p : ℕ) → p < positions r → (holds (run .set) p ≡ true) ↔ In (restAt r p) t
-
 -- A byte was read at those of the set's positions below n at which it may stand.
 pub record Stepped (prepared : List ℕ) (a : Automaton) (s : Set) (byte n : ℕ) (step : Step) : Type 0 where
   pub reached-are : Gathered (Standing prepared a s byte) n (step .reached)
@@ -41,6 +36,3 @@ pub record Advanced (prepared : List ℕ) (a : Automaton) (byte : ℕ) (before a
 
 pub record SteppedBack (prepared : List ℕ) (a : Automaton) (byte : ℕ) (before after : Set) : Type 0 where
   pub stepped : (r : Pattern) → Describes r a prepared → (t : Text) → Behind r t before → Behind r (byte ∷ t) after
-
-pub record Retreated (prepared : List ℕ) (a : Automaton) (byte : ℕ) (before after : Run) : Type 0 where
-  pub retreated : (r : Pattern) → Describes r a prepared → (t : Text) → Backward r t before → Backward r (byte ∷ t) after

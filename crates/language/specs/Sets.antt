@@ -28,7 +28,7 @@ pub record Onward (prepared : List ℕ) (a : Automaton) (s : Set) (byte p q : �
   pub stood : Standing prepared a s byte p p
   pub follows : holds (followOf prepared (a .start + p)) q ≡ true
 
--- A position of the set gives those that it may follow.
-pub record Leading (prepared : List ℕ) (a : Automaton) (s : Set) (p q : ℕ) : Type 0 where
-  pub held : holds s p ≡ true
+-- Backward it gives those that it may follow.
+pub record Back (prepared : List ℕ) (a : Automaton) (s : Set) (byte p q : ℕ) : Type 0 where
+  pub stood : Standing prepared a s byte p p
   pub leads : holds (precedingOf prepared (a .start + p)) q ≡ true

@@ -21,7 +21,7 @@ use Rattle.laws.specs.Pieces.{write-join, write-left, write-right, write
 -- ---- Tests and lists
 
 -- neither of two tests that are false together is true
-or-none : (a b : Bool) → a || b ≡ false → (a ≡ false) × (b ≡ false)
+pub or-none : (a b : Bool) → a || b ≡ false → (a ≡ false) × (b ≡ false)
 or-none true b e = absurd (true≢false e)
 or-none false b e = (refl, e)
 
@@ -182,7 +182,7 @@ abbrev Restored : Lens → Text → Type 0
 Restored l t = (b : Book) → write l (some t) (get l t) (entries l t ++ b) ≡ record { text = t; book = b }
 
 -- one text is written behind another
-then-written :
+pub then-written :
     (w : Written) (next : Book → Written) (u v : Text) (c b : Book)
     → w ≡ record { text = u; book = c }
     → next c ≡ record { text = v; book = b }

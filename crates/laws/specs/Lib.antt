@@ -12,6 +12,7 @@ pub mod WellTyped
 pub mod Pieces
 pub mod GetPut
 pub mod PutGet
+pub mod Bookless
 pub mod Shuffle
 pub mod NodeTrees
 pub mod Accepted

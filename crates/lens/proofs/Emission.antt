@@ -24,6 +24,7 @@ use Rattle.lens.specs.Reading.{
   reading,
   modeSide,
   copied,
+  givenWord,
   reading-copy,
   reading-const,
   reading-key,
@@ -49,7 +50,7 @@ use Rattle.lens.specs.Parsed.{
   union-right,
   union-not-left,
 }
-use Rattle.lens.specs.Nodes.{same-lens, shown-copy, shown-const, shown-key, shown-join, shown-match, describes-lens, left-below}
+use Rattle.lens.specs.Nodes.{same-lens, shown-copy, shown-const, shown-key, shown-join, shown-match, describes-lens, left-below, given-letters}
 
 -- ---- By the kind of the node
 
@@ -67,19 +68,20 @@ module _ {bytes : Text} {node : ℕ} {r : Node} {mode : Mode} {text before after
   pub emits-copy : {a : ℕ} → r .kind ≡ Copy a → Writes (copied mode text) before after answer → Emits bytes node mode text before after answer
   emits-copy e w = let s = shown-copy read e in its-lens (copy (s .child)) (s .tree-is) (rw (reading-copy mode (s .child) text) w)
 
-  -- a const gives its word
+  -- a const gives its word, or its default
   pub emits-const :
-      {a b c : ℕ} {letters : Text}
+      {a b c given : ℕ} {letters : Text}
       → r .kind ≡ Const a b c
-      → WordIs bytes b letters
+      → given ≡ givenWord mode b c
+      → WordIs bytes given letters
       → Writes (copied mode letters) before after answer
       → Emits bytes node mode text before after answer
-  emits-const e letters w =
+  emits-const e given-is letters w =
       let s = shown-const read e in
       its-lens
       (const (s .child) (s .sheet-word) (s .default-word))
       (s .tree-is)
-      (rw (reading-const mode (s .child) (s .sheet-word) (s .default-word) text, ← (letters .letters-are (s .sheet-word) (s .at-sheet))) w)
+      (rw (reading-const mode (s .child) (s .sheet-word) (s .default-word) text, ← (given-letters mode s given-is letters)) w)
 
   -- a key gives its text
   pub emits-key : {a : ℕ} → r .kind ≡ Key a → Writes text before after answer → Emits bytes node mode text before after answer

@@ -1,4 +1,4 @@
--- What is read off a text at a node: the sheet of a source, or the key of a sheet.
+-- What is read off a text at a node: a sheet, a key or a source.
 use mathlib.Core.Path.{_≡_}
 use mathlib.Core.List.{List}
 use Prim.Native.Nat.{ℕ, _+_, _*_, _≤_, _<_}
@@ -15,7 +15,7 @@ use Rattle.automaton.specs.declared.Side.the-variants.{Source, Sheet}
 use Rattle.automaton.specs.Rows.{automatonAt, Room}
 use Rattle.automaton.specs.Built.{Built}
 use Rattle.lens.specs.declared.Mode.{Mode}
-use Rattle.lens.specs.declared.Mode.the-variants.{Get, Key}
+use Rattle.lens.specs.declared.Mode.the-variants.{Get, Key, Create, SourceKey}
 use Rattle.lens.specs.declared.Wrote.{Wrote}
 use Rattle.lens.specs.Overlay.{Writes}
 use Rattle.lens.specs.Reading.{reading}
@@ -24,6 +24,8 @@ use Rattle.lens.specs.Reading.{reading}
 unfoldable pub sideFor : Mode → Side
 sideFor Get = Source
 sideFor Key = Sheet
+sideFor Create = Sheet
+sideFor SourceKey = Source
 
 -- A node's words are in the prepared program, and the rows of its automaton.
 pub record Prepared (prepared : List ℕ) (node : ℕ) (side : Side) : Type 0 where
@@ -43,15 +45,6 @@ pub record Fits (bytes : Text) (node : ℕ) (side : SideOf) (text : Text) : Type
   pub tree-is : treeAt (trees bytes) node ≡ lens tree
   pub typed : WellTyped tree
   pub belongs : In (language side tree) text
-
--- The join of two nodes keeps the typing rules, and the text belongs to it on that side.
-pub record FitsJoin (bytes : Text) (left right : ℕ) (side : SideOf) (text : Text) : Type 0 where
-  pub left-tree : Lens
-  pub right-tree : Lens
-  pub left-is : treeAt (trees bytes) left ≡ lens left-tree
-  pub right-is : treeAt (trees bytes) right ≡ lens right-tree
-  pub typed : WellTyped (join left-tree right-tree)
-  pub belongs : In (language side (join left-tree right-tree)) text
 
 -- The node is one of a table's that was read, and a word.
 pub record WordNode (bytes : Text) (prepared : List ℕ) (node : ℕ) : Type 0 where

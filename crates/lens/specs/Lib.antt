@@ -5,4 +5,4 @@ pub mod Cutting
 pub mod Emitting
 pub mod Parsed
 pub mod Nodes
-pub mod Fitting
+pub mod SourceKeys

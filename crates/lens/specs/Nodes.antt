@@ -25,8 +25,8 @@ use Rattle.automaton.specs.declared.Side.{Side}
 use Rattle.automaton.specs.Rows.{sideOf, automatonAt, Describes}
 use Rattle.automaton.specs.Built.{Built, treeLanguage}
 use Rattle.lens.specs.declared.Mode.{Mode}
-use Rattle.lens.specs.declared.Mode.the-variants.{Get, Key as KeyMode}
-use Rattle.lens.specs.Reading.{modeSide}
+use Rattle.lens.specs.declared.Mode.the-variants.{Get, Key as KeyMode, Create, SourceKey}
+use Rattle.lens.specs.Reading.{modeSide, givenWord}
 use Rattle.lens.specs.Emitting.{sideFor, Prepared, WordNode, WordIs, LensNode}
 
 -- a tree is one lens, and a word's has one text
@@ -41,6 +41,8 @@ side-for : (mode : Mode) → sideOf (sideFor mode) ≡ modeSide mode
 unfolding sideOf sideFor modeSide
 side-for Get = refl
 side-for KeyMode = refl
+side-for Create = refl
+side-for SourceKey = refl
 
 -- the sizes of a table that was read are right
 pub sizes-are : {bytes : Text} {prepared : List ℕ} → AllSized bytes prepared → Right bytes
@@ -216,5 +218,22 @@ module _ {bytes : Text} {prepared : List ℕ} {node : ℕ} (known : LensNode byt
   pub right-below : {a b : ℕ} {make : Lens → Lens → Tree} → TwoLenses (trees bytes) node a b make → LensNode bytes prepared b
   right-below s = lens-below known (s .right) (s .right-lower) (s .at-right)
 
-  pub sheet-below : {a b c : ℕ} → ConstParts (trees bytes) node a b c → WordNode bytes prepared b
-  sheet-below s = word-below known (s .sheet-word) (s .sheet-lower) (s .at-sheet)
+  -- the word that a const gives
+  pub given-below :
+      {a b c : ℕ} (mode : Mode) → ConstParts (trees bytes) node a b c → {given : ℕ} → given ≡ givenWord mode b c → WordNode bytes prepared given
+  given-below Get s e = rw e (word-below known (s .sheet-word) (s .sheet-lower) (s .at-sheet))
+  given-below KeyMode s e = rw e (word-below known (s .sheet-word) (s .sheet-lower) (s .at-sheet))
+  given-below Create s e = rw e (word-below known (s .default-word) (s .default-lower) (s .at-default))
+  given-below SourceKey s e = rw e (word-below known (s .sheet-word) (s .sheet-lower) (s .at-sheet))
+
+-- its letters are those that the lens has
+pub given-letters :
+    {bytes : Text} {node a b c : ℕ} (mode : Mode) (s : ConstParts (trees bytes) node a b c) {given : ℕ}
+    → given ≡ givenWord mode b c
+    → {letters : Text}
+    → WordIs bytes given letters
+    → letters ≡ givenWord mode (s .sheet-word) (s .default-word)
+given-letters Get s e w = (rw e at w) .letters-are (s .sheet-word) (s .at-sheet)
+given-letters KeyMode s e w = (rw e at w) .letters-are (s .sheet-word) (s .at-sheet)
+given-letters Create s e w = (rw e at w) .letters-are (s .default-word) (s .at-default)
+given-letters SourceKey s e w = (rw e at w) .letters-are (s .sheet-word) (s .at-sheet)

@@ -1,5 +1,4 @@
-// What a lens reads off a text: cuts and parts, get and keys.
-pub mod cuts;
+// What a lens reads off a text: get, keys, and create where no old entry answers.
 pub mod read;
 pub mod texts;
 
@@ -9,8 +8,11 @@ pub enum Wrote {
     Full,
 }
 
-// What is read off a text: the sheet of a source, or the key of a sheet.
+// What is read off a text: the sheet of a source; the key of a sheet; the source that create makes of a sheet where no old entry answers; or the key of a source, by the
+// source's own cuts.
 pub enum Mode {
     Get,
     Key,
+    Create,
+    SourceKey,
 }

@@ -1,4 +1,4 @@
-// What is read off a text at a node: the sheet of a source, or the key of a sheet.
+// What is read off a text at a node: a sheet, a key or a source.
 use crate::Mode;
 use crate::Wrote;
 use crate::texts::write_text;
@@ -20,7 +20,7 @@ ghost use Rattle.table.specs.Prepared.{OneLens};
 ghost use Rattle.automaton.specs.Rows.{automatonAt};
 ghost use Rattle.paths.specs.Walking.{MarksRoom};
 ghost use Rattle.lens.specs.Overlay.{Writes};
-ghost use Rattle.lens.specs.Reading.{modeSide, copied};
+ghost use Rattle.lens.specs.Reading.{modeSide, copied, givenWord};
 ghost use Rattle.lens.specs.Emitting.{sideFor, Prepared, WordNode, WordIs, LensNode, Fits, Emits, EmitsJoin};
 ghost use Rattle.lens.specs.Parsed.{Parsed, ParsedJoin};
 
@@ -31,6 +31,8 @@ fn side_of(mode: Mode) -> Side
     match mode {
         Mode::Get => Side::Source,
         Mode::Key => Side::Sheet,
+        Mode::Create => Side::Sheet,
+        Mode::SourceKey => Side::Source,
     }
 }
 
@@ -57,13 +59,27 @@ pub fn word_of<'a>(bytes: &'a [u8], prepared: &[u64], node: usize) -> &'a [u8]
     &bytes[from..to]
 }
 
-// What a copy gives: its text for the sheet, and no key.
+// What a copy gives: its text, and no key.
 fn emit_copy(mode: Mode, text: &[u8], out: &mut [u8]) -> Wrote
     ensures { λ r. ⌜ Writes (copied mode (now (text .entry))) (now (out .entry)) (now (out .exit)) r ⌝ }
 {
     match mode {
         Mode::Get => write_text(text, out),
         Mode::Key => Wrote::Count(0),
+        Mode::Create => write_text(text, out),
+        Mode::SourceKey => Wrote::Count(0),
+    }
+}
+
+// The word that a const gives: that of the sheet, or the default of a source that is made.
+fn given_word(mode: Mode, sheet: usize, default: usize) -> usize
+    ensures { λ r. ⌜ r ≡ givenWord mode sheet default ⌝ }
+{
+    match mode {
+        Mode::Get => sheet,
+        Mode::Key => sheet,
+        Mode::Create => default,
+        Mode::SourceKey => sheet,
     }
 }
 
@@ -92,7 +108,10 @@ pub fn emit(
         Kind::PatternUnion { .. } => Wrote::Count(0),
         Kind::PatternRepeat { .. } => Wrote::Count(0),
         Kind::Copy { .. } => emit_copy(mode, text, out),
-        Kind::Const { sheet, .. } => emit_copy(mode, word_of(bytes, prepared, sheet), out),
+        Kind::Const { sheet, default, .. } => {
+            let given = given_word(mode, sheet, default);
+            emit_copy(mode, word_of(bytes, prepared, given), out)
+        }
         Kind::Key { .. } => write_text(text, out),
         Kind::LensJoin { left, right } => {
             emit_join(bytes, prepared, left, right, mode, base, text, path, out)

@@ -5,16 +5,20 @@ use books::Book;
 use paths::border;
 use paths::first_loop;
 use paths::goes_left;
+use positions::Set;
 use table::Kind;
 use table::Table;
-ghost use Prim.Native.Nat.{_+_, _≤_, _<_};
+ghost use Prim.Native.Nat.{_+_, _*_, _≤_, _<_};
 ghost use lib.ListN.{length};
-ghost use Rattle.semantics.specs.Lens.{repeat, source};
+ghost use Rattle.semantics.specs.Lens.{repeat, match, source};
 ghost use Rattle.semantics.specs.Table.{nodeCount, lens, trees, treeAt};
+ghost use Rattle.positions.specs.Positions.{Moved};
 ghost use Rattle.table.specs.Prepared.{OneLens};
-ghost use Rattle.lens.specs.Parsed.{Parsed, ParsedJoin};
+ghost use Rattle.automaton.specs.declared.Side.the-variants.{Source};
+ghost use Rattle.automaton.specs.Rows.{automatonAt};
+ghost use Rattle.lens.specs.Parsed.{Parsed};
 ghost use Rattle.books.specs.Listed.{Sized};
-ghost use Rattle.listing.specs.Listing.{ToList, Lists, ListsMatch, treeEntries, joinEntries, repeatEntries};
+ghost use Rattle.listing.specs.Listing.{ToList, Lists, ListsMatch, treeEntries, repeatEntries};
 
 // A book with more entries; or, where `over`, there are more than 256 and the book is of no account.
 pub struct Listing {
@@ -23,16 +27,16 @@ pub struct Listing {
 }
 
 // The text that a match reads is one entry, of the match's child.
-fn list_match(child: usize, text: &[u8], at: usize, book: Book) -> Listing
-    requires { ⌜ (child < 256) × (at + length (now text) ≤ 65535) ⌝ }
+fn list_match(child: usize, base: usize, text: &[u8], at: usize, book: Book) -> Listing
+    requires { ⌜ (child < 128) × (base < 256) × (at + length (now text) ≤ 65535) ⌝ }
     requires { ⌜ Sized book × (book .count ≤ 256) ⌝ }
-    ensures { λ r. ⌜ ListsMatch child (now (text .entry)) at book r ⌝ }
+    ensures { λ r. ⌜ ListsMatch child base (now (text .entry)) at book r ⌝ }
 {
     let count = book.count;
     if count == 256 {
         return Listing { over: true, book };
     }
-    let more = book.added(at, text.len(), child);
+    let more = book.added(at, text.len(), base, child);
     Listing {
         over: false,
         book: more,
@@ -56,7 +60,7 @@ pub fn list(
     requires { ⌜ Parsed (now bytes) node source base (now path) (now text) ⌝ }
     ensures { λ r.
         ⌜
-        Lists (trees (now (bytes .entry))) (treeEntries (treeAt (trees (now (bytes .entry))) node) (now (text .entry))) (now (text .entry)) at book r
+        Lists (now (bytes .entry)) (treeEntries (treeAt (trees (now (bytes .entry))) node) (now (text .entry))) (now (text .entry)) (now (path .entry)) at book r
         ⌝ }
 {
     let read = Table::node(bytes, prepared, node);
@@ -65,7 +69,7 @@ pub fn list(
     }
     let kind = read.kind;
     match kind {
-        Kind::Match { child } => list_match(child, text, at, book),
+        Kind::Match { child } => list_match(child, base, text, at, book),
         Kind::LensUnion { left, right } => {
             let a = automaton_of(prepared, left, Side::Source);
             let mid = base + a.count;
@@ -75,66 +79,50 @@ pub fn list(
             list(bytes, prepared, right, mid, text, path, at, book)
         }
         Kind::LensJoin { left, right } => {
-            list_join(bytes, prepared, left, right, base, text, path, at, book)
+            let a = automaton_of(prepared, left, Side::Source);
+            let mid = base + a.count;
+            let i = border(path, mid);
+            let front = &text[0..i];
+            let half = list(bytes, prepared, left, base, front, &path[0..i], at, book);
+            if half.over {
+                return half;
+            }
+            let more = half.book;
+            let back = &text[i..];
+            list(bytes, prepared, right, mid, back, &path[i..], at + i, more)
         }
         Kind::LensRepeat { child } => {
-            list_repeat(bytes, prepared, node, child, base, text, path, at, book)
+            list_parts(bytes, prepared, node, child, base, text, path, at, book)
         }
         _ => Listing { over: false, book },
     }
 }
 
-// The same for a join: the text is cut, and the second half's entries stand behind the first's.
-fn list_join(
-    bytes: &[u8],
-    prepared: &[u64],
-    left: usize,
-    right: usize,
-    base: usize,
-    text: &[u8],
-    path: &[u8],
-    at: usize,
-    book: Book,
-) -> Listing
-    requires { ⌜ ToList (now bytes) (now prepared) (now text) at book ⌝ }
-    requires { ⌜ (left < nodeCount (now bytes)) × (right < nodeCount (now bytes)) ⌝ }
-    requires { ⌜ ParsedJoin (now bytes) left right source base (now path) (now text) ⌝ }
+// Where the parts of a repeat may end and begin: at the last and the first positions of its child.
+struct PartEnds {
+    last: Set,
+    first: Set,
+}
+
+// Those of a child whose positions are numbered from `base` on.
+fn part_ends(prepared: &[u64], child: usize, base: usize) -> PartEnds
+    requires { ⌜ 16 * child + 16 ≤ length (now prepared) ⌝ }
     ensures { λ r.
         ⌜
-        Lists (trees (now (bytes .entry))) (joinEntries (treeAt (trees (now (bytes .entry))) left) (treeAt (trees (now (bytes .entry))) right) (now (text .entry))) (now (text .entry)) at book r
+        Moved (automatonAt (now (prepared .entry)) child Source .last) base (r .last) × Moved (automatonAt (now (prepared .entry)) child Source .first) base (r .first)
         ⌝ }
 {
-    let a = automaton_of(prepared, left, Side::Source);
-    let mid = base + a.count;
-    let i = border(path, mid);
-    let half = list(
-        bytes,
-        prepared,
-        left,
-        base,
-        &text[0..i],
-        &path[0..i],
-        at,
-        book,
-    );
-    if half.over {
-        return half;
+    let part = automaton_of(prepared, child, Side::Source);
+    let ends = part.last;
+    let begins = part.first;
+    PartEnds {
+        last: ends.moved(base),
+        first: begins.moved(base),
     }
-    let more = half.book;
-    list(
-        bytes,
-        prepared,
-        right,
-        mid,
-        &text[i..],
-        &path[i..],
-        at + i,
-        more,
-    )
 }
 
 // The same for a repeat and its child: part by part.
-fn list_repeat(
+fn list_parts(
     bytes: &[u8],
     prepared: &[u64],
     node: usize,
@@ -151,31 +139,84 @@ fn list_repeat(
     requires { ⌜ Parsed (now bytes) node source base (now path) (now text) ⌝ }
     ensures { λ r.
         ⌜
-        Lists (trees (now (bytes .entry))) (repeatEntries (treeAt (trees (now (bytes .entry))) child) (now (text .entry))) (now (text .entry)) at book r
+        Lists (now (bytes .entry)) (repeatEntries (treeAt (trees (now (bytes .entry))) child) (now (text .entry))) (now (text .entry)) (now (path .entry)) at book r
         ⌝ }
 {
-    let part = automaton_of(prepared, child, Side::Source);
-    let ends = part.last;
-    let begins = part.first;
-    let last = ends.moved(base);
-    let first = begins.moved(base);
+    let read = Table::node(bytes, prepared, child);
+    let kind = read.kind;
+    if let Kind::Match { child: inner } = kind {
+        return list_matches(
+            bytes,
+            prepared,
+            node,
+            child,
+            inner,
+            base,
+            text,
+            path,
+            at,
+            book,
+        );
+    }
+    let ends = part_ends(prepared, child, base);
+    let last = ends.last;
+    let first = ends.first;
     let mut o = 0;
     while o < text.len() {
         let e = o + first_loop(&path[o..], last, first);
-        let listing = list(
-            bytes,
-            prepared,
-            child,
-            base,
-            &text[o..e],
-            &path[o..e],
-            at + o,
-            book,
-        );
+        let cut = &text[o..e];
+        let listing = list(bytes, prepared, child, base, cut, &path[o..e], at + o, book);
         if listing.over {
             return listing;
         }
         book = listing.book;
+        o = e;
+    }
+    Listing { over: false, book }
+}
+
+// The same where the child is a match: each part is one entry, of the match's child.
+fn list_matches(
+    bytes: &[u8],
+    prepared: &[u64],
+    node: usize,
+    child: usize,
+    inner: usize,
+    base: usize,
+    text: &[u8],
+    path: &[u8],
+    at: usize,
+    mut book: Book,
+) -> Listing
+    requires { ⌜ ToList (now bytes) (now prepared) (now text) at book ⌝ }
+    requires { ⌜ (child < node) × (node < nodeCount (now bytes)) ⌝ }
+    requires { ⌜ OneLens (trees (now bytes)) node child (λ l. lens (repeat l)) ⌝ }
+    requires { ⌜ OneLens (trees (now bytes)) child inner (λ l. lens (match inner l)) ⌝ }
+    requires { ⌜ Parsed (now bytes) node source base (now path) (now text) ⌝ }
+    ensures { λ r.
+        ⌜
+        Lists (now (bytes .entry)) (repeatEntries (treeAt (trees (now (bytes .entry))) child) (now (text .entry))) (now (text .entry)) (now (path .entry)) at book r
+        ⌝ }
+{
+    let ends = part_ends(prepared, child, base);
+    let last = ends.last;
+    let first = ends.first;
+    let mut o = 0;
+    while o < text.len() {
+        let e = o + first_loop(&path[o..], last, first);
+        if book.count == 256 {
+            return Listing { over: true, book };
+        }
+        // Stored in place and not by `added`: so the book is not copied for each entry.
+        let i = book.count;
+        book.starts[i] = (at + o) as u16;
+        book.lengths[i] = (e - o) as u16;
+        book.bases[i] = base as u8;
+        book.children[i] = inner as u8;
+        book.used[i] = false;
+        let left = book.left;
+        book.left = left.with(inner);
+        book.count = i + 1;
         o = e;
     }
     Listing { over: false, book }

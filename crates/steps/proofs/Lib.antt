@@ -1,2 +1,3 @@
--- What the proofs of several functions, here and in the crate of the writers, cite.
-pub mod Stepping
+-- What the proofs of this crate share.
+mod Answers
+mod Choosing

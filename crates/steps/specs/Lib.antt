@@ -1,2 +1,3 @@
 -- What the functions of this crate are given and owe, in terms of the definitions.
 pub mod Steps
+pub mod Stepping

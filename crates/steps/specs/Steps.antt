@@ -1,93 +1,141 @@
 -- What the steps of a writer are given, and what they answer.
 use mathlib.Core.Path.{_≡_}
-use mathlib.Core.Bool.{cond}
-use mathlib.Core.List.{List}
-use mathlib.Core.Option.{Option}
+use mathlib.Core.Bool.{Bool, true, false, cond}
+use mathlib.Core.List.{List, [], _∷_}
+use mathlib.Core.Option.{Option, none, some}
 use Prim.Native.Nat.{ℕ, _+_, _-_, _^_, _≤_, _<_}
-use lib.Dec.{ltb}
-use lib.ListN.{length, take, drop}
+use lib.Dec.{eqb}
 use Rattle.semantics.specs.Text.{Text, orElse, apply}
-use Rattle.semantics.specs.Pattern.{Pattern, word, matches}
-use Rattle.semantics.specs.Lens.{cutAt, Arm, putLeft, putRight, createLeft, createRight, armOf}
-use Rattle.semantics.specs.Table.{trees, treeAt, pattern}
-use Rattle.table.specs.declared.Kind.{Kind}
-use Rattle.table.specs.declared.Kind.the-variants.{Const}
+use Rattle.semantics.specs.Pattern.{Pattern, matches}
+use Rattle.semantics.specs.Lens.{Lens, union, source, sheet, language, parts, write}
+use Rattle.semantics.specs.Lens.{Book as Entries}
+use Rattle.semantics.specs.Table.{trees, treeAt, lens}
+use Rattle.laws.specs.Paths.{LeastPath, border, firstLoop}
+use Rattle.table.specs.Prepared.{TwoLenses}
+use Rattle.positions.specs.Positions.{holds, Moved}
 use Rattle.automaton.specs.declared.Side.{Side}
 use Rattle.automaton.specs.declared.Side.the-variants.{Source, Sheet}
 use Rattle.automaton.specs.Rows.{automatonAt, Describes}
 use Rattle.lens.specs.declared.Wrote.{Wrote}
 use Rattle.lens.specs.declared.Wrote.the-variants.{Count, Full}
-use Rattle.lens.specs.Overlay.{Writes}
-use Rattle.lens.specs.Reading.{firstPart}
-use Rattle.lens.specs.Emitting.{WordNode}
-use Rattle.lens.specs.Cutting.{SuffixFlags}
+use Rattle.lens.specs.Emitting.{LensNode}
+use Rattle.lens.specs.Parsed.{Parsed}
+use Rattle.books.specs.declared.Place.{Place}
 use Rattle.books.specs.declared.Old.{Old}
 use Rattle.books.specs.declared.Old.the-variants.{At, Nothing}
-use Rattle.books.specs.Looking.{oldText}
-use Rattle.steps.specs.declared.Choice.{Choice}
+use Rattle.books.specs.Looking.{partAt, trailOf, oldText, OldFits}
+use Rattle.steps.specs.declared.Cut.{Cut}
 use Rattle.steps.specs.declared.Halves.{Halves}
-use Rattle.steps.specs.declared.Span.{Span}
+use Rattle.steps.specs.declared.Choice.{Choice}
+use Rattle.steps.specs.declared.Ends.{Ends}
+use Rattle.steps.specs.declared.Next.{Next}
 
--- The old text stands in the old source.
+-- The place is one of the old source, and its node's positions begin at one of a set.
+pub record PlaceInside (p : Place) : Type 0 where
+  pub inside : p .start + p .len ≤ 4096
+  pub based : p .base ≤ 128
+
+-- If there is an old text, it stands at such a place.
 pub record OldInside (old : Old) : Type 0 where
-  pub inside : (start len : ℕ) → old ≡ At start len → start + len ≤ 4096
+  pub place-inside : (p : Place) → old ≡ At p → PlaceInside p
 
--- where an old text stands; at no place, if there is none
-abbrev pub spanOf : Old → Span
-spanOf (At start len) = record { start = start; end = start + len }
-spanOf Nothing = record { start = 0; end = 0 }
+-- ---- Joins
 
--- the old part between two places
-abbrev pub oldBetween : ℕ → ℕ → Old
-oldBetween start end = cond (ltb start end) (At start (end - start)) Nothing
+-- where a sheet is cut: its path passes from the positions of the left node to those of the right one, which begin at `mid`
+abbrev pub cutSheet : List ℕ → ℕ → ℕ → ℕ → List ℕ → Cut
+cutSheet prepared left right base path =
+    let mid = base + (automatonAt prepared left Sheet) .count in
+    record { at = border mid path; left = record { node = left; base = base }; right = record { node = right; base = mid } }
 
--- The place is the end of the part that begins at o.
-pub record PartEnd (prepared : List ℕ) (child : ℕ) (side : Side) (text : Text) (flags : List ℕ) (o place : ℕ) : Type 0 where
-  pub from : o ≤ place
-  pub within : place ≤ length text
-  pub some-text : o < length text → o < place
-  pub place-is :
-      (a : Pattern)
-      → Describes a (automatonAt prepared child side) prepared
-      → SuffixFlags a text flags o
-      → o < length text
-      → place ≡ o + firstPart a (drop o text)
+-- where an old text is cut
+abbrev pub halvesOf : List ℕ → ℕ → Place → Text → Halves
+halvesOf prepared left p deck =
+    let mid = p .base + (automatonAt prepared left Source) .count in
+    let i = border mid (partAt (trailOf deck) p) in
+    record {
+      first = record { start = p .start; len = i; base = p .base };
+      second = record { start = p .start + i; len = p .len - i; base = mid };
+    }
 
--- The halves of an old text, cut between the sources of two nodes; none has none.
-pub record HalvesAre (prepared : List ℕ) (left right : ℕ) (deck : Text) (old : Old) (r : Halves) : Type 0 where
-  pub first-inside : OldInside (r .first)
-  pub second-inside : OldInside (r .second)
-  pub halves-are :
-      (a b : Pattern)
-      → Describes a (automatonAt prepared left Source) prepared
-      → Describes b (automatonAt prepared right Source) prepared
-      → let j = orElse 0 (apply (cutAt a b) (oldText deck old)) in
-      (oldText deck (r .first) ≡ apply (take j) (oldText deck old)) × (oldText deck (r .second) ≡ apply (drop j) (oldText deck old))
+-- ---- Unions
 
--- the choice that an arm stands for
-abbrev pub choiceOf : Arm → ℕ → ℕ → Old → Choice
-choiceOf putLeft left right old = record { arm = left; old = old }
-choiceOf putRight left right old = record { arm = right; old = old }
-choiceOf createLeft left right old = record { arm = left; old = Nothing }
-choiceOf createRight left right old = record { arm = right; old = Nothing }
+-- A sheet that fits a node has the node's own path; where it does not, the path is as it was.
+pub record Refitted (prepared : List ℕ) (node : ℕ) (new : Text) (before after : List ℕ) (r : Bool) : Type 0 where
+  pub decides : (a : Pattern) → Describes a (automatonAt prepared node Sheet) prepared → r ≡ matches a new
+  pub fitted : r ≡ true → (a : Pattern) → Describes a (automatonAt prepared node Sheet) prepared → LeastPath a 0 after new
+  pub unfitted : r ≡ false → (a : Pattern) → Describes a (automatonAt prepared node Sheet) prepared → after ≡ before
+
+-- the arm at a node creates,
+abbrev pub createdAt : ℕ → ℕ → Choice
+createdAt node base = record { arm = record { node = node; base = base }; old = Nothing }
+
+-- or puts onto the old text at a place
+abbrev pub putAt : ℕ → ℕ → Place → Choice
+putAt node base p = record { arm = record { node = node; base = base }; old = At p }
+
+-- The arm writes what the union does, onto the old text that is kept, whatever the book; the sheet is parsed at it, and so is the old text.
+pub record ArmIs (bytes : Text) (node : ℕ) (l m : Lens) (new : Text) (path : List ℕ) (old : Old) (deck : Text) (r : Choice) : Type 0 where
+  pub arm : Lens
+  pub arm-is : treeAt (trees bytes) (r .arm .node) ≡ lens arm
+  pub lower : r .arm .node < node
+  pub writes-same : (b : Entries) → write (union l m) (oldText deck old) new b ≡ write arm (oldText deck (r .old)) new b
+  pub sheet-parsed : Parsed bytes (r .arm .node) sheet (r .arm .base) path new
+  pub old-parsed : OldFits bytes (r .arm .node) deck (r .old)
 
 -- The choice is that of the definitions' arm.
-pub record Chosen (prepared : List ℕ) (left right : ℕ) (new deck : Text) (old : Old) (r : Choice) : Type 0 where
-  pub choice-is :
-      (a b c : Pattern)
-      → Describes a (automatonAt prepared left Source) prepared
-      → Describes b (automatonAt prepared left Sheet) prepared
-      → Describes c (automatonAt prepared right Sheet) prepared
-      → r ≡ choiceOf (armOf (apply (matches a) (oldText deck old)) (matches b new) (matches c new)) left right old
+pub record Chosen (prepared : List ℕ) (left right base : ℕ) (new : Text) (before after : List ℕ) (old : Old) (deck : Text) (r : Choice) : Type 0 where
+  pub arm-is :
+      (bytes : Text) (node : ℕ)
+      → LensNode bytes prepared left
+      → LensNode bytes prepared right
+      → (s : TwoLenses (trees bytes) node left right (λ l m. lens (union l m)))
+      → Parsed bytes node sheet base before new
+      → OldFits bytes node deck old
+      → ArmIs bytes node (s .left) (s .right) new after old deck r
 
--- The default of a const is a word.
-pub record DefaultWord (bytes : Text) (prepared : List ℕ) (kind : Kind) : Type 0 where
-  pub default-is : (a b c : ℕ) → kind ≡ Const a b c → WordNode bytes prepared c
+-- ---- Repeats
 
--- A const writes the old text or its default word, what is no const the sheet.
-pub record LeafIs (bytes : Text) (kind : Kind) (old : Option Text) (new before after : Text) (answer : Wrote) : Type 0 where
-  pub const-is : (a b c : ℕ) → kind ≡ Const a b c → (w : Text) → treeAt (trees bytes) c ≡ pattern (word w) → Writes (orElse w old) before after answer
-  pub sheet-is : ((a b c : ℕ) → ¬ (kind ≡ Const a b c)) → Writes new before after answer
+-- They are the last and the first positions of a node on a side, numbered from `base` on.
+pub record EndsAre (prepared : List ℕ) (child : ℕ) (side : Side) (base : ℕ) (r : Ends) : Type 0 where
+  pub last-is : Moved ((automatonAt prepared child side) .last) base (r .last)
+  pub first-is : Moved ((automatonAt prepared child side) .first) base (r .first)
+
+-- where the positions of an old text's node begin; at no place, if there is none
+abbrev pub oldBase : Old → ℕ
+oldBase (At p) = p .base
+oldBase Nothing = 0
+
+-- the next part of the old text at a place, up to its path's first loop, and the rest
+abbrev pub nextAt : Place → Ends → Text → Next
+nextAt p ends deck =
+    let i = firstLoop (holds (ends .last)) (holds (ends .first)) (partAt (trailOf deck) p) in
+    record {
+      part = At (record { start = p .start; len = i; base = p .base });
+      rest = At (record { start = p .start + i; len = p .len - i; base = p .base });
+    }
+
+abbrev pub noneNext : Next
+noneNext = record { part = Nothing; rest = Nothing }
+
+-- the next part of an old text; none where no text is left
+abbrev pub nextOf : Old → Ends → Text → Next
+nextOf (At p) ends deck = cond (eqb (p .len) 0) noneNext (nextAt p ends deck)
+nextOf Nothing ends deck = noneNext
+
+-- the parts of an old text, by the definitions
+abbrev pub oldParts : Lens → Text → Old → List Text
+oldParts l deck old = orElse [] (apply (parts (language source l)) (oldText deck old))
+
+-- the first of them, where there is one, and the others
+unfoldable pub firstOf : List Text → Option Text
+firstOf [] = none
+firstOf (t ∷ ts) = some t
+
+unfoldable pub othersOf : List Text → List Text
+othersOf [] = []
+othersOf (t ∷ ts) = ts
+
+-- ---- What is written behind what
 
 -- what was written behind n bytes, with them
 abbrev pub countBehind : ℕ → Wrote → Wrote

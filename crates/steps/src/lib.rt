@@ -1,242 +1,300 @@
-// The steps of a writer: where its texts are cut, the arm of a union, and what is written behind what.
+// The steps of a writer: where its texts are cut, the arm of a union, the parts of a repeat, and what is written behind what. All are read off the paths of the sheet and of
+// the old source.
 use automaton::Side;
 use automaton::automaton_of;
 use books::Old;
+use books::Place;
 use language::belongs;
-use language::suffixes;
 use lens::Wrote;
-use lens::cuts::cut_at;
-use lens::cuts::first_part;
-use lens::read::word_of;
-use lens::texts::write_text;
-use table::Kind;
+use paths::border;
+use paths::find_path;
+use paths::first_loop;
+use paths::goes_left;
+use positions::Set;
 ghost use mathlib.Core.Path.{_≡_};
-ghost use mathlib.Core.Bool.{cond};
-ghost use Prim.Native.Nat.{_≤_, _<_};
-ghost use lib.ListN.{length, drop};
-ghost use Rattle.semantics.specs.Pattern.{Pattern, matches};
+ghost use Prim.Native.Nat.{_+_, _*_, _≤_};
+ghost use lib.ListN.{length};
+ghost use Rattle.laws.specs.Paths.{goesLeft};
 ghost use Rattle.automaton.specs.declared.Side.the-variants.{Source, Sheet};
-ghost use Rattle.automaton.specs.Rows.{Describes, automatonAt};
-ghost use Rattle.language.specs.Flags.{Flags};
-ghost use Rattle.lens.specs.Cutting.{CutAt};
+ghost use Rattle.automaton.specs.Rows.{automatonAt};
+ghost use Rattle.books.specs.declared.Old.the-variants.{At};
 ghost use Rattle.lens.specs.Emitting.{Prepared};
-ghost use Rattle.books.specs.declared.Old.the-variants.{Nothing};
-ghost use Rattle.books.specs.Looking.{oldText};
-ghost use Rattle.steps.specs.Steps.{OldInside, spanOf, oldBetween, PartEnd, HalvesAre, Chosen, DefaultWord, LeafIs, Fits64, countBehind};
+ghost use Rattle.steps.specs.Steps.{PlaceInside, OldInside, cutSheet, halvesOf, Refitted, createdAt, putAt, Chosen, EndsAre, oldBase, nextOf, Fits64, countBehind};
 
-// The arm of a union that writes, and the old text onto which it puts.
-pub struct Choice {
-    pub arm: usize,
-    pub old: Old,
+// A node, and where its positions begin on the sheet side.
+pub struct Spot {
+    pub node: usize,
+    pub base: usize,
+}
+
+// Where a sheet is cut in two, and the nodes of the halves.
+pub struct Cut {
+    pub at: usize,
+    pub left: Spot,
+    pub right: Spot,
 }
 
 // The old texts onto which the halves of a join are put.
 pub struct Halves {
-    pub first: Old,
-    pub second: Old,
+    pub first: Place,
+    pub second: Place,
 }
 
-// Where a text stands.
-pub struct Span {
-    pub start: usize,
-    pub end: usize,
+// The arm of a union that writes, and the old text onto which it puts.
+pub struct Choice {
+    pub arm: Spot,
+    pub old: Old,
 }
 
-// Where a text is cut between two nodes.
-pub fn cut_of(
-    prepared: &[u64],
-    left: usize,
-    right: usize,
-    side: Side,
-    text: &[u8],
-    flags: &mut [u8],
-) -> usize
-    requires { ⌜ Prepared (now prepared) left side ⌝ }
-    requires { ⌜ Prepared (now prepared) right side ⌝ }
-    requires { ⌜ length (now text) < length (now flags) ⌝ }
-    ensures { λ r.
-        ⌜
-        CutAt (now (prepared .entry)) (automatonAt (now (prepared .entry)) left side) (automatonAt (now (prepared .entry)) right side) (now (text .entry)) (now (flags .entry)) (now (flags .exit)) r
-        ⌝ }
+// The positions by which a part may end, and those by which one may begin.
+pub struct Ends {
+    pub last: Set,
+    pub first: Set,
+}
+
+// The old part that is next, and what is left behind it.
+pub struct Next {
+    pub part: Old,
+    pub rest: Old,
+}
+
+// Where a sheet is cut between two nodes.
+pub fn cut_sheet(prepared: &[u64], left: usize, right: usize, base: usize, path: &[u8]) -> Cut
+    requires { ⌜ Prepared (now prepared) left Sheet × (base ≤ 128) ⌝ }
+    ensures { λ r. ⌜ r ≡ cutSheet (now (prepared .entry)) left right base (now (path .entry)) ⌝ }
 {
-    let a = automaton_of(prepared, left, side);
-    let b = automaton_of(prepared, right, side);
-    cut_at(prepared, a, b, text, flags)
-}
-
-// The flags tell which ends of a text belong to a node.
-pub fn flag_ends(prepared: &[u64], node: usize, side: Side, text: &[u8], flags: &mut [u8])
-    requires { ⌜ Prepared (now prepared) node side ⌝ }
-    requires { ⌜ length (now text) < length (now flags) ⌝ }
-    ensures { λ res.
-        ⌜
-        ((r : Pattern) → Describes r (automatonAt (now (prepared .entry)) node side) (now (prepared .entry)) → Flags (λ i. matches r (drop i (now (text .entry)))) (length (now (text .entry))) (now (flags .entry)) (now (flags .exit)))
-        ⌝ }
-{
-    let a = automaton_of(prepared, node, side);
-    suffixes(prepared, a, text, flags);
-}
-
-// Where the part that begins at o ends: at o where no text is left.
-pub fn part_end(
-    prepared: &[u64],
-    child: usize,
-    side: Side,
-    text: &[u8],
-    flags: &[u8],
-    o: usize,
-) -> usize
-    requires { ⌜ Prepared (now prepared) child side ⌝ }
-    requires { ⌜ o ≤ length (now text) ⌝ }
-    requires { ⌜ length (now text) < length (now flags) ⌝ }
-    ensures { λ r. ⌜ PartEnd (now (prepared .entry)) child side (now (text .entry)) (now (flags .entry)) o r ⌝ }
-{
-    if o == text.len() {
-        return o;
-    }
-    let part = automaton_of(prepared, child, side);
-    o + first_part(prepared, part, &text[o..], &flags[o..])
-}
-
-// Where an old text stands: at no place, if there is none.
-pub fn span_of(old: Old) -> Span
-    requires { ⌜ OldInside old ⌝ }
-    ensures { λ r. ⌜ r ≡ spanOf old ⌝ }
-{
-    match old {
-        Old::At { start, len } => Span {
-            start,
-            end: start + len,
-        },
-        Old::Nothing => Span { start: 0, end: 0 },
-    }
-}
-
-// The old part between two places; none where no text is left.
-pub fn old_between(start: usize, end: usize) -> Old
-    ensures { λ r. ⌜ r ≡ oldBetween start end ⌝ }
-{
-    if start < end {
-        return Old::At {
-            start,
-            len: end - start,
-        };
-    }
-    Old::Nothing
-}
-
-// The halves of an old text between two nodes; none has none.
-pub fn halves_of(
-    prepared: &[u64],
-    left: usize,
-    right: usize,
-    old: Old,
-    deck: &[u8],
-    flags: &mut [u8],
-) -> Halves
-    requires { ⌜ Prepared (now prepared) left Source ⌝ }
-    requires { ⌜ Prepared (now prepared) right Source ⌝ }
-    requires { ⌜ (OldInside old) × (4096 ≤ length (now deck)) × (4096 < length (now flags)) ⌝ }
-    ensures { λ r. ⌜ HalvesAre (now (prepared .entry)) left right (now (deck .entry)) old r ⌝ }
-{
-    let Old::At { start, len } = old else {
-        return Halves {
-            first: Old::Nothing,
-            second: Old::Nothing,
-        };
+    let a = automaton_of(prepared, left, Side::Sheet);
+    let mid = base + a.count;
+    let at = border(path, mid);
+    let near = Spot { node: left, base };
+    let far = Spot {
+        node: right,
+        base: mid,
     };
-    let end = start + len;
-    let i = cut_of(
-        prepared,
-        left,
-        right,
-        Side::Source,
-        &deck[start..end],
-        flags,
-    );
-    Halves {
-        first: Old::At { start, len: i },
-        second: Old::At {
-            start: start + i,
-            len: len - i,
-        },
+    Cut {
+        at,
+        left: near,
+        right: far,
     }
 }
 
-fn either(test: bool, yes: usize, no: usize) -> usize
-    ensures { λ r. ⌜ r ≡ cond test yes no ⌝ }
+// The halves of an old text, the first of which is a text of the left node.
+pub fn halves_of(prepared: &[u64], left: usize, place: Place, deck: &[u8]) -> Halves
+    requires { ⌜ Prepared (now prepared) left Source × PlaceInside place ⌝ }
+    requires { ⌜ 8192 ≤ length (now deck) ⌝ }
+    ensures { λ r. ⌜ r ≡ halvesOf (now (prepared .entry)) left place (now (deck .entry)) ⌝ }
 {
-    if test { yes } else { no }
+    let a = automaton_of(prepared, left, Side::Source);
+    let start = place.start;
+    let len = place.len;
+    let base = place.base;
+    let mid = base + a.count;
+    let from = 4096 + start;
+    let to = from + len;
+    let i = border(&deck[from..to], mid);
+    let first = Place {
+        start,
+        len: i,
+        base,
+    };
+    let second = Place {
+        start: start + i,
+        len: len - i,
+        base: mid,
+    };
+    Halves { first, second }
 }
 
-fn kept_if(test: bool, old: Old) -> Old
-    ensures { λ r. ⌜ r ≡ cond test old Nothing ⌝ }
+// Finding the path of a text of at most 4,096 bytes needs no room lent for the sets that it keeps.
+fn no_marks() -> [u64; 1]
+    ensures { λ r. ⌜ 1 ≡ length r ⌝ }
 {
-    if test { old } else { Old::Nothing }
+    [0u64; 1]
 }
 
-// The arm of a union: that of the old text if the sheet fits it, otherwise the other's create; without an old text the left if it fits.
+// Whether a sheet fits a node. If so, its path is that of the node alone; if not, it stays as it was.
+fn refit(prepared: &[u64], node: usize, new: &[u8], path: &mut [u8]) -> bool
+    requires { ⌜ Prepared (now prepared) node Sheet ⌝ }
+    requires { ⌜ (length (now new) ≤ 4096) × (length (now path) ≡ length (now new)) ⌝ }
+    ensures { λ r. ⌜ Refitted (now (prepared .entry)) node (now (new .entry)) (now (path .entry)) (now (path .exit)) r ⌝ }
+{
+    let a = automaton_of(prepared, node, Side::Sheet);
+    if !belongs(prepared, a, new) {
+        return false;
+    }
+    let mut marks = no_marks();
+    find_path(prepared, a, new, &mut marks, path)
+}
+
+// The arm at a node creates.
+fn created(node: usize, base: usize) -> Choice
+    ensures { λ r. ⌜ r ≡ createdAt node base ⌝ }
+{
+    Choice {
+        arm: Spot { node, base },
+        old: Old::Nothing,
+    }
+}
+
+// It puts onto the old text at a place.
+fn put_onto(node: usize, base: usize, place: Place) -> Choice
+    ensures { λ r. ⌜ r ≡ putAt node base place ⌝ }
+{
+    Choice {
+        arm: Spot { node, base },
+        old: Old::At(place),
+    }
+}
+
+// The arm of a union: that of the old text if the sheet fits it, otherwise the other's create; without an old text the left if it fits. Where the old text is of the right
+// arm and the path of the sheet goes left, the sheet may fit the right arm too: it then gets a path of its own there.
 pub fn choose(
     prepared: &[u64],
     left: usize,
     right: usize,
+    base: usize,
     new: &[u8],
+    path: &mut [u8],
     old: Old,
     deck: &[u8],
 ) -> Choice
-    requires { ⌜ Prepared (now prepared) left Source ⌝ }
-    requires { ⌜ Prepared (now prepared) left Sheet ⌝ }
-    requires { ⌜ Prepared (now prepared) right Sheet ⌝ }
-    requires { ⌜ (OldInside old) × (4096 ≤ length (now deck)) ⌝ }
-    ensures { λ r. ⌜ Chosen (now (prepared .entry)) left right (now (new .entry)) (now (deck .entry)) old r ⌝ }
+    requires { ⌜ Prepared (now prepared) left Source × Prepared (now prepared) left Sheet × Prepared (now prepared) right Sheet ⌝ }
+    requires { ⌜ (base ≤ 128) × OldInside old × (8192 ≤ length (now deck)) ⌝ }
+    requires { ⌜ (length (now new) ≤ 4096) × (length (now path) ≡ length (now new)) ⌝ }
+    ensures { λ r. ⌜ Chosen (now (prepared .entry)) left right base (now (new .entry)) (now (path .entry)) (now (path .exit)) old (now (deck .entry)) r ⌝ }
 {
-    let left_sheet = automaton_of(prepared, left, Side::Sheet);
-    let fits_left = belongs(prepared, left_sheet, new);
-    let left_if = either(fits_left, left, right);
-    let Old::At { start, len } = old else {
-        return Choice {
-            arm: left_if,
-            old: Old::Nothing,
-        };
+    let a = automaton_of(prepared, left, Side::Sheet);
+    let mid = base + a.count;
+    let fits_left = goes_left(path, mid, a.nullable);
+    let Old::At(place) = old else {
+        if fits_left {
+            return created(left, base);
+        }
+        return created(right, mid);
     };
-    let end = start + len;
-    let left_source = automaton_of(prepared, left, Side::Source);
-    if belongs(prepared, left_source, &deck[start..end]) {
-        return Choice {
-            arm: left_if,
-            old: kept_if(fits_left, old),
-        };
+    choose_onto(
+        prepared,
+        left,
+        right,
+        base,
+        mid,
+        fits_left,
+        new,
+        path,
+        place,
+        deck,
+    )
+}
+
+// The same onto an old text. The positions of the right arm begin at `mid`, and the path of the sheet goes left or not.
+fn choose_onto(
+    prepared: &[u64],
+    left: usize,
+    right: usize,
+    base: usize,
+    mid: usize,
+    fits_left: bool,
+    new: &[u8],
+    path: &mut [u8],
+    place: Place,
+    deck: &[u8],
+) -> Choice
+    requires { ⌜ Prepared (now prepared) left Source × Prepared (now prepared) right Sheet ⌝ }
+    requires { ⌜ PlaceInside place × (8192 ≤ length (now deck)) ⌝ }
+    requires { ⌜ (length (now new) ≤ 4096) × (length (now path) ≡ length (now new)) ⌝ }
+    requires { ⌜ mid ≡ base + (automatonAt (now prepared) left Sheet) .count ⌝ }
+    requires { ⌜ «fits_left» ≡ goesLeft mid ((automatonAt (now prepared) left Sheet) .nullable) (now path) ⌝ }
+    ensures { λ r. ⌜ Chosen (now (prepared .entry)) left right base (now (new .entry)) (now (path .entry)) (now (path .exit)) (At place) (now (deck .entry)) r ⌝ }
+{
+    let b = automaton_of(prepared, left, Side::Source);
+    let start = place.start;
+    let len = place.len;
+    let border = place.base + b.count;
+    let from = 4096 + start;
+    let to = from + len;
+    if goes_left(&deck[from..to], border, b.nullable) {
+        if fits_left {
+            return put_onto(left, base, place);
+        }
+        return created(right, mid);
     }
-    let right_sheet = automaton_of(prepared, right, Side::Sheet);
-    let fits_right = belongs(prepared, right_sheet, new);
-    Choice {
-        arm: either(fits_right, right, left),
-        old: kept_if(fits_right, old),
+    let own = Place {
+        start,
+        len,
+        base: border,
+    };
+    if !fits_left {
+        return put_onto(right, mid, own);
+    }
+    if refit(prepared, right, new, path) {
+        return put_onto(right, 0, own);
+    }
+    created(left, base)
+}
+
+// The positions by which a part of a repeat may end, and begin.
+pub fn ends_of(prepared: &[u64], child: usize, side: Side, base: usize) -> Ends
+    requires { ⌜ 16 * child + 16 ≤ length (now prepared) ⌝ }
+    ensures { λ r. ⌜ EndsAre (now (prepared .entry)) child side base r ⌝ }
+{
+    let part = automaton_of(prepared, child, side);
+    let ends = part.last;
+    let begins = part.first;
+    Ends {
+        last: ends.moved(base),
+        first: begins.moved(base),
     }
 }
 
-// A lens with no lens below it: a const writes the old text or its default word, a copy and a key the sheet.
-pub fn write_leaf(
-    bytes: &[u8],
-    prepared: &[u64],
-    kind: Kind,
-    new: &[u8],
-    old: Old,
-    deck: &[u8],
-    out: &mut [u8],
-) -> Wrote
-    requires { ⌜ DefaultWord (now bytes) (now prepared) kind ⌝ }
-    requires { ⌜ (OldInside old) × (4096 ≤ length (now deck)) ⌝ }
-    ensures { λ r. ⌜ LeafIs (now (bytes .entry)) kind (oldText (now (deck .entry)) old) (now (new .entry)) (now (out .entry)) (now (out .exit)) r ⌝ }
+// The positions of an old text's node begin there; at no place, if there is none.
+pub fn old_base(old: Old) -> usize
+    ensures { λ r. ⌜ r ≡ oldBase old ⌝ }
 {
-    let Kind::Const { default, .. } = kind else {
-        return write_text(new, out);
+    match old {
+        Old::At(place) => place.base,
+        Old::Nothing => 0,
+    }
+}
+
+// The next part of an old text, and the rest of it; none where no text is left.
+pub fn next_old(old: Old, ends: Ends, deck: &[u8]) -> Next
+    requires { ⌜ OldInside old × (8192 ≤ length (now deck)) ⌝ }
+    ensures { λ r. ⌜ r ≡ nextOf old ends (now (deck .entry)) ⌝ }
+{
+    let Old::At(place) = old else {
+        return Next {
+            part: Old::Nothing,
+            rest: Old::Nothing,
+        };
     };
-    let Old::At { start, len } = old else {
-        return write_text(word_of(bytes, prepared, default), out);
+    let start = place.start;
+    let len = place.len;
+    let base = place.base;
+    if len == 0 {
+        return Next {
+            part: Old::Nothing,
+            rest: Old::Nothing,
+        };
+    }
+    let from = 4096 + start;
+    let to = from + len;
+    let last = ends.last;
+    let first = ends.first;
+    let i = first_loop(&deck[from..to], last, first);
+    let part = Place {
+        start,
+        len: i,
+        base,
     };
-    let end = start + len;
-    write_text(&deck[start..end], out)
+    let rest = Place {
+        start: start + i,
+        len: len - i,
+        base,
+    };
+    Next {
+        part: Old::At(part),
+        rest: Old::At(rest),
+    }
 }
 
 // What was written behind n bytes, with them.

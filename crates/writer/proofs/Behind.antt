@@ -1,29 +1,102 @@
 -- What was written so far, and what is written directly behind it.
-use mathlib.Core.Path.{_≡_, subst}
-use mathlib.Core.List.{List, _++_}
+use mathlib.Core.Path.{_≡_, refl, sym, ap, subst, _∙_}
+use mathlib.Core.List.{[], _∷_, _++_, append-assoc, append-nil}
 use mathlib.Core.Option.{Option}
-use Prim.Native.Nat.{ℕ, _+_, _-_, _≤_}
+use Prim.Native.Nat.{ℕ, _≤_, _<_}
 use native.Mathlib.Omega.{arith}
-use lib.ListN.{length, take, drop}
+use lib.ListN.{length, take, length-append, take-append-drop}
+use lib.Seq.{take-append-seam, length-take-le}
 use Rattle.semantics.specs.Text.{Text}
 use Rattle.semantics.specs.Lens.{Lens, Written, andThen, write}
 use Rattle.semantics.specs.Lens.{Book as Entries}
 use Rattle.semantics.specs.Table.{trees, treeAt, lens}
+use Rattle.laws.specs.Bookless.{plain}
 use Rattle.lens.specs.declared.Wrote.{Wrote}
 use Rattle.lens.specs.declared.Wrote.the-variants.{Count, Full}
-use Rattle.lens.specs.Overlay.{writes-within, writes-full, writes-lent}
-use Rattle.lens.specs.Emitting.{LensNode}
+use Rattle.lens.specs.Overlay.{Writes, overlay-fits, overlay-over, wrote-fits, wrote-over, writes-within, writes-full}
 use Rattle.lens.specs.Nodes.{same-lens}
 use Rattle.books.specs.declared.Book.{Book}
 use Rattle.books.specs.Listed.{unused}
-use Rattle.books.specs.Looking.{same-then}
-use Rattle.steps.specs.Steps.{countBehind}
-use Rattle.steps.proofs.Stepping.{rest-size}
+use Rattle.books.specs.Looking.{BookOver, SameEntries, same-all, same-then}
 use Rattle.writer.specs.declared.Done.{Done}
-use Rattle.writer.specs.Writing.{WithinBuffer, Progress, WritesLens, WritesNode, WritesBehind, leaving}
+use Rattle.writer.specs.Writing.{Fitted, WithinBuffer, Progress, LensBehind, WritesBehind, WritesNext}
 
+-- ---- Two steps, one behind the other
+
+-- the same text, written behind
+pub then-same : (w : Written) {next next′ : Entries → Written} → ((b : Entries) → next b ≡ next′ b) → andThen w next ≡ andThen w next′
+unfolding andThen
+then-same w same = rw (same (w .book))
+
+-- what is written in two steps
+pub then-again : (w : Written) (next after : Entries → Written) → andThen w (λ b. andThen (next b) after) ≡ andThen (andThen w next) after
+unfolding andThen
+then-again w next after = rw append-assoc
+
+-- nothing more
+pub then-nothing : (w : Written) → andThen w (λ b. record { text = []; book = b }) ≡ w
+unfolding andThen
+then-nothing w = rw append-nil
+
+-- the same step behind the same text
+then-swap :
+    (w w′ : Written) (next next′ : Entries → Written) → w .text ≡ w′ .text → next (w .book) ≡ next′ (w′ .book) → andThen w next ≡ andThen w′ next′
+unfolding andThen
+then-swap w w′ next next′ text-is same = rw (text-is, same)
+
+-- ---- Texts that did not fit
+
+-- behind a text that did not fit, nothing changes, whatever is written
+full-stays : (s t before mid after : Text) (r : Wrote) → Writes s before mid Full → Writes (s ++ t) before after r → (after ≡ mid) × (r ≡ Full)
+full-stays s t before mid after r first second =
+    let whole = writes-full s t before mid first in
+    (second .buffer-is ∙ sym (whole .buffer-is), second .answer-is ∙ sym (whole .answer-is))
+
+-- a count is not that the buffer was too short
 not-full : {answer : Wrote} {n : ℕ} → answer ≡ Count n → ¬ (answer ≡ Full)
 not-full p q = let z : _≡_ {A = ℕ} 0 1 = cc in omega arith
+
+-- ---- Whatever the buffer holds, some text was written there
+
+-- what stands in front of a place
+pub front-written : (n : ℕ) (out : Text) → n ≤ length out → Writes (take n out) out out (Count n)
+front-written n out h =
+    let long : length (take n out) ≡ n = length-take-le n out h in
+    let fits : length (take n out) ≤ length out = omega (arith, long, h) in
+    record {
+      buffer-is = sym (overlay-fits (take n out) out fits ∙ rw long (take-append-drop n out));
+      answer-is = sym (wrote-fits (take n out) out fits ∙ ap Count long);
+    }
+
+-- one byte more than it holds
+more-written : (out : Text) → Writes (out ++ (0 ∷ [])) out out Full
+more-written out =
+    let longer : length out < length (out ++ (0 ∷ [])) = rw length-append (omega arith) in
+    record {
+      buffer-is = sym (overlay-over (out ++ (0 ∷ [])) out (omega (arith, longer)) ∙ take-append-seam out (0 ∷ []));
+      answer-is = sym (wrote-over (out ++ (0 ∷ [])) out longer);
+    }
+
+some-written : (wrote : Wrote) (out : Text) → Fitted wrote out → (text : Text) × Writes text out out wrote
+some-written (Count n) out within = (take n out, front-written n out (within .within n refl))
+some-written Full out within = (out ++ (0 ∷ []), more-written out)
+
+-- so what is written behind it lies within the buffer
+pub next-within :
+    {bytes : Text} {node : ℕ} {old : Option Text} {new mid after : Text} {wrote r : Wrote} (l : Lens)
+    → treeAt (trees bytes) node ≡ lens l
+    → Fitted wrote mid
+    → WritesNext bytes node old new wrote mid after r
+    → Fitted r after
+next-within {old = old} {new = new} {mid = mid} {after = after} {wrote = wrote} l e within w =
+    let (text, before) = some-written wrote mid within in
+    record { within = λ n is. writes-within (text ++ plain l old new) mid after n (rw is at (w .writes l e text mid before)) }
+
+-- What a writer leaves: a book with the entries that it was given, and what was written lies within the buffer.
+pub record Left (done : Done) (after : Text) (r : Done) : Type 0 where
+  pub over : BookOver 4096 (r .book)
+  pub same-entries : SameEntries (done .book) (r .book)
+  pub within : WithinBuffer r after
 
 module _ {bytes deck : Text} where
   -- the text and the book by another name
@@ -32,94 +105,99 @@ module _ {bytes deck : Text} where
       → w ≡ w′
       → Progress bytes deck w b before after r
       → Progress bytes deck w′ b before after r
-  progress-is {b} {before} {after} {r} e = subst (λ x. Progress bytes deck x b before after r) e
+  progress-is {b = b} {before = before} {after = after} {r = r} e = subst (λ x. Progress bytes deck x b before after r) e
+
+  pub behind-left :
+      {l : Lens} {old : Option Text} {new mid after : Text} {done r : Done}
+      → BookOver 4096 (done .book)
+      → WithinBuffer done mid
+      → LensBehind bytes deck l old new done mid after r
+      → Left done after r
+  behind-left {l} {old} {new} {mid} {after} {done} {r} over within behind =
+      let (text, before) = some-written (done .wrote) mid within in
+      let w : Written = record { text = text; book = unused (trees bytes) deck (done .book) } in
+      let p = behind .progress w (done .book) mid (record { bytes-are = before; book-is = λ h. refl; over = over; same-entries = same-all (done .book) }) in
+      record {
+        over = p .over;
+        same-entries = p .same-entries;
+        within = record { within = λ n is. writes-within _ mid after n (rw is at (p .bytes-are)) };
+      }
 
   -- what is written at the lens that a node is, is written at the node
-  pub node-writes :
-      {node : ℕ} {old : Option Text} {new before after : Text} {b : Book} {r : Done} (l : Lens)
+  pub at-node :
+      {node : ℕ} {old : Option Text} {new mid after : Text} {done r : Done} (l : Lens)
       → treeAt (trees bytes) node ≡ lens l
-      → WritesLens bytes deck l old new b before after r
-      → WritesNode bytes node deck old new b before after r
-  node-writes {old} {new} {before} {after} {b} {r} l e w =
-      record { writes = λ m f. subst (λ k. WritesLens bytes deck k old new b before after r) (same-lens l m (rw e at f)) w }
+      → LensBehind bytes deck l old new done mid after r
+      → WritesBehind bytes node deck old new done mid after r
+  at-node {old = old} {new = new} {mid = mid} {after = after} {done = done} {r = r} l e w =
+      record { writes = λ m f. subst (λ k. LensBehind bytes deck k old new done mid after r) (same-lens l m (sym e ∙ f)) w }
 
-  -- ---- What was written lies within the buffer
+  -- a lens that writes the same with every book
+  pub behind-same :
+      {l m : Lens} {old old′ : Option Text} {new mid after : Text} {done r : Done}
+      → ((b : Entries) → write l old new b ≡ write m old′ new b)
+      → LensBehind bytes deck m old′ new done mid after r
+      → LensBehind bytes deck l old new done mid after r
+  behind-same same behind = record { progress = λ w b before p. progress-is (sym (then-same w same)) (behind .progress w b before p) }
 
-  pub progress-within : {w : Written} {b : Book} {before after : Text} {r : Done} → Progress bytes deck w b before after r → WithinBuffer r after
-  progress-within {w} {before} {after} p = record { within = λ n e. writes-within (w .text) before after n (rw e at (p .bytes-are)) }
-
-  pub node-within :
-      {prepared : List ℕ} {node : ℕ} {old : Option Text} {new before after : Text} {b : Book} {r : Done}
-      → LensNode bytes prepared node
-      → WritesNode bytes node deck old new b before after r
-      → WithinBuffer r after
-  node-within known w = progress-within (w .writes (known .tree) (known .tree-is))
-
-  -- ---- More text, behind what was written
-
-  -- it changes nothing where the buffer was too short
+  -- behind a text that did not fit, any step is the same
   progress-full :
-      {w : Written} {b : Book} {before after : Text} {done : Done} (next : Entries → Written)
-      → done .wrote ≡ Full
-      → Progress bytes deck w b before after done
-      → Progress bytes deck (andThen w next) b before after done
+      (w w′ : Written) (next next′ : Entries → Written) {b : Book} {before mid after : Text} {r : Done}
+      → w .text ≡ w′ .text
+      → Writes (w′ .text) before mid Full
+      → Progress bytes deck (andThen w next) b before after r
+      → Progress bytes deck (andThen w′ next′) b before after r
   unfolding andThen
-  progress-full {w} {before} {after} next full p =
+  progress-full w w′ next next′ {b} {before} {mid} {after} {r} text-is first p =
+      let (after-is, full) = full-stays (w′ .text) (next (w .book) .text) before mid after (r .wrote) first (rw text-is at (p .bytes-are)) in
       record {
-        bytes-are = rw full (writes-full (w .text) (next (w .book) .text) before after (rw full at (p .bytes-are)));
+        bytes-are = rw (after-is, full) (writes-full (w′ .text) (next′ (w′ .book) .text) before mid first);
         book-is = λ h. absurd (h full);
         over = p .over;
         same-entries = p .same-entries;
       }
 
-  -- otherwise it is written into the buffer behind the n bytes, from the book that is left
-  progress-behind :
-      {w : Written} {b : Book} {before mid rest : Text} {done more : Done} {n : ℕ} (next : Entries → Written)
-      → done .wrote ≡ Count n
-      → Progress bytes deck w b before mid done
-      → Progress bytes deck (next (unused (trees bytes) deck (done .book))) (done .book) (take (length mid - n) (drop n mid)) rest more
-      → Progress bytes deck (andThen w next) b before (take n mid ++ (rest ++ drop (length mid - n) (drop n mid))) (leaving (countBehind n (more .wrote)) (more .book))
+  -- another step behind the same text, which is the same where there was room
+  pub progress-swap :
+      (w w′ : Written) (next next′ : Entries → Written) {b : Book} {before mid after : Text} {wrote : Wrote} {r : Done}
+      → w .text ≡ w′ .text
+      → Writes (w′ .text) before mid wrote
+      → (¬ (wrote ≡ Full) → next (w .book) ≡ next′ (w′ .book))
+      → Progress bytes deck (andThen w next) b before after r
+      → Progress bytes deck (andThen w′ next′) b before after r
+  progress-swap w w′ next next′ {b} {before} {mid} {after} {wrote} {r} text-is first same p = go wrote refl
+    where
+      go : (k : Wrote) → wrote ≡ k → Progress bytes deck (andThen w′ next′) b before after r
+      go (Count n) e = progress-is (then-swap w w′ next next′ text-is (same (not-full e))) p
+      go Full e = progress-full w w′ next next′ text-is (rw e at first) p
+
+  known-behind :
+      (w : Written) (t : Text) {b : Book} {before after : Text} {r : Wrote} {left : Book}
+      → BookOver 4096 left
+      → SameEntries b left
+      → Writes (w .text ++ t) before after r
+      → Progress bytes deck (andThen w (λ any. record { text = t; book = unused (trees bytes) deck left })) b before after (record { wrote = r; book = left })
   unfolding andThen
-  progress-behind {w} {before} {mid} {rest} {done} {more} {n} next count first second =
-      let left : unused (trees bytes) deck (done .book) ≡ w .book = first .book-is (not-full count) in
-      record {
-        bytes-are =
-            writes-lent
-            (w .text)
-            (next (w .book) .text)
-            before
-            mid
-            rest
-            n
-            (more .wrote)
-            (rw count at (first .bytes-are))
-            (rw left at (second .bytes-are))
-            (countBehind n (more .wrote))
-            (λ m e. rw e)
-            (λ e. rw e);
-        book-is = λ h. rw left at (second .book-is (λ full. h (rw full)));
-        over = second .over;
-        same-entries = same-then (first .same-entries) (second .same-entries);
-      }
+  known-behind w t over same writes = record { bytes-are = writes; book-is = λ room. refl; over = over; same-entries = same }
 
-  module _ {node : ℕ} {old : Option Text} {new mid : Text} {done : Done} where
-    pub behind-full : done .wrote ≡ Full → WritesBehind bytes node deck old new done mid mid done
-    behind-full full = record { writes = λ l e w b before p. progress-full (write l old new) full p }
-
-    pub behind-next :
-        {rest : Text} {more : Done} {n : ℕ}
-        → done .wrote ≡ Count n
-        → WritesNode bytes node deck old new (done .book) (take (length mid - n) (drop n mid)) rest more
-        → WritesBehind bytes node deck old new done mid (take n mid ++ (rest ++ drop (length mid - n) (drop n mid))) (leaving (countBehind n (more .wrote)) (more .book))
-    behind-next count second = record { writes = λ l e w b before p. progress-behind (write l old new) count p (second .writes l e) }
-
--- both counts together lie within the buffer
-pub behind-within :
-    {n m : ℕ} (mid : Text) {rest : Text} {more : Done}
-    → n ≤ length mid
-    → length rest ≡ length (take (length mid - n) (drop n mid))
-    → WithinBuffer more rest
-    → more .wrote ≡ Count m
-    → n + m ≤ length mid
-behind-within {n} {m} mid h kept within e =
-    omega (arith, h, kept, rest-size mid n, within .within m e)
+  -- a step of which it is known what it writes with the book that is left, and what it leaves
+  pub text-behind :
+      (next : Entries → Written) (t : Text) {mid after : Text} {done : Done} {r : Wrote} {left : Book}
+      → next (unused (trees bytes) deck (done .book)) ≡ record { text = t; book = unused (trees bytes) deck left }
+      → BookOver 4096 left
+      → SameEntries (done .book) left
+      → ((text before : Text) → Writes text before mid (done .wrote) → Writes (text ++ t) before after r)
+      → (w : Written) (b : Book) (before : Text)
+      → Progress bytes deck w b before mid done
+      → Progress bytes deck (andThen w next) b before after (record { wrote = r; book = left })
+  text-behind next t {mid} {after} {done} {r} {left} is over same writes w b before p =
+      let known : Entries → Written = λ any. record { text = t; book = unused (trees bytes) deck left } in
+      progress-swap
+      w
+      w
+      known
+      next
+      refl
+      (p .bytes-are)
+      (λ room. sym (ap next (sym (p .book-is room)) ∙ is))
+      (known-behind w t over (same-then (p .same-entries) same) (writes (w .text) before (p .bytes-are)))

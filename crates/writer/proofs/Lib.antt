@@ -1,6 +1,7 @@
--- Laws for the writers.
-pub mod Repeats
+-- What the proofs of this crate share.
 mod Behind
+mod Unasked
 mod ByKind
-mod Below
+mod Halves
 mod Parts
+mod Given

@@ -1,326 +1,264 @@
 -- The parts of a repeat, written one by one: before the first, with one more, behind the last.
 use mathlib.Core.Path.{_≡_, refl, sym, ap, _∙_}
-use mathlib.Core.Bool.{Bool, true, false}
-use mathlib.Core.List.{List, [], _∷_, _++_, append-assoc, append-nil}
-use mathlib.Core.Option.{none, some}
+use mathlib.Core.List.{List, [], _∷_, _++_}
+use mathlib.Core.Option.{Option, none, some}
 use Prim.Native.Nat.{ℕ, _+_, _-_, _≤_, _<_}
 use native.Mathlib.Omega.{arith}
-use lib.Dec.{ltb}
-use lib.ListN.{length, take, drop, getD, length-take, length-drop, drop-of-length-le, List·getD-append}
-use lib.Seq.{length-take-le, take-take, drop-at, drop-drop, getD-take, getD-drop}
-use borrow.Author.Tests.{ltb-true, ltb-false, lt-ltb, le-ltb}
+use lib.ListN.{length, take, drop, length-take, length-drop, drop-of-length-le}
+use lib.Seq.{drop-drop}
 use Rattle.semantics.specs.Text.{Text, orElse, apply}
-use Rattle.semantics.specs.Pattern.{Pattern, star, In, matches}
-use Rattle.semantics.specs.Lens.{Lens, repeat, source, sheet, language, parts, Written, Writer, andThen, writeParts, write}
+use Rattle.semantics.specs.Lens.{Lens, repeat, match, source, sheet, language, parts, Written, Writer, andThen, writeParts, write}
 use Rattle.semantics.specs.Lens.{Book as Entries}
-use Rattle.semantics.specs.Table.{trees, treeAt, lens}
-use Rattle.laws.specs.WellTyped.{WellTyped}
+use Rattle.semantics.specs.Table.{trees, lens}
+use Rattle.laws.specs.Paths.{firstLoop}
+use Rattle.positions.specs.declared.Set.{Set}
+use Rattle.positions.specs.Positions.{holds}
 use Rattle.table.specs.Prepared.{OneLens}
-use Rattle.automaton.specs.declared.Side.the-variants.{Source, Sheet}
-use Rattle.automaton.specs.Rows.{automatonAt, Describes}
-use Rattle.language.specs.Flags.{flagged, Flags}
-use Rattle.lens.specs.declared.Wrote.the-variants.{Count}
-use Rattle.lens.specs.Overlay.{writes-nothing}
-use Rattle.lens.specs.Reading.{firstPart, first-part-some, parts-none, parts-next}
-use Rattle.lens.specs.Cutting.{SuffixFlags, rest-lent, suffix-flags-begin}
-use Rattle.lens.specs.Emitting.{LensNode, Fits}
-use Rattle.lens.specs.Nodes.{same-lens}
-use Rattle.lens.specs.Fitting.{part-in, fits-repeat}
+use Rattle.automaton.specs.declared.Side.the-variants.{Sheet}
+use Rattle.lens.specs.Reading.{firstPart, parts-none, parts-next}
+use Rattle.lens.specs.Cutting.{rest-lent}
+use Rattle.lens.specs.Emitting.{LensNode}
+use Rattle.lens.specs.Nodes.{same-lens, child-below}
+use Rattle.lens.specs.Parsed.{Parsed, ParsedFrom, Ends as EndsOf, parsed-length, parsed-begin, loop-inside-from, loop-moves-from, loop-part-from, loop-rest-from, loop-is-part-from}
 use Rattle.books.specs.declared.Book.{Book}
 use Rattle.books.specs.declared.Old.{Old}
-use Rattle.books.specs.declared.Old.the-variants.{At, Nothing}
-use Rattle.books.specs.Listed.{unused}
-use Rattle.books.specs.Looking.{BookOver, oldText, same-all}
-use Rattle.steps.specs.declared.Span.{Span}
-use Rattle.steps.specs.Steps.{OldInside, spanOf, oldBetween, PartEnd}
-use Rattle.steps.proofs.Stepping.{cut-rest, inside-at, inside-none}
+use Rattle.books.specs.declared.Old.the-variants.{Nothing}
+use Rattle.books.specs.Looking.{oldText, OldFits, BookOver, same-all, same-then}
+use Rattle.steps.specs.declared.Ends.{Ends}
+use Rattle.steps.specs.declared.Next.{Next}
+use Rattle.steps.specs.declared.Spot.{Spot}
+use Rattle.steps.specs.Steps.{EndsAre, nextOf, oldParts, firstOf, othersOf}
+use Rattle.steps.specs.Stepping.{behind-back, sheet-ends, OldEnds, next-fits}
+use Rattle.bookless.specs.Bookless.{NewGiven}
 use Rattle.writer.specs.declared.Done.{Done}
-use Rattle.writer.specs.Writing.{Progress, WritesNode, WritesBehind, leaving}
-use Rattle.writer.proofs.Behind.{progress-is, node-writes}
-use Rattle.writer.proofs.ByKind.{describes-source, describes-sheet}
+use Rattle.writer.specs.Writing.{WithinBuffer, Progress, WritesBehind, WritesMatches}
+use Rattle.writer.proofs.Behind.{then-same, then-again, then-nothing, progress-is, Left, behind-left, at-node, behind-same}
 
--- ---- The old text of a repeat, and the old parts
+-- ---- What the definitions write
 
--- it stands in the old source; where there is none, its span is empty
-pub span-inside : {old : Old} {span : Span} → OldInside old → span ≡ spanOf old → (span .start ≤ span .end) × (span .end ≤ 4096)
-span-inside {old} {span} inside e = rw e (go old inside)
-  where
-    go : (o : Old) → OldInside o → (spanOf o .start ≤ spanOf o .end) × (spanOf o .end ≤ 4096)
-    go (At start len) h = (omega arith, h .inside start len refl)
-    go Nothing h = (omega arith, omega arith)
-
-pub span-reaches :
-    (deck : Text) {old : Old} {span : Span}
-    → OldInside old
-    → span ≡ spanOf old
-    → span .start + length (take (span .end - span .start) (drop (span .start) deck)) ≤ 4096
-span-reaches deck {old} {span} inside e = omega (arith, length-take (span .end - span .start) (drop (span .start) deck), span-inside inside e)
-
-old-parts :
-    (deck : Text) (old : Old) (r : Pattern)
-    → orElse [] (apply (parts r) (oldText deck old)) ≡ parts r (take (spanOf old .end - spanOf old .start) (drop (spanOf old .start) deck))
-unfolding oldText apply orElse
-old-parts deck (At start len) r = let as-long : start + len - start ≡ len = omega arith in rw as-long
-old-parts deck Nothing r = sym (parts-none r)
-
--- the part of it from p to q, and none where no text is left
-module _ (deck : Text) (start end p q : ℕ) where
-  between-some :
-      end ≤ length deck
-      → p < q
-      → q ≤ length (take (end - start) (drop start deck))
-      → oldText deck (oldBetween (start + p) (start + q)) ≡ some (take (q - p) (drop p (take (end - start) (drop start deck))))
-  unfolding oldText
-  between-some inside h within =
-      let n = end - start in
-      let old = drop start deck in
-      let long : n ≤ length old = rw length-drop (omega arith) in
-      let as-long : (start + q) - (start + p) ≡ q - p = omega arith in
-      let reach : q ≤ n = omega (arith, length-take n old) in
-      rw
-      (lt-ltb (start + p) (start + q) (omega arith), as-long, cut-rest p n old (omega arith) long, take-take (q - p) (n - p) (drop p old) (omega arith), drop-drop p start deck)
-
-  between-none : q ≡ p → oldText deck (oldBetween (start + p) (start + q)) ≡ none
-  unfolding oldText
-  between-none e = rw (le-ltb (start + p) (start + q) (omega arith))
-
-pub between-inside : (start end : ℕ) → end ≤ 4096 → OldInside (oldBetween start end)
-between-inside start end h = go (ltb start end) refl
-  where
-    go : (b : Bool) → ltb start end ≡ b → OldInside (oldBetween start end)
-    go true t = rw t (inside-at (omega (arith, ltb-true start end t, h)))
-    go false t = rw t inside-none
-
--- ---- One part of the sheet meets one old part
-
--- the part from o to e is the first of what is left from o on
-parts-at :
-    (r : Pattern) (t : Text) (o e : ℕ)
-    → o < length t
-    → e ≡ o + firstPart r (drop o t)
-    → parts r (drop o t) ≡ take (e - o) (drop o t) ∷ parts r (drop e t)
-parts-at r t o e h is =
-    let size : e - o ≡ firstPart r (drop o t) = omega arith in
-    rw (size, is, ← drop-drop (firstPart r (drop o t)) o t) (parts-next r (drop o t) (rw length-drop (omega arith)))
-
--- one step of the definitions, with an old part and without
-parts-onto :
-    (w : Writer) (old new : Text) (olds news : List Text) (b : Entries)
-    → writeParts w (old ∷ olds) (new ∷ news) b ≡ andThen (w (some old) new b) (writeParts w olds news)
-unfolding writeParts
-parts-onto w old new olds news b = refl
-
-parts-new : (w : Writer) (new : Text) (news : List Text) (b : Entries) → writeParts w [] (new ∷ news) b ≡ andThen (w none new b) (writeParts w [] news)
-unfolding writeParts
-parts-new w new news b = refl
-
--- no part is left
-parts-over : (w : Written) (writer : Writer) (olds : List Text) → andThen w (writeParts writer olds []) ≡ w
-unfolding andThen writeParts
-parts-over w writer olds = rw append-nil
-
--- the same text, written behind
-andThen-same : (w : Written) {next next′ : Entries → Written} → ((b : Entries) → next b ≡ next′ b) → andThen w next ≡ andThen w next′
-unfolding andThen
-andThen-same w same = rw (same (w .book))
-
--- what is written in two steps
-then-again : (w : Written) (next after : Entries → Written) → andThen w (λ b. andThen (next b) after) ≡ andThen (andThen w next) after
-unfolding andThen
-then-again w next after = rw append-assoc
-
--- what the parts from o of the sheet and p of the old text on write
-abbrev leftFrom : Lens → Text → Text → ℕ → ℕ → Entries → Written
-leftFrom l old new o p = writeParts (write l) (parts (language source l) (drop p old)) (parts (language sheet l) (drop o new))
+-- one part meets the next old part, if there is one
+parts-step :
+    (w : Writer) (olds news : List Text) (new : Text) (b : Entries)
+    → writeParts w olds (new ∷ news) b ≡ andThen (w (firstOf olds) new b) (writeParts w (othersOf olds) news)
+unfolding writeParts firstOf othersOf
+parts-step w [] news new b = refl
+parts-step w (t ∷ olds) news new b = refl
 
 left-next :
-    (l : Lens) (deck new : Text) (start end o e p q : ℕ)
-    → let old = take (end - start) (drop start deck) in
-    end ≤ length deck
+    (l : Lens) (deck new : Text) (left : Old) (next : Next) (o i : ℕ)
     → o < length new
-    → e ≡ o + firstPart (language sheet l) (drop o new)
-    → (p < length old → q ≡ p + firstPart (language source l) (drop p old))
-    → (length old ≤ p → q ≡ p)
-    → q ≤ length old
+    → i ≡ firstPart (language sheet l) (drop o new)
+    → oldText deck (next .part) ≡ firstOf (oldParts l deck left)
+    → oldParts l deck (next .rest) ≡ othersOf (oldParts l deck left)
     → (b : Entries)
-    → leftFrom l old new o p b
-    ≡ andThen (write l (oldText deck (oldBetween (start + p) (start + q))) (take (e - o) (drop o new)) b) (leftFrom l old new e q)
-left-next l deck new start end o e p q inside h e-is more none-left within b = rw (parts-at (language sheet l) new o e h e-is) (go (ltb p (length old)) refl)
-  where
-    old : Text
-    old = take (end - start) (drop start deck)
+    → writeParts (write l) (oldParts l deck left) (parts (language sheet l) (drop o new)) b
+    ≡ andThen (write l (oldText deck (next .part)) (take (o + i - o) (drop o new)) b) (writeParts (write l) (oldParts l deck (next .rest)) (parts (language sheet l) (drop (o + i) new)))
+left-next l deck new left next o i more i-is part-is rest-are b =
+    let as-long : o + i - o ≡ i = omega arith in
+    let cut : parts (language sheet l) (drop o new) ≡ take i (drop o new) ∷ parts (language sheet l) (drop i (drop o new)) =
+    rw i-is (parts-next (language sheet l) (drop o new) (rw length-drop (omega arith))) in
+    rw
+    (as-long, part-is, rest-are, cut, ← (drop-drop i o new))
+    (parts-step (write l) (oldParts l deck left) (parts (language sheet l) (drop i (drop o new))) (take i (drop o new)) b)
 
-    S : Pattern
-    S = language source l
+-- no part is left
+parts-over : (w : Writer) (olds : List Text) (v : Written) → andThen v (writeParts w olds []) ≡ v
+unfolding writeParts
+parts-over w olds v = then-nothing v
 
-    go : (t : Bool) → ltb p (length old) ≡ t
-        → writeParts (write l) (parts S (drop p old)) (take (e - o) (drop o new) ∷ parts (language sheet l) (drop e new)) b
-        ≡ andThen (write l (oldText deck (oldBetween (start + p) (start + q))) (take (e - o) (drop o new)) b) (leftFrom l old new e q)
-    go true t =
-        let below : p < length old = ltb-true p (length old) t in
-        let q-is : q ≡ p + firstPart S (drop p old) = more below in
-        let longer : p < q = omega (arith, first-part-some S (drop p old)) in
-        rw (between-some deck start end p q inside longer within, parts-at S old p q below q-is) (parts-onto (write l) _ _ _ _ b)
-    go false t =
-        let over : length old ≤ p = ltb-false p (length old) t in
-        let same : q ≡ p = none-left over in
-        rw (between-none deck start end p q same, same, drop-of-length-le old over, parts-none S) (parts-new (write l) _ _ b)
+-- a writer that does not look at old texts writes parts that do not
+parts-free :
+    (w : Writer)
+    → ((old : Option Text) (a : Text) (b : Entries) → w old a b ≡ w none a b)
+    → (olds news : List Text) (b : Entries) → writeParts w olds news b ≡ writeParts w [] news b
+unfolding writeParts
+parts-free w free olds [] b = refl
+parts-free w free [] (a ∷ news) b = refl
+parts-free w free (t ∷ olds) (a ∷ news) b =
+    ap (λ v. andThen v (writeParts w olds news)) (free (some t) a b) ∙ then-same (w none a b) (λ b′. parts-free w free olds news b′)
 
--- ---- The flags, which stand at the front of the pad: those of the sheet, and behind them those of the old text
+-- so with a repeat of a match
+matches-free : (n : ℕ) (l : Lens) (old : Option Text) (new : Text) (b : Entries) → write (repeat (match n l)) old new b ≡ write (repeat (match n l)) none new b
+unfolding write apply orElse
+matches-free n l old new b =
+    parts-free (write (match n l)) (λ t a b′. refl) (orElse [] (apply (parts (language source (match n l))) old)) (parts (language sheet (match n l)) new) b
 
--- what is in front of a place stays while the list is written from there on
-kept-before : (s rest : List ℕ) (o i : ℕ) → i < o → o ≤ length s → getD (take o s ++ rest) i 0 ≡ getD s i 0
-kept-before s rest o i h k = List·getD-append (take o s) rest 0 i (omega (arith, length-take-le o s k)) ∙ getD-take o s i 0 h
-
--- flags that stay tell the ends of what is left
-flags-stay :
-    {a : Pattern} {t : Text} {flags flags′ : List ℕ} {o : ℕ} (e : ℕ)
-    → SuffixFlags a t flags o
-    → o ≤ e
-    → ((i : ℕ) → i ≤ length t → getD flags′ i 0 ≡ getD flags i 0)
-    → SuffixFlags a t flags′ e
-unfolding flagged
-flags-stay e known h same = record { flag-is = λ i l w. rw (same i w) (known .flag-is i (omega arith) w) }
+pub matches-written :
+    {bytes : Text} {node child n : ℕ} (deck : Text) {new mid after : Text} {done r : Done}
+    → OneLens (trees bytes) node child (λ l. lens (repeat l))
+    → OneLens (trees bytes) child n (λ l. lens (match n l))
+    → WritesBehind bytes node deck (oldText deck Nothing) new done mid after r
+    → WritesMatches bytes node deck new done mid after r
+unfolding oldText
+matches-written {n = n} deck {new = new} s inner w =
+    let l = match n (inner .child) in
+    let tree-is = s .tree-is ∙ ap (λ k. lens (repeat k)) (same-lens (s .child) l (sym (s .at-child) ∙ inner .tree-is)) in
+    record { writes = λ old. at-node (repeat l) tree-is (behind-same (matches-free n (inner .child) old new) (w .writes (repeat l) tree-is)) }
 
 -- ---- The turns of the loop
 
--- The parts up to o of the sheet and p of the old text were written, the sheet behind o has parts, and the flags tell the ends of the others.
-pub record Parting (bytes : Text) (child : ℕ) (deck old new : Text) (b : Book) (before pad out : Text) (done : Done) (o p : ℕ) : Type 0 where
-  pub o-within : o ≤ length new
-  pub p-within : p ≤ length old
-  pub part-lens : Lens
-  pub at-child : treeAt (trees bytes) child ≡ lens part-lens
-  pub part-typed : WellTyped part-lens
-  pub rest-belongs : In (star (language sheet part-lens)) (drop o new)
-  pub sheet-flags : SuffixFlags (language sheet part-lens) new pad o
-  pub source-flags : SuffixFlags (language source part-lens) old (drop (length new + 1) pad) p
-  pub so-far : Written
-  pub so-far-is : leftFrom part-lens old new 0 0 (unused (trees bytes) deck b) ≡ andThen so-far (leftFrom part-lens old new o p)
-  pub progress : Progress bytes deck so-far b before out done
+-- where there is no old text, no part of it ends anywhere
+pub none-ends : {prepared : List ℕ} {child : ℕ} {ends : Ends} → OldEnds prepared child Nothing ends
+none-ends = record { ends-are = λ p e. absurd (let z : _≡_ {A = ℕ} 0 1 = cc in omega arith) }
+
+-- The parts up to o of the sheet were written, from `start` on; the sheet behind o is parsed, and `left` has the old parts of the others.
+pub record Parting
+    (bytes : Text)
+    (prepared : List ℕ)
+    (child base : ℕ)
+    (last first : Set)
+    (olds : Ends)
+    (new deck : Text)
+    (old : Old)
+    (start : Done)
+    (before : Text)
+    (path : List ℕ)
+    (left : Old)
+    (o : ℕ)
+    (out : Text)
+    (done : Done) : Type 0 where
+  pub node : ℕ
+  pub known : LensNode bytes prepared node
+  pub one : OneLens (trees bytes) node child (λ l. lens (repeat l))
+  pub ends : EndsOf (language sheet (one .child)) base last first
+  pub parsed : ParsedFrom bytes node sheet base path new o
+  pub left-fits : OldFits bytes node deck left
+  pub left-ends : OldEnds prepared child left olds
+  pub so-far : Entries → Written
+  pub so-far-is :
+      (b : Entries)
+      → write (repeat (one .child)) (oldText deck old) new b
+      ≡ andThen (so-far b) (writeParts (write (one .child)) (oldParts (one .child) deck left) (parts (language sheet (one .child)) (drop o new)))
+  pub progress :
+      (w : Written) (b : Book) (first : Text) → Progress bytes deck w b first before start → Progress bytes deck (andThen w so-far) b first out done
+  pub kept : Left start out done
 
 -- no part was written yet
 pub parting-begins :
-    {bytes prepared : List ℕ} {node child : ℕ} {deck old new : Text} {b : Book} {pad₀ pad flags₀ flags : List ℕ} (out : Text)
+    {bytes : Text} {prepared : List ℕ} {node child base : ℕ} {ends olds : Ends} {new path deck : Text} {old : Old} {done : Done} {out : Text}
     → LensNode bytes prepared node
     → OneLens (trees bytes) node child (λ l. lens (repeat l))
-    → Fits bytes node sheet new
-    → BookOver 4096 b
-    → ((r : Pattern) → Describes r (automatonAt prepared node Sheet) prepared → Flags (λ i. matches r (drop i new)) (length new) pad₀ pad)
-    → ((r : Pattern) → Describes r (automatonAt prepared node Source) prepared → Flags (λ i. matches r (drop i old)) (length old) flags₀ flags)
-    → length new + 1 ≤ length pad
-    → let mid = length new + 1 in
-    Parting bytes child deck old new b out (take mid pad ++ (flags ++ drop (length pad - mid) (drop mid pad))) out (leaving (Count 0) b) 0 0
-unfolding language andThen
-parting-begins {deck} {old} {new} {b} {pad} {flags} out known s fits over sheet-told source-told room =
-    let mid = length new + 1 in
-    let l = s .child in
-    let reaches : length (drop mid pad) ≤ length pad - mid = rw length-drop (omega arith) in
-    let behind-it : drop mid (take mid pad ++ (flags ++ drop (length pad - mid) (drop mid pad))) ≡ flags =
-    drop-at (take mid pad) (flags ++ drop (length pad - mid) (drop mid pad)) mid (length-take-le mid pad room) ∙ rw (drop-of-length-le (drop mid pad) reaches, append-nil) in
+    → Parsed bytes node sheet base path new
+    → EndsAre prepared child Sheet base ends
+    → OldFits bytes node deck old
+    → OldEnds prepared child old olds
+    → BookOver 4096 (done .book)
+    → WithinBuffer done out
+    → Parting bytes prepared child base (ends .last) (ends .first) olds new deck old done out path old 0 out done
+unfolding write andThen
+parting-begins {done = done} known one parsed are fits old-are over within =
     record {
-      o-within = omega arith;
-      p-within = omega arith;
-      part-lens = l;
-      at-child = s .at-child;
-      part-typed = fits-repeat fits s .0;
-      rest-belongs = fits-repeat fits s .1;
-      sheet-flags =
-          flags-stay
-          0
-          (suffix-flags-begin (sheet-told (star (language sheet l)) (describes-sheet known (repeat l) (s .tree-is))))
-          (omega arith)
-          (λ i h. kept-before pad _ mid i (omega arith) room);
-      source-flags = rw behind-it (suffix-flags-begin (source-told (star (language source l)) (describes-source known (repeat l) (s .tree-is))));
-      so-far = record { text = []; book = unused (trees _) deck b };
-      so-far-is = refl;
-      progress = record { bytes-are = writes-nothing out; book-is = λ h. refl; over = over; same-entries = same-all b };
+      node = _;
+      known = known;
+      one = one;
+      ends = sheet-ends (child-below known one) one parsed are;
+      parsed = parsed-begin parsed;
+      left-fits = fits;
+      left-ends = old-are;
+      so-far = λ b. record { text = []; book = b };
+      so-far-is = λ b. refl;
+      progress = λ w b first p. progress-is (sym (then-nothing w)) p;
+      kept = record { over = over; same-entries = same-all (done .book); within = within };
     }
 
--- the next part of the sheet ends where the first part of what is left does
-part-ends :
-    {bytes prepared : List ℕ} {child : ℕ} {deck old new : Text} {b : Book} {before pad out : Text} {done : Done} {o p e : ℕ}
-    → LensNode bytes prepared child
-    → (parting : Parting bytes child deck old new b before pad out done o p)
-    → o < length new
-    → PartEnd prepared child Sheet new pad o e
-    → e ≡ o + firstPart (language sheet (parting .part-lens)) (drop o new)
-part-ends known parting some-left sheet-end =
-    let l = parting .part-lens in
-    sheet-end .place-is (language sheet l) (describes-sheet known l (parting .at-child)) (parting .sheet-flags) some-left
+module _
+    {bytes : Text}
+    {prepared : List ℕ}
+    {child base : ℕ}
+    {last first : Set}
+    {olds : Ends}
+    {new deck : Text}
+    {old : Old}
+    {start : Done}
+    {before : Text}
+    {path : List ℕ}
+    {left : Old}
+    {o : ℕ}
+    {out : Text}
+    {done : Done}
+    (parting : Parting bytes prepared child base last first olds new deck old start before path left o out done) where
+  -- where there is more of the sheet, there is more of its path
+  pub more-path : o < length new → o < length path
+  more-path more = omega (arith, more, parsed-length (parting .parsed .rest), length-drop o path, length-drop o new)
 
--- it belongs to the node that is repeated
-pub part-fits :
-    {bytes prepared : List ℕ} {child : ℕ} {deck old new : Text} {b : Book} {before pad out : Text} {done : Done} {o p e : ℕ}
-    → LensNode bytes prepared child
-    → Parting bytes child deck old new b before pad out done o p
-    → o < length new
-    → PartEnd prepared child Sheet new pad o e
-    → Fits bytes child sheet (take (e - o) (drop o new))
-part-fits {new} {o} {e} known parting some-left sheet-end =
-    let l = parting .part-lens in
-    let belongs = part-in (language sheet l) new o e some-left (part-ends known parting some-left sheet-end) (parting .rest-belongs) .0 in
-    record { tree = l; tree-is = parting .at-child; typed = parting .part-typed; belongs = belongs }
+  pub more-lent : o < length new → 0 < length (take (length path - o) (drop o path))
+  more-lent more = rw (rest-lent path o, length-drop) (omega (arith, more-path more))
 
--- one part more: behind the flags, the pad is as its writer left it
-pub parting-next :
-    {bytes prepared : List ℕ} {child : ℕ} {deck new : Text} {b : Book} {before pad out out′ : Text} {done done′ : Done} {o p e q : ℕ} (start end : ℕ)
-    → let old = take (end - start) (drop start deck) in
-    let mid = length new + 1 in
-    LensNode bytes prepared child
-    → end ≤ length deck
-    → Parting bytes child deck old new b before pad out done o p
-    → o < length new
-    → PartEnd prepared child Sheet new pad o e
-    → PartEnd prepared child Source old (take (length pad - mid) (drop mid pad)) p q
-    → WritesBehind bytes child deck (oldText deck (oldBetween (start + p) (start + q))) (take (e - o) (drop o new)) done out out′ done′
-    → (rest : List ℕ)
-    → mid + length old + 1 ≤ length pad
-    → Parting bytes child deck old new b before (take (mid + length old + 1) pad ++ rest) out′ done′ e q
-parting-next {bytes} {child} {deck} {new} {b} {before} {pad} {done} {o} {p} {e} {q} start end known inside parting some-left sheet-end source-end wrote rest room =
-    let old = take (end - start) (drop start deck) in
-    let mid = length new + 1 in
-    let free = mid + length old + 1 in
-    let l = parting .part-lens in
-    let part = oldText deck (oldBetween (start + p) (start + q)) in
-    let e-is = part-ends known parting some-left sheet-end in
-    let q-is = source-end .place-is (language source l) (describes-source known l (parting .at-child)) (rw (rest-lent pad mid) (parting .source-flags)) in
-    let q-end : length old ≤ p → q ≡ p = λ h. omega (arith, source-end .from, source-end .within) in
-    let step = left-next l deck new start end o e p q inside some-left e-is q-is q-end (source-end .within) in
-    record {
-      o-within = sheet-end .within;
-      p-within = source-end .within;
-      part-lens = l;
-      at-child = parting .at-child;
-      part-typed = parting .part-typed;
-      rest-belongs = part-in (language sheet l) new o e some-left e-is (parting .rest-belongs) .1;
-      sheet-flags = flags-stay e (parting .sheet-flags) (sheet-end .from) (λ i h. kept-before pad rest free i (omega arith) room);
-      source-flags =
-          flags-stay
-          q
-          (parting .source-flags)
-          (source-end .from)
-          (λ i h. getD-drop mid (take free pad ++ rest) i 0 ∙ kept-before pad rest free (mid + i) (omega arith) room ∙ sym (getD-drop mid pad i 0));
-      so-far = andThen (parting .so-far) (write l part (take (e - o) (drop o new)));
-      so-far-is =
-          parting .so-far-is
-          ∙ andThen-same (parting .so-far) step
-          ∙ then-again (parting .so-far) (write l part (take (e - o) (drop o new))) (leftFrom l old new e q);
-      progress = wrote .writes l (parting .at-child) (parting .so-far) b before (parting .progress);
-    }
+  -- the next part is not empty, and within both; it is parsed at the child
+  module _ {i : ℕ} (more : o < length new) (i-is : i ≡ firstLoop (holds last) (holds first) (take (length path - o) (drop o path))) where
+    pub part-inside : (0 < i) × (o + i ≤ length new) × (o + i ≤ length path)
+    part-inside =
+        let inside = loop-inside-from (parting .parsed) (parting .one) (parting .ends) more i-is in (
+          loop-moves-from (parting .parsed) (parting .one) (parting .ends) more i-is,
+          inside,
+          omega (arith, inside, more, parsed-length (parting .parsed .rest), length-drop o path, length-drop o new),
+        )
 
--- the sheet has no more parts
-pub parting-ends :
-    {bytes : Text} {node child : ℕ} {deck new : Text} {b : Book} {before pad out : Text} {done : Done} {o p : ℕ} (old : Old) {span : Span}
-    → OneLens (trees bytes) node child (λ l. lens (repeat l))
-    → span ≡ spanOf old
-    → Parting bytes child deck (take (span .end - span .start) (drop (span .start) deck)) new b before pad out done o p
-    → length new ≤ o
-    → WritesNode bytes node deck (oldText deck old) new b before out done
-unfolding write
-parting-ends {bytes} {deck} {new} {b} {o} {p} old {span} s is parting end =
-    let l = parting .part-lens in
-    let tree-is = s .tree-is ∙ ap (λ k. lens (repeat k)) (same-lens (s .child) l (sym (s .at-child) ∙ parting .at-child)) in
-    let none-left : parts (language sheet l) (drop o new) ≡ [] = rw (drop-of-length-le new end) (parts-none (language sheet l)) in
-    let whole : write (repeat l) (oldText deck old) new (unused (trees bytes) deck b) ≡ parting .so-far =
-    rw (old-parts deck old (language source l), ← is) (parting .so-far-is ∙ rw none-left (parts-over (parting .so-far) (write l) _)) in
-    node-writes (repeat l) tree-is (progress-is (sym whole) (parting .progress))
+    pub part-given :
+        {spot : Spot} {whole : List ℕ}
+        → NewGiven bytes spot new whole deck
+        → NewGiven bytes (record { node = child; base = base }) (take (o + i - o) (drop o new)) (take (o + i - o) (drop o path)) deck
+    part-given given =
+        record {
+          new-short = omega (arith, given .new-short, length-take (o + i - o) (drop o new), length-drop o new);
+          parsed = loop-part-from (parting .parsed) (parting .one) (parting .ends) more i-is;
+          deck-room = given .deck-room;
+        }
+
+  -- it meets an old part that is parsed at the child
+  pub part-old : {next : Next} → 8192 ≤ length deck → next ≡ nextOf left olds deck → OldFits bytes child deck (next .part)
+  part-old room next-is =
+      next-fits deck left (child-below (parting .known) (parting .one)) (parting .one) room (parting .left-fits) (parting .left-ends) next-is .part-fits
+
+  -- the sheet has no more parts
+  pub parting-ends :
+      {node : ℕ}
+      → OneLens (trees bytes) node child (λ l. lens (repeat l))
+      → length new ≤ o
+      → WritesBehind bytes node deck (oldText deck old) new start before out done
+  parting-ends s end =
+      let l = parting .one .child in
+      let same : s .child ≡ l = same-lens (s .child) l (sym (s .at-child) ∙ parting .one .at-child) in
+      let none-left : parts (language sheet l) (drop o new) ≡ [] = rw (drop-of-length-le new end) (parts-none (language sheet l)) in
+      let whole : (b : Entries) → write (repeat l) (oldText deck old) new b ≡ parting .so-far b =
+      λ b. parting .so-far-is b ∙ rw none-left (parts-over (write l) (oldParts l deck left) (parting .so-far b)) in
+      at-node
+      (repeat l)
+      (s .tree-is ∙ ap (λ k. lens (repeat k)) same)
+      (record { progress = λ w b front p. progress-is (sym (then-same w whole)) (parting .progress w b front p) })
+
+  -- one part more: behind it, the path is as it was
+  pub parting-next :
+      {i : ℕ} {next : Next} {out′ : Text} {done′ : Done} (part : List ℕ)
+      → 8192 ≤ length deck
+      → o < length new
+      → i ≡ firstLoop (holds last) (holds first) (take (length path - o) (drop o path))
+      → next ≡ nextOf left olds deck
+      → WritesBehind bytes child deck (oldText deck (next .part)) (take (o + i - o) (drop o new)) done out out′ done′
+      → length part ≡ length (take (o + i - o) (drop o path))
+      → Parting bytes prepared child base last first olds new deck old start before (take o path ++ (part ++ drop (o + i - o) (drop o path))) (next .rest) (o + i) out′ done′
+  parting-next {i} {next} {out′} {done′} part room more i-is next-is wrote as-long =
+      let s = parting .one in
+      let l = s .child in
+      let known = child-below (parting .known) s in
+      let (moves, inside, path-long) = part-inside more i-is in
+      let fits = next-fits deck left known s room (parting .left-fits) (parting .left-ends) next-is in
+      let behind = behind-back path part o (o + i) (omega arith) path-long as-long in
+      let rest = loop-rest-from (parting .parsed) s (parting .ends) more i-is in
+      let wrote-part = wrote .writes l (s .at-child) in
+      let after = behind-left (parting .kept .over) (parting .kept .within) wrote-part in
+      let one-part = write l (oldText deck (next .part)) (take (o + i - o) (drop o new)) in
+      record {
+        node = parting .node;
+        known = parting .known;
+        one = s;
+        ends = parting .ends;
+        parsed = record { within = inside; rest = rw behind (rest .rest) };
+        left-fits = fits .rest-fits;
+        left-ends = fits .rest-ends;
+        so-far = λ b. andThen (parting .so-far b) one-part;
+        so-far-is = λ b. parting .so-far-is b ∙ then-same (parting .so-far b) (left-next l deck new left next o i more (loop-is-part-from (parting .parsed) s (parting .ends) more i-is) (fits .part-is) (fits .rest-are)) ∙ then-again (parting .so-far b) one-part _;
+        progress = λ w b front p.
+            progress-is (sym (then-again w (parting .so-far) one-part)) (wrote-part .progress (andThen w (parting .so-far)) b front (parting .progress w b front p));
+        kept = record { over = after .over; same-entries = same-then (parting .kept .same-entries) (after .same-entries); within = after .within };
+      }

@@ -1,11 +1,10 @@
-// Put and create: what a lens writes for a sheet, onto an old text or without one.
+// Put and create: what a lens writes for a sheet, onto an old text or without one, with the book of old entries.
 use books::Book;
 use lens::Wrote;
 
-pub mod pads;
 pub mod write;
 
-// What a writer did, and the book that is left.
+// What was written so far, and the book that is left.
 pub struct Done {
     pub wrote: Wrote,
     pub book: Book,

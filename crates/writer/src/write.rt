@@ -1,282 +1,372 @@
-// A lens writes the source of a sheet, onto an old text or without one. The deck holds the old source and its entries' cards; the book goes from left to
-// right. Each repeat keeps its flags at the front of the pad, and lends the pad behind them to its parts. So the pad has a share for each lens repeat up
-// to the node, and behind them the flags of one text, for cuts: see `pads`.
+// A lens writes the source of a sheet behind what was written: `put` onto an old text, `create` without one. The two call each other, and the node falls at each call. The book
+// goes from left to right; a node none of whose matches can find an entry writes without it. Cuts, arms and parts are read off the paths of the sheet and of the old source.
 use crate::Done;
 use automaton::Side;
+use bookless::write;
 use books::Book;
 use books::Lookup;
 use books::Old;
-use books::cards::card_of;
+use books::Place;
+use decks::below::asks_none;
+use decks::cards::card_of;
 use lens::Wrote;
+use paths::first_loop;
+use steps::Ends;
+use steps::Spot;
 use steps::behind;
 use steps::choose;
-use steps::cut_of;
-use steps::flag_ends;
+use steps::cut_sheet;
+use steps::ends_of;
 use steps::halves_of;
-use steps::old_between;
-use steps::part_end;
-use steps::span_of;
-use steps::write_leaf;
+use steps::next_old;
+use steps::old_base;
 use table::Kind;
 use table::Table;
 ghost use mathlib.Core.Path.{_≡_};
 ghost use mathlib.Core.Option.{none, some};
-ghost use Prim.Native.Nat.{_+_, _≤_};
-ghost use lib.ListN.{length, take, drop};
-ghost use Rattle.semantics.specs.Lens.{repeat};
+ghost use lib.ListN.{length};
+ghost use Rattle.semantics.specs.Lens.{repeat, match};
 ghost use Rattle.semantics.specs.Table.{trees, lens};
 ghost use Rattle.table.specs.Prepared.{OneLens};
-ghost use Rattle.books.specs.Looking.{oldText};
-ghost use Rattle.steps.specs.Steps.{OldInside};
-ghost use Rattle.writer.specs.Writing.{Ready, Lent, LentJoin, WithinBuffer, WritesNode, WritesBehind, WritesJoin, WritesMatch, EntryFound};
+ghost use Rattle.automaton.specs.declared.Side.the-variants.{Sheet};
+ghost use Rattle.lens.specs.Emitting.{LensNode};
+ghost use Rattle.books.specs.Looking.{partAt, oldText};
+ghost use Rattle.bookless.specs.Bookless.{NewGiven, Given, GivenOld};
+ghost use Rattle.steps.specs.Steps.{EndsAre};
+ghost use Rattle.writer.specs.Writing.{LooksIn, Ready, AsksNone, Fitted, WithinBuffer, WritesBehind, WritesMatch, WritesMatches, WritesNext, EntryFound};
 
-// A sheet is put onto an old text.
-pub fn put(
+// What a node writes behind what was written, with no book.
+fn next_plain(
+    wrote: Wrote,
     bytes: &[u8],
     prepared: &[u64],
-    node: usize,
+    spot: Spot,
     new: &[u8],
-    start: usize,
-    len: usize,
-    deck: &[u8],
-    book: Book,
-    pad: &mut [u8],
-    out: &mut [u8],
-) -> Done
-    requires { ⌜ Ready (now bytes) (now prepared) node (now deck) book ⌝ }
-    requires { ⌜ Lent (now bytes) node (now new) (now pad) ⌝ }
-    requires { ⌜ start + len ≤ 4096 ⌝ }
-    ensures { λ r. ⌜ WritesNode (now (bytes .entry)) node (now (deck .entry)) (some (take len (drop start (now (deck .entry))))) (now (new .entry)) book (now (out .entry)) (now (out .exit)) r ⌝ }
-{
-    let old = Old::At { start, len };
-    write_node(bytes, prepared, node, new, old, deck, book, pad, out)
-}
-
-// A sheet, and no old text.
-pub fn create(
-    bytes: &[u8],
-    prepared: &[u64],
-    node: usize,
-    new: &[u8],
-    deck: &[u8],
-    book: Book,
-    pad: &mut [u8],
-    out: &mut [u8],
-) -> Done
-    requires { ⌜ Ready (now bytes) (now prepared) node (now deck) book ⌝ }
-    requires { ⌜ Lent (now bytes) node (now new) (now pad) ⌝ }
-    ensures { λ r. ⌜ WritesNode (now (bytes .entry)) node (now (deck .entry)) none (now (new .entry)) book (now (out .entry)) (now (out .exit)) r ⌝ }
-{
-    let old = Old::Nothing;
-    write_node(bytes, prepared, node, new, old, deck, book, pad, out)
-}
-
-// What a node's lens writes.
-pub fn write_node(
-    bytes: &[u8],
-    prepared: &[u64],
-    node: usize,
-    new: &[u8],
+    path: &mut [u8],
     old: Old,
     deck: &[u8],
-    book: Book,
-    pad: &mut [u8],
+    out: &mut [u8],
+) -> Wrote
+    requires { ⌜ LensNode (now bytes) (now prepared) (spot .node) ⌝ }
+    requires { ⌜ GivenOld (now bytes) spot (now new) (now path) old (now deck) ⌝ }
+    requires { ⌜ Fitted wrote (now out) ⌝ }
+    ensures { λ r. ⌜ WritesNext (now (bytes .entry)) (spot .node) (oldText (now (deck .entry)) old) (now (new .entry)) wrote (now (out .entry)) (now (out .exit)) r ⌝ }
+{
+    let Wrote::Count(n) = wrote else {
+        return wrote;
+    };
+    let rest = &mut out[n..];
+    let more = write(bytes, prepared, spot, new, path, old, deck, rest);
+    behind(n, more)
+}
+
+// The same, and the book that is left.
+fn plain_behind(
+    done: Done,
+    bytes: &[u8],
+    prepared: &[u64],
+    spot: Spot,
+    new: &[u8],
+    path: &mut [u8],
+    old: Old,
+    deck: &[u8],
+    below: &[u64],
     out: &mut [u8],
 ) -> Done
-    requires { ⌜ Ready (now bytes) (now prepared) node (now deck) book ⌝ }
-    requires { ⌜ Lent (now bytes) node (now new) (now pad) × OldInside old ⌝ }
-    ensures { λ r. ⌜ WritesNode (now (bytes .entry)) node (now (deck .entry)) (oldText (now (deck .entry)) old) (now (new .entry)) book (now (out .entry)) (now (out .exit)) r ⌝ }
+    requires { ⌜ Ready (now bytes) (now prepared) (spot .node) (now deck) (now below) (done .book) ⌝ }
+    requires { ⌜ GivenOld (now bytes) spot (now new) (now path) old (now deck) ⌝ }
+    requires { ⌜ WithinBuffer done (now out) × AsksNone (now below) (spot .node) (done .book) ⌝ }
+    ensures { λ r. ⌜ WritesBehind (now (bytes .entry)) (spot .node) (now (deck .entry)) (oldText (now (deck .entry)) old) (now (new .entry)) done (now (out .entry)) (now (out .exit)) r ⌝ }
 {
+    let book = done.book;
+    let wrote = done.wrote;
+    let more = next_plain(wrote, bytes, prepared, spot, new, path, old, deck, out);
+    Done { wrote: more, book }
+}
+
+// A sheet is put onto an old text. A node with no lens below it looks nothing up, so it writes without the book.
+pub fn put(
+    done: Done,
+    bytes: &[u8],
+    prepared: &[u64],
+    spot: Spot,
+    new: &[u8],
+    path: &mut [u8],
+    place: Place,
+    deck: &[u8],
+    below: &[u64],
+    card: &mut [u8],
+    out: &mut [u8],
+) -> Done
+    requires { ⌜ Ready (now bytes) (now prepared) (spot .node) (now deck) (now below) (done .book) ⌝ }
+    requires { ⌜ Given (now bytes) spot (now new) (now path) place (now deck) ⌝ }
+    requires { ⌜ WithinBuffer done (now out) × (length (now card) ≡ 4098) ⌝ }
+    ensures { λ r. ⌜ WritesBehind (now (bytes .entry)) (spot .node) (now (deck .entry)) (some (partAt (now (deck .entry)) place)) (now (new .entry)) done (now (out .entry)) (now (out .exit)) r ⌝ }
+{
+    let node = spot.node;
+    let base = spot.base;
+    let old = Old::At(place);
+    let book = done.book;
+    if asks_none(below, node, book.left) {
+        return plain_behind(done, bytes, prepared, spot, new, path, old, deck, below, out);
+    }
     let read = Table::node(bytes, prepared, node);
     let kind = read.kind;
     match kind {
         Kind::LensJoin { left, right } => {
-            write_join(bytes, prepared, left, right, new, old, deck, book, pad, out)
+            let cut = cut_sheet(prepared, left, right, base, path);
+            let i = cut.at;
+            let near = cut.left;
+            let far = cut.right;
+            let halves = halves_of(prepared, left, place, deck);
+            let first = halves.first;
+            let second = halves.second;
+            let front = &new[0..i];
+            let track = &mut path[0..i];
+            let begun = put(done, bytes, prepared, near, front, track, first, deck, below, card, out);
+            let back = &new[i..];
+            let track = &mut path[i..];
+            put(begun, bytes, prepared, far, back, track, second, deck, below, card, out)
         }
         Kind::LensUnion { left, right } => {
-            let choice = choose(prepared, left, right, new, old, deck);
+            let choice = choose(prepared, left, right, base, new, path, old, deck);
             let arm = choice.arm;
             let kept = choice.old;
-            write_node(bytes, prepared, arm, new, kept, deck, book, pad, out)
+            put_or_create(done, bytes, prepared, arm, new, path, kept, deck, below, card, out)
         }
         Kind::LensRepeat { child } => {
-            write_parts(bytes, prepared, node, child, new, old, deck, book, pad, out)
+            write_parts(done, bytes, prepared, spot, child, new, path, old, deck, below, card, out)
         }
-        Kind::Match { child } => write_match(bytes, prepared, child, new, deck, book, pad, out),
-        _ => {
-            let wrote = write_leaf(bytes, prepared, kind, new, old, deck, out);
-            Done { wrote, book }
+        Kind::Match { child } => {
+            let inner = Spot { node: child, base };
+            write_match(done, bytes, prepared, inner, new, path, deck, below, card, out)
         }
+        _ => plain_behind(done, bytes, prepared, spot, new, path, old, deck, below, out),
     }
 }
 
-// What a node's lens writes directly behind what was written, with the book that is left.
-fn write_behind(
+// A sheet, and no old text.
+pub fn create(
     done: Done,
     bytes: &[u8],
     prepared: &[u64],
-    node: usize,
+    spot: Spot,
     new: &[u8],
-    old: Old,
+    path: &mut [u8],
     deck: &[u8],
-    pad: &mut [u8],
+    below: &[u64],
+    card: &mut [u8],
     out: &mut [u8],
 ) -> Done
-    requires { ⌜ Ready (now bytes) (now prepared) node (now deck) (done .book) ⌝ }
-    requires { ⌜ Lent (now bytes) node (now new) (now pad) × OldInside old ⌝ }
-    requires { ⌜ WithinBuffer done (now out) ⌝ }
-    ensures { λ r. ⌜ WritesBehind (now (bytes .entry)) node (now (deck .entry)) (oldText (now (deck .entry)) old) (now (new .entry)) done (now (out .entry)) (now (out .exit)) r ⌝ }
+    requires { ⌜ Ready (now bytes) (now prepared) (spot .node) (now deck) (now below) (done .book) ⌝ }
+    requires { ⌜ NewGiven (now bytes) spot (now new) (now path) (now deck) ⌝ }
+    requires { ⌜ WithinBuffer done (now out) × (length (now card) ≡ 4098) ⌝ }
+    ensures { λ r. ⌜ WritesBehind (now (bytes .entry)) (spot .node) (now (deck .entry)) none (now (new .entry)) done (now (out .entry)) (now (out .exit)) r ⌝ }
 {
-    let wrote = done.wrote;
+    let node = spot.node;
+    let base = spot.base;
+    let old = Old::Nothing;
     let book = done.book;
-    let Wrote::Count(n) = wrote else {
-        return done;
-    };
-    let rest = &mut out[n..];
-    let more = write_node(bytes, prepared, node, new, old, deck, book, pad, rest);
-    let count = more.wrote;
-    let left = more.book;
-    Done {
-        wrote: behind(n, count),
-        book: left,
+    if asks_none(below, node, book.left) {
+        return plain_behind(done, bytes, prepared, spot, new, path, old, deck, below, out);
+    }
+    let read = Table::node(bytes, prepared, node);
+    let kind = read.kind;
+    match kind {
+        Kind::LensJoin { left, right } => {
+            let cut = cut_sheet(prepared, left, right, base, path);
+            let i = cut.at;
+            let near = cut.left;
+            let far = cut.right;
+            let front = &new[0..i];
+            let track = &mut path[0..i];
+            let half = create(done, bytes, prepared, near, front, track, deck, below, card, out);
+            let back = &new[i..];
+            let track = &mut path[i..];
+            create(half, bytes, prepared, far, back, track, deck, below, card, out)
+        }
+        Kind::LensUnion { left, right } => {
+            let choice = choose(prepared, left, right, base, new, path, old, deck);
+            let arm = choice.arm;
+            let kept = choice.old;
+            put_or_create(done, bytes, prepared, arm, new, path, kept, deck, below, card, out)
+        }
+        Kind::LensRepeat { child } => {
+            write_parts(done, bytes, prepared, spot, child, new, path, old, deck, below, card, out)
+        }
+        Kind::Match { child } => {
+            let inner = Spot { node: child, base };
+            write_match(done, bytes, prepared, inner, new, path, deck, below, card, out)
+        }
+        _ => plain_behind(done, bytes, prepared, spot, new, path, old, deck, below, out),
     }
 }
 
-// A join: the left half, and directly behind it the right half.
-fn write_join(
+// Put where there is an old text, create where there is none.
+fn put_or_create(
+    done: Done,
     bytes: &[u8],
     prepared: &[u64],
-    left: usize,
-    right: usize,
+    spot: Spot,
     new: &[u8],
+    path: &mut [u8],
     old: Old,
     deck: &[u8],
-    book: Book,
-    pad: &mut [u8],
+    below: &[u64],
+    card: &mut [u8],
     out: &mut [u8],
 ) -> Done
-    requires { ⌜ Ready (now bytes) (now prepared) left (now deck) book × Ready (now bytes) (now prepared) right (now deck) book ⌝ }
-    requires { ⌜ LentJoin (now bytes) left right (now new) (now pad) × OldInside old ⌝ }
-    ensures { λ r. ⌜ WritesJoin (now (bytes .entry)) left right (now (deck .entry)) (oldText (now (deck .entry)) old) (now (new .entry)) book (now (out .entry)) (now (out .exit)) r ⌝ }
+    requires { ⌜ Ready (now bytes) (now prepared) (spot .node) (now deck) (now below) (done .book) ⌝ }
+    requires { ⌜ GivenOld (now bytes) spot (now new) (now path) old (now deck) ⌝ }
+    requires { ⌜ WithinBuffer done (now out) × (length (now card) ≡ 4098) ⌝ }
+    ensures { λ r. ⌜ WritesBehind (now (bytes .entry)) (spot .node) (now (deck .entry)) (oldText (now (deck .entry)) old) (now (new .entry)) done (now (out .entry)) (now (out .exit)) r ⌝ }
 {
-    let i = cut_of(prepared, left, right, Side::Sheet, new, pad);
-    let front = &new[0..i];
-    let back = &new[i..];
-    let halves = halves_of(prepared, left, right, old, deck, pad);
-    let first = halves.first;
-    let second = halves.second;
-    let done = write_node(bytes, prepared, left, front, first, deck, book, pad, out);
-    write_behind(done, bytes, prepared, right, back, second, deck, pad, out)
+    match old {
+        Old::At(place) => {
+            put(done, bytes, prepared, spot, new, path, place, deck, below, card, out)
+        }
+        Old::Nothing => create(done, bytes, prepared, spot, new, path, deck, below, card, out),
+    }
 }
 
-// A repeat: part n of the sheet onto part n of the old text.
+// A repeat: part n of the sheet onto part n of the old text; parts left over are created. A match does not look at the old text at its own place, so a repeat of one cuts none.
 fn write_parts(
+    done: Done,
     bytes: &[u8],
     prepared: &[u64],
-    node: usize,
+    spot: Spot,
     child: usize,
     new: &[u8],
+    path: &mut [u8],
     old: Old,
     deck: &[u8],
-    book: Book,
-    pad: &mut [u8],
+    below: &[u64],
+    card: &mut [u8],
     out: &mut [u8],
 ) -> Done
-    requires { ⌜ Ready (now bytes) (now prepared) node (now deck) book × OneLens (trees (now bytes)) node child (λ l. lens (repeat l)) ⌝ }
-    requires { ⌜ Lent (now bytes) node (now new) (now pad) × OldInside old ⌝ }
-    ensures { λ r. ⌜ WritesNode (now (bytes .entry)) node (now (deck .entry)) (oldText (now (deck .entry)) old) (now (new .entry)) book (now (out .entry)) (now (out .exit)) r ⌝ }
+    requires { ⌜ Ready (now bytes) (now prepared) (spot .node) (now deck) (now below) (done .book) ⌝ }
+    requires { ⌜ OneLens (trees (now bytes)) (spot .node) child (λ l. lens (repeat l)) ⌝ }
+    requires { ⌜ GivenOld (now bytes) spot (now new) (now path) old (now deck) ⌝ }
+    requires { ⌜ WithinBuffer done (now out) × (length (now card) ≡ 4098) ⌝ }
+    ensures { λ r. ⌜ WritesBehind (now (bytes .entry)) (spot .node) (now (deck .entry)) (oldText (now (deck .entry)) old) (now (new .entry)) done (now (out .entry)) (now (out .exit)) r ⌝ }
 {
-    let span = span_of(old);
-    let start = span.start;
-    let end = span.end;
-    let text = &deck[start..end];
-    let mid = new.len() + 1;
-    let free = mid + text.len() + 1;
-    flag_ends(prepared, node, Side::Sheet, new, pad);
-    flag_ends(prepared, node, Side::Source, text, &mut pad[mid..]);
-    let none = Wrote::Count(0);
-    let mut done = Done { wrote: none, book };
+    let base = spot.base;
+    let ends = ends_of(prepared, child, Side::Sheet, base);
+    let read = Table::node(bytes, prepared, child);
+    let kind = read.kind;
+    if let Kind::Match { child: inner } = kind {
+        let part = Spot { node: inner, base };
+        return write_matches(done, bytes, prepared, spot, child, part, ends, new, path, deck, below, card, out);
+    }
+    let part = Spot { node: child, base };
+    let last = ends.last;
+    let first = ends.first;
+    let olds = ends_of(prepared, child, Side::Source, old_base(old));
+    let mut done = done;
+    let mut left = old;
     let mut o = 0;
-    let mut p = 0;
     while o < new.len() {
-        let e = part_end(prepared, child, Side::Sheet, new, pad, o);
-        let q = part_end(prepared, child, Side::Source, text, &pad[mid..], p);
+        let e = o + first_loop(&path[o..], last, first);
+        let next = next_old(left, olds, deck);
+        let kept = next.part;
+        left = next.rest;
         let piece = &new[o..e];
-        let part = old_between(start + p, start + q);
-        let rest = &mut pad[free..];
-        done = write_behind(done, bytes, prepared, child, piece, part, deck, rest, out);
+        let track = &mut path[o..e];
+        done = put_or_create(done, bytes, prepared, part, piece, track, kept, deck, below, card, out);
         o = e;
-        p = q;
     }
     done
 }
 
-fn no_card() -> [u8; 4100]
-    ensures { λ r. ⌜ 4100 ≡ length r ⌝ }
-{
-    [0u8; 4100]
-}
-
-// Finding the path of a text of at most 4,096 bytes needs no room lent for the sets that it keeps.
-fn no_marks() -> [u64; 1]
-    ensures { λ r. ⌜ 1 ≡ length r ⌝ }
-{
-    [0u64; 1]
-}
-
-// The entry that the key of a sheet text finds, and the book without it. The pad lends room for the text's path.
+// The entry that the key of a sheet text finds, and the book without it.
 fn find_entry(
     bytes: &[u8],
     prepared: &[u64],
-    child: usize,
+    spot: Spot,
     new: &[u8],
+    path: &[u8],
     deck: &[u8],
+    card: &mut [u8],
     book: Book,
-    pad: &mut [u8],
 ) -> Lookup
-    requires { ⌜ Ready (now bytes) (now prepared) child (now deck) book ⌝ }
-    requires { ⌜ Lent (now bytes) child (now new) (now pad) ⌝ }
-    ensures { λ r. ⌜ EntryFound (now (bytes .entry)) child (now (deck .entry)) (now (new .entry)) book r ⌝ }
+    requires { ⌜ LensNode (now bytes) (now prepared) (spot .node) ⌝ }
+    requires { ⌜ NewGiven (now bytes) spot (now new) (now path) (now deck) ⌝ }
+    requires { ⌜ LooksIn (now bytes) (now deck) book × (length (now card) ≡ 4098) ⌝ }
+    ensures { λ r. ⌜ EntryFound (now (bytes .entry)) (spot .node) (now (deck .entry)) (now (new .entry)) book r ⌝ }
 {
-    let mut card = no_card();
-    let mut marks = no_marks();
-    let n = card_of(bytes, prepared, child, new, &mut marks, pad, &mut card);
-    book.take(child, &card[0..n], deck)
+    let child = spot.node;
+    let base = spot.base;
+    let made = card_of(bytes, prepared, child, base, new, path, card);
+    let n = made.len;
+    let print = made.print;
+    book.take(child, print, &card[0..n], deck)
 }
 
 // A match: put onto the entry that the key finds, or create where there is none.
 fn write_match(
+    done: Done,
     bytes: &[u8],
     prepared: &[u64],
-    child: usize,
+    spot: Spot,
     new: &[u8],
+    path: &mut [u8],
     deck: &[u8],
-    book: Book,
-    pad: &mut [u8],
+    below: &[u64],
+    card: &mut [u8],
     out: &mut [u8],
 ) -> Done
-    requires { ⌜ Ready (now bytes) (now prepared) child (now deck) book ⌝ }
-    requires { ⌜ Lent (now bytes) child (now new) (now pad) ⌝ }
-    ensures { λ r. ⌜ WritesMatch (now (bytes .entry)) child (now (deck .entry)) (now (new .entry)) book (now (out .entry)) (now (out .exit)) r ⌝ }
+    requires { ⌜ Ready (now bytes) (now prepared) (spot .node) (now deck) (now below) (done .book) ⌝ }
+    requires { ⌜ NewGiven (now bytes) spot (now new) (now path) (now deck) ⌝ }
+    requires { ⌜ WithinBuffer done (now out) × (length (now card) ≡ 4098) ⌝ }
+    ensures { λ r. ⌜ WritesMatch (now (bytes .entry)) (spot .node) (now (deck .entry)) (now (new .entry)) done (now (out .entry)) (now (out .exit)) r ⌝ }
 {
-    let lookup = find_entry(bytes, prepared, child, new, deck, book, pad);
+    let book = done.book;
+    let wrote = done.wrote;
+    let lookup = find_entry(bytes, prepared, spot, new, path, deck, card, book);
     let rest = lookup.book;
     let found = lookup.old;
-    match found {
-        Old::At { start, len } => {
-            put(
-                bytes,
-                prepared,
-                child,
-                new,
-                start,
-                len,
-                deck,
-                rest,
-                pad,
-                out,
-            )
-        }
-        Old::Nothing => create(bytes, prepared, child, new, deck, rest, pad, out),
+    let left = Done { wrote, book: rest };
+    put_or_create(left, bytes, prepared, spot, new, path, found, deck, below, card, out)
+}
+
+// A repeat of a match: each part onto the entry that its key finds. There is no match inside a match, so its child writes with no book.
+fn write_matches(
+    done: Done,
+    bytes: &[u8],
+    prepared: &[u64],
+    spot: Spot,
+    child: usize,
+    part: Spot,
+    ends: Ends,
+    new: &[u8],
+    path: &mut [u8],
+    deck: &[u8],
+    below: &[u64],
+    card: &mut [u8],
+    out: &mut [u8],
+) -> Done
+    requires { ⌜ Ready (now bytes) (now prepared) (spot .node) (now deck) (now below) (done .book) ⌝ }
+    requires { ⌜ OneLens (trees (now bytes)) (spot .node) child (λ l. lens (repeat l)) ⌝ }
+    requires { ⌜ OneLens (trees (now bytes)) child (part .node) (λ l. lens (match (part .node) l)) × (part .base ≡ spot .base) ⌝ }
+    requires { ⌜ EndsAre (now prepared) child Sheet (spot .base) ends ⌝ }
+    requires { ⌜ NewGiven (now bytes) spot (now new) (now path) (now deck) ⌝ }
+    requires { ⌜ WithinBuffer done (now out) × (length (now card) ≡ 4098) ⌝ }
+    ensures { λ r. ⌜ WritesMatches (now (bytes .entry)) (spot .node) (now (deck .entry)) (now (new .entry)) done (now (out .entry)) (now (out .exit)) r ⌝ }
+{
+    let last = ends.last;
+    let first = ends.first;
+    let mut book = done.book;
+    let mut wrote = done.wrote;
+    let mut o = 0;
+    while o < new.len() {
+        let e = o + first_loop(&path[o..], last, first);
+        let piece = &new[o..e];
+        let track = &mut path[o..e];
+        let lookup = find_entry(bytes, prepared, part, piece, track, deck, card, book);
+        book = lookup.book;
+        let found = lookup.old;
+        wrote = next_plain(wrote, bytes, prepared, part, piece, track, found, deck, out);
+        o = e;
     }
+    Done { wrote, book }
 }

@@ -1,4 +1,5 @@
--- `steps::behind` meets its contract. Assumes nothing.
+-- `steps::behind` meets its contract: the sum is given to fit. Assumes nothing.
+use native.Mathlib.Omega.{arith}
 use borrow.Author.Needs.{needs}
 use Rattle.steps.proofs.behind.Statement.{statement}
 use Rattle.steps.proofs.behind.Tie as tie
@@ -7,7 +8,9 @@ enum-known-more : tie.Need-enum-known-more
 enum-known-more c = search needs
 
 add-t5 : tie.Need-add-t5
-add-t5 c = record { fits = c .before .before .before .pre .fits _ (c .before .more .given .1) }
+add-t5 c =
+    let start = c .before .before .before in
+    omega (arith, start .pre .fits (c .before .more .given .0 .0) (c .before .more .given .1))
 
 enum-told : tie.Need-enum-told
 enum-told c = search needs

@@ -1,72 +1,65 @@
--- `steps::halves_of` meets its contract. Assumes nothing.
-use Rattle.steps.proofs.Stepping.{halves-at, halves-none}
-use lib.ListN.{length-take}
+-- `steps::halves_of` meets its contract: the border of a path is within it. Assumes nothing.
+use denote.Ref.{now}
 use native.Mathlib.Omega.{arith}
+use Rattle.steps.proofs.Answers.{few-count, trail-lent, cut-within}
 use borrow.Author.Needs.{needs}
 use Rattle.steps.proofs.halves_of.Statement.{statement}
 use Rattle.steps.proofs.halves_of.Tie as tie
 
-enum-known-old : tie.Need-enum-known-old
-enum-known-old c = search needs
+automaton-of-requires : tie.Need-automaton-of-requires
+automaton-of-requires c κs = search needs
 
-enum-told : tie.Need-enum-told
-enum-told c = search needs
+add-mid : tie.Need-add-mid
+add-mid c =
+    let start = c .before .before .before .before in
+    omega (arith, few-count (c .before .automaton-of .ensures) (start .pre .0 .0), start .pre .0 .1 .based)
+
+add-from : tie.Need-add-from
+add-from c = search needs
+
+add-to : tie.Need-add-to
+add-to c = search needs
+
+sub-border : tie.Need-sub-border
+sub-border c = search needs
+
+part-border-start : tie.Need-part-border-start
+part-border-start c = search needs
+
+part-border-end : tie.Need-part-border-end
+part-border-end c = search needs
+
+border-requires : tie.Need-border-requires
+border-requires c κs = search needs
+
+add-t17 : tie.Need-add-t17
+add-t17 c =
+    let start = c .before .before .before .before .before .before in
+    let within = cut-within (now (start .args .deck)) (start .args .place .start) (start .args .place .len) _ _ (c .border .ensures) in omega (arith, within, start .pre .0 .1 .inside)
+
+sub-t20 : tie.Need-sub-t20
+sub-t20 c =
+    let start = c .before .before .before .before .before .before in
+    cut-within (now (start .args .deck)) (start .args .place .start) (start .args .place .len) _ _ (c .border .ensures)
 
 returns : tie.Need-returns
-returns c = halves-none (c .enum-told .given .1)
-
-add-end : tie.Need-add-end
-add-end c = omega (arith, c .before .before .before .before .before .before .pre .1 .1 .0 .inside _ _ (c .before .old .given .1))
-
-sub-cut-of : tie.Need-sub-cut-of
-sub-cut-of c = search needs
-
-part-cut-of-start : tie.Need-part-cut-of-start
-part-cut-of-start c = search needs
-
-part-cut-of-end : tie.Need-part-cut-of-end
-part-cut-of-end c =
-    let start = c .before .before .before .before .before .before in
-    omega (arith, start .pre .1 .1 .0 .inside _ _ (c .before .old .given .1), start .pre .1 .1 .1)
-
-cut-of-requires : tie.Need-cut-of-requires
-cut-of-requires c κs =
-    let known = c .before .before .before in
-    let given = known .before .before .before .before .before .pre in
-    (given .0, (given .1 .0, rw length-take (omega (arith, given .1 .1 .0 .inside _ _ (known .old .given .1), given .1 .1 .2))))
-
-add-t15 : tie.Need-add-t15
-add-t15 c =
-    let cut = c .before .before in
-    let known = cut .before .before .before .before in
-    omega (arith, known .before .before .before .before .before .pre .1 .1 .0 .inside _ _ (known .old .given .1), cut .cut-of .ensures .within)
-
-sub-t21 : tie.Need-sub-t21
-sub-t21 c = search needs
-
-same-length : tie.Need-same-length
-same-length c = search needs
-
-returns-2 : tie.Need-returns-2
-returns-2 c =
-    let cut = c .before .before in
-    let known = cut .before .before .before .before in
-    let given = known .before .before .before .before .before .pre in
-    halves-at (known .old .given .1) (given .1 .1 .0 .inside _ _ (known .old .given .1)) (given .1 .1 .1) (cut .cut-of .ensures)
+returns c =
+    let at-automaton-of = c .before .before .before in
+    let start = at-automaton-of .before .before .before in
+    rw (c .border .ensures, trail-lent (now (start .args .deck)) (start .args .place .start) (start .args .place .len), at-automaton-of .automaton-of .ensures)
 
 pub halves-of-spec : {M : Type 1} → statement M
 halves-of-spec =
     tie.close
     (tie.spec
-    enum-known-old
-    enum-told
-    returns
-    add-end
-    sub-cut-of
-    part-cut-of-start
-    part-cut-of-end
-    cut-of-requires
-    add-t15
-    sub-t21
-    same-length
-    returns-2)
+    automaton-of-requires
+    add-mid
+    add-from
+    add-to
+    sub-border
+    part-border-start
+    part-border-end
+    border-requires
+    add-t17
+    sub-t20
+    returns)

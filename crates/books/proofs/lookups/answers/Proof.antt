@@ -1,22 +1,20 @@
 -- `books::lookups::answers` meets its contract. Assumes nothing.
-use borrow.Author.Tests.{eq-eqb, ne-eqb}
+use borrow.Author.Tests.{not-true, not-false}
 use borrow.Author.Needs.{needs}
 use Rattle.books.proofs.lookups.answers.Statement.{statement}
 use Rattle.books.proofs.lookups.answers.Tie as tie
 
--- `books::lookups::answers` meets its contract. Assumes nothing.
+waits-requires : tie.Need-waits-requires
+waits-requires c κs = search needs
 
 returns : tie.Need-returns
-returns c = search needs
+returns c = record { tells = λ h. rw (← (c .before .waits .ensures), not-true (c .before .waits .result) (c .if1 .taken)) }
+
+has-card-requires : tie.Need-has-card-requires
+has-card-requires c κs = search needs
 
 returns-2 : tie.Need-returns-2
-returns-2 c = rw (c .before .if1 .left, ne-eqb (c .before .before .before .before .args .own) (c .before .before .before .before .args .child) (c .if2 .taken))
-
-begins-requires : tie.Need-begins-requires
-begins-requires c κs = search needs
-
-returns-3 : tie.Need-returns-3
-returns-3 c = rw (c .before .before .if1 .left, eq-eqb (c .before .before .before .before .before .args .own) (c .before .before .before .before .before .args .child) (c .before .if2 .left)) (c .begins .ensures)
+returns-2 c = record { tells = λ h. rw (← (c .before .before .waits .ensures), not-false (c .before .before .waits .result) (c .before .if1 .left)) (c .has-card .ensures .has h) }
 
 pub answers-spec : {M : Type 1} → statement M
-answers-spec = tie.close (tie.spec returns returns-2 begins-requires returns-3)
+answers-spec = tie.close (tie.spec waits-requires returns has-card-requires returns-2)

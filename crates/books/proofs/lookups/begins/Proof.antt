@@ -5,8 +5,6 @@ use Rattle.books.proofs.Finding.{begins-short, begins-compared}
 use Rattle.books.proofs.lookups.begins.Statement.{statement}
 use Rattle.books.proofs.lookups.begins.Tie as tie
 
--- `books::lookups::begins` meets its contract. Assumes nothing.
-
 returns : tie.Need-returns
 returns c = begins-short (c .before .before .before .args .start .now) (c .before .before .before .args .text .now) (omega arith)
 

@@ -1,14 +1,13 @@
 -- `calls::get::get_with` meets its contract, test by test. Assumes nothing.
 use mathlib.Core.Path.{_∙_}
-use native.Mathlib.Omega.{arith}
-use borrow.Author.Needs.{needs}
 use denote.Ref.{now}
 use borrow.Author.Tests.{not-false}
-use lib.ListN.{length-take}
+use borrow.Author.Needs.{needs}
 use Rattle.semantics.specs.Calls.{getCall}
 use Rattle.automaton.specs.Rows.{sideOf}
+use Rattle.lens.specs.Reading.{modeSide, reading}
 use Rattle.answers.proofs.Giving.{program-gives, refused, passed, too-long, not-too-long, not-of}
-use Rattle.calls.proofs.Sourcing.{source-ready}
+use Rattle.calls.proofs.Sourcing.{text-ready}
 use Rattle.calls.proofs.get.get_with.Statement.{statement}
 use Rattle.calls.proofs.get.get_with.Tie as tie
 
@@ -41,30 +40,16 @@ returns-2 : tie.Need-returns-2
 unfolding getCall sideOf
 returns-2 c = program-gives _ (c .before .before .before .before .before .before .before .before .before .before .before .before .before .before .pre .accepted) (passed 12 (not-too-long (now (c .before .before .before .before .before .before .before .before .before .before .before .before .before .before .args .source)) (c .before .before .before .before .before .before .before .before .before .if1 .left)) (refused 13 _ (c .refuse2 .ensures) (not-of (c .before .before .before .before .before .before .before .before .before .before .before .before .before .before .pre .accepted) (c .before .before .before .before .before .root-path .ensures) ∙ c .before .before .if2 .taken)))
 
-no-text-requires-2 : tie.Need-no-text-requires-2
-no-text-requires-2 c κs = search needs
-
-room-in-requires : tie.Need-room-in-requires
-room-in-requires c κs = search needs
-
-sub-get-into : tie.Need-sub-get-into
-sub-get-into c = search needs
-
-part-result-start : tie.Need-part-result-start
-part-result-start c = search needs
-
-part-result-end : tie.Need-part-result-end
-part-result-end c = search needs
-
-get-into-requires : tie.Need-get-into-requires
-get-into-requires c κs = (c .before .before .before .before .before .before .before .before .before .before .before .before .before .before .before .before .before .pre, (source-ready (c .before .before .before .before .before .before .before .before .root-path .ensures) (not-false _ (c .before .before .before .before .before .if2 .left)), simp length-take (omega (arith, c .before .before .before .before .no-text2 .ensures, c .before .before .before .room-in .ensures))))
+give-read-requires : tie.Need-give-read-requires
+unfolding sideOf modeSide
+give-read-requires c κs = (c .before .before .before .before .before .before .before .before .before .before .before .before .before .before .pre, text-ready (c .before .before .before .before .before .before .before .before .before .if1 .left) (c .before .before .before .before .before .root-path .ensures) (not-false _ (c .before .before .if2 .left)))
 
 same-length : tie.Need-same-length
 same-length c = search needs
 
 returns-3 : tie.Need-returns-3
-unfolding getCall sideOf
-returns-3 c = program-gives _ (c .before .before .before .before .before .before .before .before .before .before .before .before .before .before .before .before .before .before .before .before .before .before .pre .accepted) (passed 12 (not-too-long (now (c .before .before .before .before .before .before .before .before .before .before .before .before .before .before .before .before .before .before .before .before .before .before .args .source)) (c .before .before .before .before .before .before .before .before .before .before .before .before .before .before .before .before .before .if1 .left)) (passed 13 (not-of (c .before .before .before .before .before .before .before .before .before .before .before .before .before .before .before .before .before .before .before .before .before .before .pre .accepted) (c .before .before .before .before .before .before .before .before .before .before .before .before .before .root-path .ensures) ∙ c .before .before .before .before .before .before .before .before .before .before .if2 .left) (c .before .before .before .before .get-into .ensures .gives-made (c .before .before .before .before .before .before .before .before .before .before .before .before .before .before .before .before .before .before .before .before .before .before .pre .accepted .root) (c .before .before .before .before .before .before .before .before .before .before .before .before .before .before .before .before .before .before .before .before .before .before .pre .accepted .gives-root))))
+unfolding getCall sideOf reading
+returns-3 c = program-gives _ (c .before .before .before .before .before .before .before .before .before .before .before .before .before .before .before .before .before .before .pre .accepted) (passed 12 (not-too-long (now (c .before .before .before .before .before .before .before .before .before .before .before .before .before .before .before .before .before .before .args .source)) (c .before .before .before .before .before .before .before .before .before .before .before .before .before .if1 .left)) (passed 13 (not-of (c .before .before .before .before .before .before .before .before .before .before .before .before .before .before .before .before .before .before .pre .accepted) (c .before .before .before .before .before .before .before .before .before .root-path .ensures) ∙ c .before .before .before .before .before .before .if2 .left) (c .before .before .before .give-read .ensures .gives-made (c .before .before .before .before .before .before .before .before .before .before .before .before .before .before .before .before .before .before .pre .accepted .root) (c .before .before .before .before .before .before .before .before .before .before .before .before .before .before .before .before .before .before .pre .accepted .gives-root))))
 
 pub get-with-spec : {M : Type 1} → statement M
 get-with-spec =
@@ -79,11 +64,6 @@ get-with-spec =
     root-path-requires
     refuse-requires-2
     returns-2
-    no-text-requires-2
-    room-in-requires
-    sub-get-into
-    part-result-start
-    part-result-end
-    get-into-requires
+    give-read-requires
     same-length
     returns-3)

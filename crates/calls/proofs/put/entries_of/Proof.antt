@@ -12,10 +12,10 @@ empty-requires : tie.Need-empty-requires
 empty-requires c κs = search needs
 
 list-requires : tie.Need-list-requires
-list-requires c κs = (to-list (c .empty .ensures) (c .before .before .before .before .before .before .pre .0) (c .before .before .before .before .before .before .pre .1 .0), (root-node (c .before .before .before .before .before .before .pre .0) (c .before .root-of .ensures) .inside, rw (c .before .root-of .ensures) (c .before .before .before .before .before .before .pre .1 .1 .parsed)))
+list-requires c κs = (to-list (c .empty .ensures) (c .before .before .before .before .before .before .pre .0) (c .before .before .before .before .before .before .pre .1 .short), (root-node (c .before .before .before .before .before .before .pre .0) (c .before .root-of .ensures) .inside, rw (c .before .root-of .ensures) (c .before .before .before .before .before .before .pre .1 .parsed)))
 
 returns : tie.Need-returns
-returns c = lists-root (c .before .before .before .before .before .before .before .pre .0) (c .before .before .root-of .ensures) (c .before .before .before .before .before .before .before .pre .1 .0) (c .before .empty .ensures) (c .list .ensures)
+returns c = lists-root (c .before .before .before .before .before .before .before .pre .0) (c .before .before .root-of .ensures) (c .before .before .before .before .before .before .before .pre .1) (c .before .empty .ensures) (c .list .ensures)
 
 pub entries-of-spec : {M : Type 1} → statement M
 entries-of-spec = tie.close (tie.spec root-of-requires empty-requires list-requires returns)

@@ -14,8 +14,8 @@ long-sheet-requires-2 c κs = search needs
 long-marks-requires : tie.Need-long-marks-requires
 long-marks-requires c κs = search needs
 
-full-deck-requires : tie.Need-full-deck-requires
-full-deck-requires c κs = search needs
+small-deck-requires : tie.Need-small-deck-requires
+small-deck-requires c κs = search needs
 
 slice-aggregate-write-from : tie.Need-slice-aggregate-write-from
 slice-aggregate-write-from c = search needs
@@ -30,13 +30,16 @@ slice-aggregate-write-from-4 : tie.Need-slice-aggregate-write-from-4
 slice-aggregate-write-from-4 c = search needs
 
 write-from-requires : tie.Need-write-from-requires
-write-from-requires c κs = (c .before .before .before .before .before .before .before .before .before .before .before .before .before .before .pre .0, (c .before .before .before .before .before .before .before .before .before .before .before .before .before .before .pre .1 .0, (c .before .before .before .before .before .before .before .before .before .before .before .before .before .before .pre .1 .1, (sheet-room (c .before .before .before .before .before .before .before .before .long-sheet .ensures) (c .before .before .before .before .before .before .long-marks .ensures) (c .before .before .before .before .before .before .before .long-sheet2 .ensures), omega (arith, c .before .before .before .before .before .before .before .before .before .before .before .before .before .before .pre .1 .0 .over .fits .few, c .before .before .before .before .before .full-deck .ensures)))))
+write-from-requires c κs = (c .before .before .before .before .before .before .before .before .before .before .before .before .before .before .before .before .before .before .pre .0, (c .before .before .before .before .before .before .before .before .before .before .before .before .before .before .before .before .before .before .pre .1 .0, (c .before .before .before .before .before .before .before .before .before .before .before .before .before .before .before .before .before .before .pre .1 .1 .0, (c .before .before .before .before .before .before .before .before .before .before .before .before .before .before .before .before .before .before .pre .1 .1 .1, (sheet-room (c .before .before .before .before .before .before .before .before .before .long-sheet .ensures) (c .before .before .before .before .before .before .before .long-marks .ensures) (c .before .before .before .before .before .before .before .before .long-sheet2 .ensures), omega (arith, c .before .before .before .before .before .before .small-deck .ensures), omega (arith, c .before .before .before .before .before .before .small-deck .ensures))))))
 
 same-length : tie.Need-same-length
 same-length c = search needs
 
+same-length-2 : tie.Need-same-length-2
+same-length-2 c = search needs
+
 returns : tie.Need-returns
-returns c = rw (c .before .before .before .before .before .before .before .before .before .before .before .before .before .before .before .long-sheet .ensures) (c .before .before .before .before .before .before .write-from .ensures)
+returns c = rw (c .before .before .before .before .before .before .before .before .before .before .before .before .before .before .before .before .before .before .long-sheet .ensures, c .before .before .before .before .before .before .before .before .before .before .before .before .before .before .before .small-deck .ensures) (c .before .before .before .before .before .before .before .before .write-from .ensures)
 
 pub from-long-spec : {M : Type 1} → statement M
 from-long-spec =
@@ -45,11 +48,12 @@ from-long-spec =
     long-sheet-requires
     long-sheet-requires-2
     long-marks-requires
-    full-deck-requires
+    small-deck-requires
     slice-aggregate-write-from
     slice-aggregate-write-from-2
     slice-aggregate-write-from-3
     slice-aggregate-write-from-4
     write-from-requires
     same-length
+    same-length-2
     returns)

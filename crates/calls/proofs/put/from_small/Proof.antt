@@ -30,13 +30,16 @@ slice-aggregate-write-from-4 : tie.Need-slice-aggregate-write-from-4
 slice-aggregate-write-from-4 c = search needs
 
 write-from-requires : tie.Need-write-from-requires
-write-from-requires c κs = (c .before .before .before .before .before .before .before .before .before .before .before .before .before .before .pre .0, (c .before .before .before .before .before .before .before .before .before .before .before .before .before .before .pre .1 .0, (c .before .before .before .before .before .before .before .before .before .before .before .before .before .before .pre .1 .1 .0, (sheet-room (c .before .before .before .before .before .before .before .before .no-text .ensures) (c .before .before .before .before .before .before .no-marks .ensures) (c .before .before .before .before .before .before .before .no-text2 .ensures), omega (arith, c .before .before .before .before .before .before .before .before .before .before .before .before .before .before .pre .1 .1 .1, c .before .before .before .before .before .small-deck .ensures)))))
+write-from-requires c κs = (c .before .before .before .before .before .before .before .before .before .before .before .before .before .before .before .before .before .before .pre .0, (c .before .before .before .before .before .before .before .before .before .before .before .before .before .before .before .before .before .before .pre .1 .0, (c .before .before .before .before .before .before .before .before .before .before .before .before .before .before .before .before .before .before .pre .1 .1 .0, (c .before .before .before .before .before .before .before .before .before .before .before .before .before .before .before .before .before .before .pre .1 .1 .1, (sheet-room (c .before .before .before .before .before .before .before .before .before .no-text .ensures) (c .before .before .before .before .before .before .before .no-marks .ensures) (c .before .before .before .before .before .before .before .before .no-text2 .ensures), omega (arith, c .before .before .before .before .before .before .small-deck .ensures), omega (arith, c .before .before .before .before .before .before .small-deck .ensures))))))
 
 same-length : tie.Need-same-length
 same-length c = search needs
 
+same-length-2 : tie.Need-same-length-2
+same-length-2 c = search needs
+
 returns : tie.Need-returns
-returns c = rw (c .before .before .before .before .before .before .before .before .before .before .before .before .before .before .before .no-text .ensures) (c .before .before .before .before .before .before .write-from .ensures)
+returns c = rw (c .before .before .before .before .before .before .before .before .before .before .before .before .before .before .before .before .before .before .no-text .ensures, c .before .before .before .before .before .before .before .before .before .before .before .before .before .before .before .small-deck .ensures) (c .before .before .before .before .before .before .before .before .write-from .ensures)
 
 pub from-small-spec : {M : Type 1} → statement M
 from-small-spec =
@@ -52,4 +55,5 @@ from-small-spec =
     slice-aggregate-write-from-4
     write-from-requires
     same-length
+    same-length-2
     returns)

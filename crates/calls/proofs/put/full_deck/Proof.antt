@@ -6,7 +6,7 @@ use Rattle.calls.proofs.put.full_deck.Statement.{statement}
 use Rattle.calls.proofs.put.full_deck.Tie as tie
 
 returns : tie.Need-returns
-returns c = sym (length-replicate {A = ℕ} 1053696 0)
+returns c = sym (length-replicate {A = ℕ} 1058304 0)
 
 pub full-deck-spec : {M : Type 1} → statement M
 full-deck-spec = tie.close (tie.spec returns)

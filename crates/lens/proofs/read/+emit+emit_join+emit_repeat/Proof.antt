@@ -19,7 +19,7 @@ use Rattle.lens.specs.Nodes.{
   child-below,
   left-below,
   right-below,
-  sheet-below,
+  given-below,
 }
 use Rattle.lens.specs.Parsed.{parsed-match, parsed-join}
 use Rattle.lens.proofs.Emission.{
@@ -70,6 +70,7 @@ use Rattle.lens.proofs.read.emit_repeat.Kinds as emit-repeat-kinds
 use Rattle.lens.proofs.read.+emit+emit_join+emit_repeat.Lts-emit_repeat as emit-repeat-lts
 use Rattle.lens.proofs.read.automaton_for.Reads as automaton-for-reads
 use Rattle.lens.proofs.read.emit_copy.Reads as emit-copy-reads
+use Rattle.lens.proofs.read.given_word.Reads as given-word-reads
 use Rattle.lens.proofs.read.word_of.Reads as word-of-reads
 use Rattle.lens.proofs.texts.write_text.Reads as write-text-reads
 use Rattle.paths.proofs.border.Reads as border-reads
@@ -126,6 +127,8 @@ emit-calls t = (
   node-reads.Learnt,
   emit-copy-reads.Asked,
   emit-copy-reads.Learnt,
+  given-word-reads.Asked,
+  given-word-reads.Learnt,
   word-of-reads.Asked,
   word-of-reads.Learnt,
   write-text-reads.Asked,
@@ -184,11 +187,15 @@ emit-emit-copy-requires t c κs = search needs
 emit-enum-known-kind : (t : ℕ) → emit-lts.Need-enum-known-kind (emit-calls t) (emit-at t) emit.Post
 emit-enum-known-kind t c = search needs
 
+emit-given-word-requires : (t : ℕ) → emit-lts.Need-given-word-requires (emit-calls t) (emit-at t) emit.Post
+emit-given-word-requires t c κs = search needs
+
 emit-word-of-requires : (t : ℕ) → emit-lts.Need-word-of-requires (emit-calls t) (emit-at t) emit.Post
 emit-word-of-requires t c κs =
-    let at-node = c .before .before .before in
+    let at-node = c .before .before .before .before in
     let start = at-node .before .before .before .before .before .before in
-    sheet-below (start .pre .1 .0) (shown-const (at-node .node .ensures) (c .before .kind .given .1))
+    let s = shown-const (at-node .node .ensures) (c .before .before .kind .given .1) in
+    given-below (start .pre .1 .0) (start .args .mode) s (c .given-word .ensures)
 
 emit-emit-copy-requires-2 : (t : ℕ) → emit-lts.Need-emit-copy-requires-2 (emit-calls t) (emit-at t) emit.Post
 emit-emit-copy-requires-2 t c κs = search needs
@@ -345,9 +352,15 @@ emit-returns-8 : (t : ℕ) → emit-lts.Need-returns-8 (emit-calls t) (emit-at t
 emit-returns-8 t c =
     let at-emit-copy2 = c .before .before in
     let at-word-of = at-emit-copy2 .before .before in
-    let at-kind = at-word-of .before .before in
+    let at-given-word = at-word-of .before in
+    let at-kind = at-given-word .before .before in
     let at-node = at-kind .before .before in
-    emits-const (at-node .node .ensures) (at-kind .kind .given .1) (at-word-of .word-of .ensures) (at-emit-copy2 .emit-copy2 .ensures)
+    emits-const
+    (at-node .node .ensures)
+    (at-kind .kind .given .1)
+    (at-given-word .given-word .ensures)
+    (at-word-of .word-of .ensures)
+    (at-emit-copy2 .emit-copy2 .ensures)
 
 emit-same-length-4 : (t : ℕ) → emit-lts.Need-same-length-4 (emit-calls t) (emit-at t) emit.Post
 emit-same-length-4 t c = search needs
@@ -766,6 +779,7 @@ pub +emit+emit-join+emit-repeat-spec : {M : Type 1} → statement M
     (emit-enum-told-6 t)
     (emit-emit-copy-requires t)
     (emit-enum-known-kind t)
+    (emit-given-word-requires t)
     (emit-word-of-requires t)
     (emit-emit-copy-requires-2 t)
     (emit-enum-told-7 t)

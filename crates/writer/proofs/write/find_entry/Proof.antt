@@ -1,52 +1,60 @@
--- `writer::write::find_entry` meets its contract: the card of the sheet's key finds what the key finds. Assumes nothing.
+use Rattle.lens.specs.Nodes.{sizes-are}
+use Rattle.books.specs.Cards.{key-short}
+use Rattle.semantics.specs.Lens.{keyOf}
 use native.Mathlib.Omega.{arith}
-use Rattle.paths.specs.Walking.{short-marks}
-use Rattle.writer.proofs.ByKind.{looked-up-key}
+use native.Mathlib.Nat.{sub-zero}
 use borrow.Author.Needs.{needs}
 use Rattle.writer.proofs.write.find_entry.Statement.{statement}
 use Rattle.writer.proofs.write.find_entry.Tie as tie
+use Rattle.writer.proofs.write.find_entry.Reads as reads
+use Rattle.writer.proofs.write.find_entry.Lts as lts
+use Rattle.books.proofs.Book.take.Reads as take-reads
+use Rattle.decks.proofs.cards.card_of.Reads as card-of-reads
 
-no-card-requires : tie.Need-no-card-requires
-no-card-requires c κs = search needs
-
-no-marks-requires : tie.Need-no-marks-requires
-no-marks-requires c κs = search needs
-
-slice-aggregate-card-of : tie.Need-slice-aggregate-card-of
-slice-aggregate-card-of c = search needs
-
-slice-aggregate-card-of-2 : tie.Need-slice-aggregate-card-of-2
-slice-aggregate-card-of-2 c = search needs
-
+-- src/write.rt:302:9
 card-of-requires : tie.Need-card-of-requires
-card-of-requires c κs = let lent = c .before .before .before .before .before .before .before .before .before .before .pre .1 in (c .before .before .before .before .before .before .before .before .before .before .pre .0 .lens-node, (lent .new-fits, ((omega (arith, lent .new-short, lent .pad-room), short-marks (lent .new-short)), search needs)))
+card-of-requires c κs = (c .before .before .before .before .before .before .before .pre .0, (c .before .before .before .before .before .before .before .pre .1 .0 .parsed, (c .before .before .before .before .before .before .before .pre .1 .0 .new-short, c .before .before .before .before .before .before .before .pre .1 .1 .1)))
 
+-- src/write.rt:305:29
 sub-take : tie.Need-sub-take
 sub-take c = search needs
 
+-- src/write.rt:305:29
 part-take-start : tie.Need-part-take-start
 part-take-start c = search needs
 
+-- src/write.rt:305:29
 part-take-end : tie.Need-part-take-end
 part-take-end c = search needs
 
+-- src/write.rt:305:5
 take-requires : tie.Need-take-requires
-take-requires c κs = search needs
+take-requires c κs =
+    let known = c .before .before .before .before .before .before .before .before .before .before .before .before .pre .0 in
+    ((c .before .before .before .before .before .before .before .before .before .before .before .before .pre .1 .1 .0 .over, omega (arith, known .inside, sizes-are (known .built .sized) .few-nodes)), c .before .before .before .before .before .before .before .before .before .before .before .before .pre .1 .1 .0 .deck-room)
 
+-- src/write.rt:285:1
 same-length : tie.Need-same-length
 same-length c = search needs
 
+-- src/write.rt:285:1
 returns : tie.Need-returns
-returns c = record { found = looked-up-key (c .before .before .before .before .before .before .before .card-of .ensures) (c .before .before .before .before .before .before .before .before .before .before .before .before .before .before .before .before .before .before .pre .1 .new-short) (c .before .before .before .before .before .before .before .before .before .before .before .before .before .before .before .before .before .before .pre .0 .cards-fit) (c .take .ensures) }
+returns c =
+    record {
+      found = λ l e.
+          c .take .ensures
+          _
+          (keyOf l (c .before .before .before .before .before .before .before .before .before .before .before .before .before .args .new .now))
+          (rw sub-zero (c .before .before .before .before .before .card-of .ensures .card-is l e))
+          (c .before .before .before .before .before .card-of .ensures .print-is l e)
+          (omega (arith, c .before .before .before .before .before .before .before .before .before .before .before .before .before .pre .1 .0 .new-short, key-short l (c .before .before .before .before .before .before .before .before .before .before .before .before .before .args .new .now)))
+          (c .before .before .before .before .before .before .before .before .before .before .before .before .before .pre .1 .1 .0 .cards-fit);
+    }
 
 pub find-entry-spec : {M : Type 1} → statement M
 find-entry-spec =
     tie.close
     (tie.spec
-    no-card-requires
-    no-marks-requires
-    slice-aggregate-card-of
-    slice-aggregate-card-of-2
     card-of-requires
     sub-take
     part-take-start

@@ -1,0 +1,56 @@
+-- `calls::put::write_source` meets its contract. Assumes nothing.
+use native.Mathlib.Omega.{arith}
+use borrow.Author.Needs.{needs}
+use Rattle.answers.proofs.Giving.{root-inside}
+use Rattle.answers.proofs.Verdicts.{accepted-sizes}
+use Rattle.calls.proofs.put.write_source.Statement.{statement}
+use Rattle.calls.proofs.put.write_source.Tie as tie
+
+no-below-requires : tie.Need-no-below-requires
+no-below-requires c κs = search needs
+
+root-of-requires : tie.Need-root-of-requires
+root-of-requires c κs = search needs
+
+add-nodes : tie.Need-add-nodes
+add-nodes c = let right = accepted-sizes (c .before .before .before .before .before .before .before .before .before .pre .0 .accepted) in omega (arith, right, c .root-of .ensures)
+
+slice-aggregate-fill-below : tie.Need-slice-aggregate-fill-below
+slice-aggregate-fill-below c = search needs
+
+fill-below-requires : tie.Need-fill-below-requires
+fill-below-requires c κs = ((c .before .before .before .before .before .before .before .before .before .before .pre .0 .built .sized, omega (arith, c .before .root-of .ensures, root-inside (c .before .before .before .before .before .before .before .before .before .before .pre .0) (c .before .root-of .ensures))), omega (arith, c .before .before .no-below .ensures))
+
+first-desk-requires : tie.Need-first-desk-requires
+first-desk-requires c κs = search needs
+
+slice-aggregate-write-at : tie.Need-slice-aggregate-write-at
+slice-aggregate-write-at c = search needs
+
+write-at-requires : tie.Need-write-at-requires
+write-at-requires c κs = (c .before .before .before .before .before .before .before .before .before .before .before .before .before .before .before .before .pre .0, (c .before .before .before .before .before .before .before .before .before .before .before .before .before .before .before .before .pre .1 .0, (c .before .before .before .before .before .before .before .before .before .before .before .before .before .before .before .before .pre .1 .1, c .before .before .before .before .before .fill-below .ensures)))
+
+same-length : tie.Need-same-length
+same-length c = search needs
+
+same-length-2 : tie.Need-same-length-2
+same-length-2 c = search needs
+
+returns : tie.Need-returns
+returns c = search needs
+
+pub write-source-spec : {M : Type 1} → statement M
+write-source-spec =
+    tie.close
+    (tie.spec
+    no-below-requires
+    root-of-requires
+    add-nodes
+    slice-aggregate-fill-below
+    fill-below-requires
+    first-desk-requires
+    slice-aggregate-write-at
+    write-at-requires
+    same-length
+    same-length-2
+    returns)

@@ -1,0 +1,19 @@
+-- `decks::below::at_node` meets its contract. Assumes nothing.
+use borrow.Author.Needs.{needs}
+use Rattle.decks.proofs.below.at_node.Statement.{statement}
+use Rattle.decks.proofs.below.at_node.Tie as tie
+
+mul-set-at : tie.Need-mul-set-at
+mul-set-at c = search needs
+
+set-at-requires : tie.Need-set-at-requires
+set-at-requires c κs = search needs
+
+has-union-requires : tie.Need-has-union-requires
+has-union-requires c κs = search needs
+
+returns : tie.Need-returns
+returns c = rw (c .before .set-at .ensures, c .has-union .ensures)
+
+pub at-node-spec : {M : Type 1} → statement M
+at-node-spec = tie.close (tie.spec mul-set-at set-at-requires has-union-requires returns)

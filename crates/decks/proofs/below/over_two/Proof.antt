@@ -1,0 +1,34 @@
+-- `decks::below::over_two` meets its contract. Assumes nothing.
+use Rattle.decks.proofs.Lower.{over-two}
+use borrow.Author.Needs.{needs}
+use Rattle.decks.proofs.below.over_two.Statement.{statement}
+use Rattle.decks.proofs.below.over_two.Tie as tie
+
+at-node-requires : tie.Need-at-node-requires
+at-node-requires c κs = search needs
+
+at-node-requires-2 : tie.Need-at-node-requires-2
+at-node-requires-2 c κs = search needs
+
+union-requires : tie.Need-union-requires
+union-requires c κs = search needs
+
+either-requires : tie.Need-either-requires
+either-requires c κs = search needs
+
+either-requires-2 : tie.Need-either-requires-2
+either-requires-2 c κs = search needs
+
+returns : tie.Need-returns
+returns c = over-two (c .before .before .before .before .before .before .at-node .ensures) (c .before .before .before .before .before .at-node2 .ensures) (c .before .before .union .ensures) (c .before .either .ensures) (c .either2 .ensures)
+
+pub over-two-spec : {M : Type 1} → statement M
+over-two-spec =
+    tie.close
+    (tie.spec
+    at-node-requires
+    at-node-requires-2
+    union-requires
+    either-requires
+    either-requires-2
+    returns)

@@ -1,0 +1,32 @@
+use Rattle.writer.proofs.ByKind.{plain-writes}
+use Rattle.writer.proofs.Unasked.{none-asked}
+use borrow.Author.Needs.{needs}
+use Rattle.writer.proofs.write.plain_behind.Statement.{statement}
+use Rattle.writer.proofs.write.plain_behind.Tie as tie
+use Rattle.writer.proofs.write.plain_behind.Reads as reads
+use Rattle.writer.proofs.write.plain_behind.Lts as lts
+use Rattle.writer.proofs.write.next_plain.Reads as next-plain-reads
+
+-- src/write.rt:83:9
+next-plain-requires : tie.Need-next-plain-requires
+next-plain-requires c κs = search needs
+
+-- src/write.rt:64:1
+same-length : tie.Need-same-length
+same-length c = search needs
+
+-- src/write.rt:64:1
+same-length-2 : tie.Need-same-length-2
+same-length-2 c = search needs
+
+-- src/write.rt:64:1
+returns : tie.Need-returns
+returns c =
+    let ready = c .before .before .before .before .before .before .before .before .before .before .before .before .before .before .before .pre .0 in
+    plain-writes
+    (λ l e. none-asked (c .before .before .before .before .before .before .before .before .before .before .before .before .before .before .before .args .deck .now) l (ready .lens-node) (ready .below-is) (ready .looks-in .over) (c .before .before .before .before .before .before .before .before .before .before .before .before .before .before .before .pre .1 .1 .1) e)
+    (ready .looks-in .over)
+    (c .before .before .before .before .next-plain .ensures)
+
+pub plain-behind-spec : {M : Type 1} → statement M
+plain-behind-spec = tie.close (tie.spec next-plain-requires same-length same-length-2 returns)
