@@ -22,9 +22,9 @@
  * Memory   Nothing is kept: when a call returns, the caller may reuse or free
  *          every slice. The program is checked anew on each call.
  * Stack    At most NOONTROUGH_STACK_BYTES bytes, and check and get at most
- *          NOONTROUGH_READ_STACK_BYTES. This is more than the threads of some
- *          systems and languages are given; a call that finds too little may end
- *          the process.
+ *          NOONTROUGH_READ_STACK_BYTES; most calls take far less. This can be more
+ *          than the threads of some systems and languages are given; a call that
+ *          finds too little may end the process.
  * Threads  The engine has no state of its own. Calls may run at the same time,
  *          also on the same table and texts, as long as no other thread writes
  *          to a slice that a call was given.
@@ -46,16 +46,16 @@ extern "C" {
 /* The most entries that the old source of a put may have. */
 #define NOONTROUGH_MAX_ENTRIES 256
 
-/* The stack that any call of any program keeps to: 5.25 MiB. A call takes what
- * its program needs. For a program like that of examples/k, check, get and
- * create take under 96 KiB, a put about 150 KB with up to 8 old entries and about
- * 1.2 MB with more. A put of a large program or with an old entry whose sheet is
- * longer than 4,096 bytes, and a create of a large program, can need more than the
- * 2 MiB that a default thread of Rust has: start a thread with this much stack for
- * them. The bound is measured on x86-64, not proved
+/* The stack that any call of any program keeps to: 4.25 MiB. A call takes what
+ * its program needs. For a program like that of examples/k, check, get and create
+ * take under 96 KiB, and a put under 160 KiB. The 2 MiB that a default thread of
+ * Rust has are enough for every call but one: a put of a program with a union
+ * inside a match, with an old entry whose sheet is longer than 4,096 bytes, or with
+ * old entries whose keys come to over 12,000 bytes together. Start a thread with
+ * this much stack for it. The bound is measured on x86-64, not proved
  * (docs/PERFORMANCE.md); the tests of bindings/rust fail if a call of the
  * programs that take most passes it. */
-#define NOONTROUGH_STACK_BYTES (5376 * 1024)
+#define NOONTROUGH_STACK_BYTES (4352 * 1024)
 
 /* The stack that check and get of any program keep to: 1.25 MiB. So they run in
  * a default thread of Rust. Measured and tested in the same way, not proved. */

@@ -1,6 +1,9 @@
-//! Times the engine beside the reference, and beside Augeas where it is there.
+//! Times the engine beside the reference, and beside Augeas where it is there;
+//! and the engine alone on the slowest calls known.
 //!
 //! `cargo run --release --example bench`, in the folder of this package.
+
+mod slow_calls;
 
 use std::collections::HashSet;
 use std::io::{BufRead, BufReader, Write};
@@ -12,6 +15,7 @@ use noontrough::{Answer, MAX_TEXT, STACK_BYTES};
 use noontrough_reference::generator::draft::{Draft, NodeNumber};
 use noontrough_reference::generator::random::Random;
 use noontrough_reference::{Calls, Reference, Refusal};
+use slow_calls::{Call, Slow};
 
 const SEED: u64 = 1;
 const ENTRIES: usize = 256;
@@ -28,6 +32,8 @@ const SLOW: [(&str, &[u8]); 4] = [
 /// Calls that one of two makes before it is the other's turn, and turns at most.
 const CALLS: usize = 10;
 const TURNS: usize = 20;
+/// No put or create should take longer than this, in milliseconds.
+const LONG: f64 = 50.0;
 
 fn main() {
     let bench = std::thread::Builder::new().stack_size(STACK_BYTES + (8 << 20)).spawn(bench);
@@ -47,7 +53,7 @@ fn bench() {
     get(&table, &source, &sheet, "get");
     put(&table, &sheet, &source, &source, "put, unedited");
     put(&table, &reversed_sheet, &source, &reversed_source, "put, reversed");
-    create(&table, &sheet, "create");
+    create(&table, &sheet, &created_of(&entries), "create");
 
     heading("Check by positions", "Reference");
     for positions in [32, 64, 128] {
@@ -78,7 +84,10 @@ fn bench() {
         let sheet: Vec<u8> = source.iter().copied().filter(|byte| !byte.is_ascii_digit()).collect();
         get(&table, &source, &sheet, &format!("get, {positions} positions"));
         put(&table, &sheet, &source, &source, &format!("put, {positions} positions"));
+        create(&table, &sheet, &sheet, &format!("create, {positions} positions"));
     }
+
+    slow();
 
     match Augeas::start(&source, &reversed_source) {
         Ok(mut augeas) => {
@@ -92,6 +101,41 @@ fn bench() {
             );
         }
         Err(reason) => println!("\nAugeas is skipped: {reason}"),
+    }
+}
+
+/// Times the slowest calls, and says which of those that write took long.
+fn slow() {
+    println!("\nThe slowest calls known, the engine alone, the least of {CALLS} calls or fewer\n\n| Call | Engine |\n|---|---|");
+    let mut long = Vec::new();
+    for slow in slow_calls::all() {
+        let time = milliseconds(|| engine_slow(&slow));
+        println!("| {} | {time:.2} ms |", slow.name);
+        if !slow.is_get() && time > LONG {
+            long.push(slow.name);
+        }
+    }
+    match long.len() {
+        0 => println!("\nNo put or create took over {LONG} ms."),
+        count => println!("\n{count} took over {LONG} ms: {}.", long.join("; ")),
+    }
+}
+
+/// The least of a few calls, since a busy machine makes long ones longer.
+fn milliseconds(mut call: impl FnMut() -> Duration) -> f64 {
+    call();
+    let (begun, mut times) = (Instant::now(), Vec::new());
+    while times.is_empty() || (times.len() < CALLS && begun.elapsed() < Duration::from_secs(1)) {
+        times.push(call().as_secs_f64() * 1e3);
+    }
+    times.into_iter().fold(f64::INFINITY, f64::min)
+}
+
+fn engine_slow(slow: &Slow) -> Duration {
+    match &slow.call {
+        Call::Get { source } => engine_get(&slow.table, source, &slow.gives),
+        Call::Put { sheet, source } => engine_put(&slow.table, sheet, source, &slow.gives),
+        Call::Create { sheet } => engine_create(&slow.table, sheet, &slow.gives),
     }
 }
 
@@ -152,10 +196,10 @@ fn engine_put(table: &[u8], sheet: &[u8], source: &[u8], expected: &[u8]) -> Dur
     time
 }
 
-fn engine_create(table: &[u8], sheet: &[u8]) -> Duration {
+fn engine_create(table: &[u8], sheet: &[u8], expected: &[u8]) -> Duration {
     let mut out = [0; MAX_TEXT];
     let (answer, time) = timed(|| noontrough::create(table, sheet, &mut out));
-    assert!(matches!(answer, Answer::Result { .. }));
+    assert_gives(answer, &out, expected);
     time
 }
 
@@ -189,8 +233,8 @@ fn put(table: &[u8], sheet: &[u8], source: &[u8], expected: &[u8], name: &str) {
     );
 }
 
-fn create(table: &[u8], sheet: &[u8], name: &str) {
-    row(name, || engine_create(table, sheet), || reference(|out| Reference.create(table, sheet, out)));
+fn create(table: &[u8], sheet: &[u8], expected: &[u8], name: &str) {
+    row(name, || engine_create(table, sheet, expected), || reference(|out| Reference.create(table, sheet, out)));
 }
 
 /// Entries of capitals, then digits that the sheet hides, then a semicolon.
@@ -277,6 +321,11 @@ fn source_of(entries: &[Entry]) -> Vec<u8> {
 
 fn sheet_of(entries: &[Entry]) -> Vec<u8> {
     entries.iter().flat_map(|(name, _)| format!("{name};").into_bytes()).collect()
+}
+
+/// The source of new entries, with the default for their digits.
+fn created_of(entries: &[Entry]) -> Vec<u8> {
+    entries.iter().flat_map(|(name, _)| format!("{name}0;").into_bytes()).collect()
 }
 
 /// A source of exactly so many bytes, and its sheet: the last entry's digits fill it up.

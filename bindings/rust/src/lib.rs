@@ -17,17 +17,17 @@
 //! assert_eq!(put(&table, b"av", b"AV", &mut out), Answer::Refusal { number: 14, node: 0 });
 //! ```
 //!
-//! [`check`] and [`get`] of any program run in a thread of `std::thread` with
-//! its usual 2 MiB of stack. [`put`], and [`create`] of large programs, can need
-//! more: start a thread with [`STACK_BYTES`] for them.
+//! All calls run in a thread of `std::thread` with its usual 2 MiB of stack, save
+//! that a [`put`] can need more where old entries are shown as far more than they
+//! are: start a thread with [`STACK_BYTES`] for it.
 
 /// The stack that any call of any program keeps to.
 ///
 /// A call takes what its program needs. For a program like K of the repository's
-/// examples, check, get and create take under 96 KiB, a put about 150 KB with up
-/// to 8 old entries and about 1.2 MB with more. A put of a large program or with
-/// an old entry whose sheet is longer than 4,096 bytes, and a create of a large
-/// program, can take over 2 MiB.
+/// examples, check, get and create take under 96 KiB, and a put under 160 KiB. A
+/// thread of 2 MiB is enough for every call but one: a put of a program with a
+/// union inside a match, with an old entry whose sheet is longer than 4,096 bytes,
+/// or with old entries whose keys come to over 12,000 bytes together.
 ///
 /// The main thread usually has 8 MiB. A thread of `std::thread` has 2 MiB unless
 /// it is started with `std::thread::Builder::stack_size`, or `RUST_MIN_STACK` is
@@ -47,7 +47,7 @@
 ///
 /// The bound is measured on x86-64, not proved. `cargo test` fails if a call of
 /// the programs that take most passes it.
-pub const STACK_BYTES: usize = 5376 * 1024;
+pub const STACK_BYTES: usize = 4352 * 1024;
 
 /// The stack that check and get of any program keep to. A thread of
 /// `std::thread` with its usual 2 MiB is enough for them. Measured and tested as

@@ -7,15 +7,19 @@
 mod stack;
 
 use noontrough::{READ_STACK_BYTES, STACK_BYTES};
-use stack::{cases, k, Call, Case, CALLS};
+use stack::{cases, k, usual_cases, Call, Case, CALLS};
 
 const READS: [Call; 2] = [Call::Check, Call::Get];
-/// What check, get and create of a program like K keep to.
+/// What check, get and create of a program like K keep to, and what its put does.
 const LIKE_K: usize = 96 * 1024;
+const PUT_LIKE_K: usize = 160 * 1024;
 /// The stack of a thread that is started without a size.
 const DEFAULT_THREAD: usize = 2 << 20;
 /// What a thread takes for itself, and more than that.
 const OWN: usize = 16 * 1024;
+/// What such a thread has left for its own work beside any call, unless old
+/// entries are shown as far more than they are.
+const SPARE: usize = 64 * 1024;
 
 fn assert_keeps_to(most: usize, case: &Case, call: Call) {
     let taken = case.stack_of(call);
@@ -33,9 +37,10 @@ fn assert_come_back(stack: usize, case: &Case, calls: &[Call]) {
     });
 }
 
-/// The same on a thread that is started without a size.
-fn assert_come_back_by_default(case: Case, calls: &'static [Call]) {
-    calls.iter().for_each(|&call| assert_keeps_to(DEFAULT_THREAD - OWN, &case, call));
+/// The same on a thread that is started without a size, of which the calls leave
+/// so much.
+fn assert_come_back_by_default(spare: usize, case: Case, calls: &'static [Call]) {
+    calls.iter().for_each(|&call| assert_keeps_to(DEFAULT_THREAD - spare, &case, call));
     let thread = std::thread::spawn(move || calls.iter().for_each(|&call| case.make(call)));
     thread.join().expect("the calls give results");
 }
@@ -51,18 +56,19 @@ fn check_and_get_need_no_more_than_is_promised_for_reading() {
 }
 
 #[test]
-fn check_get_and_create_of_k_take_little() {
-    let case = k(256);
-    [Call::Check, Call::Get, Call::Create].iter().for_each(|&call| assert_keeps_to(LIKE_K, &case, call));
+fn calls_of_k_take_little() {
+    for case in [k(8), k(256)] {
+        [Call::Check, Call::Get, Call::Create].iter().for_each(|&call| assert_keeps_to(LIKE_K, &case, call));
+        assert_keeps_to(PUT_LIKE_K, &case, Call::Put);
+    }
 }
 
 #[test]
 fn a_default_thread_is_enough_for_check_and_get() {
-    cases().into_iter().for_each(|case| assert_come_back_by_default(case, &READS));
+    cases().into_iter().for_each(|case| assert_come_back_by_default(SPARE, case, &READS));
 }
 
 #[test]
-fn a_default_thread_is_enough_for_k() {
-    assert_come_back_by_default(k(256), &CALLS);
-    assert_come_back_by_default(k(8), &CALLS);
+fn a_default_thread_is_enough_unless_old_entries_are_shown_as_far_more() {
+    usual_cases().into_iter().for_each(|case| assert_come_back_by_default(SPARE, case, &CALLS));
 }

@@ -23,8 +23,12 @@ pub struct Book {
 }
 
 impl Book {
+    pub fn entries(&self) -> &[Entry] {
+        &self.entries
+    }
+
     /// Takes out the first entry with this child and key.
-    fn take(&mut self, child: usize, key: &[u8]) -> Option<Entry> {
+    pub fn take(&mut self, child: usize, key: &[u8]) -> Option<Entry> {
         let place = self.entries.iter().position(|entry| entry.child == child && entry.key == key)?;
         Some(self.entries.remove(place))
     }

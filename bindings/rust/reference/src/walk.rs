@@ -10,7 +10,8 @@ impl Program {
         self.each_part_at(self.root(), side, text, visit);
     }
 
-    fn each_part_at(&self, node: usize, side: Side, text: &[u8], visit: &mut dyn FnMut(usize, &[u8])) {
+    /// The same for a text of any lens.
+    pub fn each_part_at(&self, node: usize, side: Side, text: &[u8], visit: &mut dyn FnMut(usize, &[u8])) {
         visit(node, text);
         match *self.node(node) {
             Node::LensJoin(a, b) => {

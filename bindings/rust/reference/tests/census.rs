@@ -22,8 +22,161 @@ fn kinds(table: &[u8], sheet: &[u8], source: &[u8]) -> Vec<Kind> {
 }
 
 #[test]
-fn program_k_has_a_leaf_with_an_empty_sheet_and_nothing_else() {
-    assert_eq!(kinds(&program_k(), b"C;AB;", b"AB1;C22;"), [Kind::EmptySheetLeaf]);
+fn program_k_repeats_a_match_and_has_a_leaf_with_an_empty_sheet() {
+    let of_program = [Kind::EmptySheetLeaf, Kind::RepeatOfAMatch];
+    let and = |more: &[Kind]| [&of_program, more].concat();
+    assert_eq!(kinds(&program_k(), b"D;E;", b"AB1;C22;"), of_program);
+    assert_eq!(kinds(&program_k(), b"C;AB;", b"AB1;C22;"), and(&[Kind::FoundWithoutUnion]));
+    assert_eq!(kinds(&program_k(), b"D;E;F;", b"AB1;C22;"), and(&[Kind::MorePartsThanOld]));
+    assert_eq!(kinds(&program_k(), b"D;", b"AB1;C22;"), and(&[Kind::FewerPartsThanOld]));
+    assert_eq!(kinds(&program_k(), b"D;E;", b"AB1;AB2;"), and(&[Kind::EqualKeys]));
+}
+
+#[test]
+fn keys_that_differ_at_the_end() {
+    let apart = |sources: [&[u8]; 2]| {
+        let old = sources.map(|name| [name, b"1;"].concat()).concat();
+        kinds(&program_k(), b"D;E;", &old).contains(&Kind::KeysApartAtTheEnd)
+    };
+    assert!(apart([b"ABCDEFGH", b"ABCDEFGI"]));
+    assert!(apart([b"ABCDEFGH", b"ABCDEFG"]));
+    assert!(!apart([b"ABCDEFGH", b"ABCDEFGH"]), "these are equal");
+    assert!(!apart([b"ABCDEFGH", b"BBCDEFGH"]), "these differ at the beginning");
+    assert!(!apart([b"ABC", b"ABD"]), "these are short");
+}
+
+#[test]
+fn places_of_matches() {
+    let mut draft = Draft::new();
+    let names = [(b'a', b'b'), (b'c', b'd')].map(|(first, last)| draft.range(first, last));
+    let [one, other] = names.map(|name| draft.key(name)).map(|key| draft.matched(key));
+    let remark = draft.copy_word(b"#");
+    let plain = draft.clone();
+
+    draft.lens_join(one, other);
+    assert_eq!(kinds(&draft.table(), b"ac", b"bd"), [Kind::JoinOfMatches]);
+    let mut draft = plain.clone();
+    let pair = draft.lens_join(one, one);
+    draft.lens_repeat(pair);
+    let found = [Kind::JoinOfMatches, Kind::JoinOfOneChild, Kind::RepeatOfTwoMatches];
+    assert_eq!(kinds(&draft.table(), b"aa", b"bb"), [&found[..], &[Kind::EqualKeys]].concat());
+    let mut draft = plain.clone();
+    draft.lens_union(one, other);
+    assert_eq!(kinds(&draft.table(), b"a", b"b"), [Kind::UnionOfMatches]);
+    let mut draft = plain.clone();
+    let either = draft.lens_union(remark, one);
+    draft.lens_repeat(either);
+    assert_eq!(kinds(&draft.table(), b"a", b"b"), [Kind::RepeatOfMatchOrRemark]);
+    assert_eq!(kinds(&draft.table(), b"a", b"#"), [Kind::RepeatOfMatchOrRemark, Kind::CrossedOverAMatch]);
+}
+
+/// Parts of so many empty matches and a letter; names of another child follow.
+fn empty_matches(count: usize) -> Vec<u8> {
+    let mut draft = Draft::new();
+    let nothing = draft.copy_word(b"");
+    let empty = draft.matched(nothing);
+    let (letter, name) = (draft.copy_word(b"a"), draft.range(b'A', b'Z'));
+    let pair = draft.lens_join(empty, empty);
+    let part = (0..count / 2).fold(letter, |part, _| draft.lens_join(pair, part));
+    let part = (0..count % 2).fold(part, |part, _| draft.lens_join(empty, part));
+    let (list, key) = (draft.lens_repeat(part), draft.key(name));
+    let entry = draft.matched(key);
+    let names = draft.lens_repeat(entry);
+    draft.lens_join(list, names);
+    draft.table()
+}
+
+#[test]
+fn many_empty_matches() {
+    let met = |count: usize, sheet: &[u8], source: &[u8]| {
+        let mut kinds = kinds(&empty_matches(count), sheet, source);
+        let of_calls =
+            [Kind::EmptyMatches30, Kind::EmptyMatches100, Kind::EmptyMatchesWithOld, Kind::EmptyMatchesOldOfOtherChild];
+        kinds.retain(|kind| of_calls.contains(kind));
+        kinds
+    };
+    assert_eq!(met(29, b"aaaa", b"a"), [], "a part has 29");
+    assert_eq!(met(30, b"a", b""), [Kind::EmptyMatches30]);
+    assert_eq!(met(30, b"a", b"aA"), [Kind::EmptyMatches30, Kind::EmptyMatchesWithOld]);
+    assert_eq!(met(30, b"a", b"A"), [Kind::EmptyMatches30, Kind::EmptyMatchesOldOfOtherChild]);
+    assert_eq!(met(99, b"a", b""), [Kind::EmptyMatches30]);
+    assert_eq!(met(100, b"a", b""), [Kind::EmptyMatches30, Kind::EmptyMatches100]);
+    assert_eq!(met(30, b"B", b"aA"), [], "the sheet has no such part");
+}
+
+/// Nested unions of marks and entries: all arms can read the sheet of any.
+fn marked_entries() -> Vec<u8> {
+    let mut draft = Draft::new();
+    let name = draft.range(b'a', b'z');
+    let key = draft.key(name);
+    let entry = draft.matched(key);
+    let arms = [b"0", b"1", b"2"].map(|mark| draft.replace(mark, b"")).map(|mark| draft.lens_join(mark, entry));
+    let pair = draft.lens_union(arms[1], arms[2]);
+    let either = draft.lens_union(arms[0], pair);
+    draft.lens_repeat(either);
+    draft.table()
+}
+
+#[test]
+fn right_arms_that_are_kept() {
+    let kept = |source: &[u8]| {
+        let mut kinds = kinds(&marked_entries(), b"x", source);
+        let is_kept = |kind: &Kind| format!("{kind:?}").starts_with("KeptRightArm");
+        kinds.retain(is_kept);
+        kinds
+    };
+    let once = [Kind::KeptRightArm, Kind::KeptRightArmInARepeat, Kind::KeptRightArmOverAMatch];
+    let twice = [Kind::KeptRightArmTwice, Kind::KeptRightArmTwiceOverAMatch];
+    assert_eq!(kept(b"0a"), []);
+    assert_eq!(kept(b"1a"), once);
+    assert_eq!(kept(b"2a"), [once[0], twice[0], twice[1], once[1], once[2]]);
+}
+
+/// Entries of two arms with the same sheets: the left arm's is all key, the
+/// right arm shows each `n` as 64 letters.
+fn keys_of_two_arms() -> Vec<u8> {
+    let mut draft = Draft::new();
+    let letter = draft.word(b"x");
+    let many = draft.pattern_repeat(letter);
+    let (key, wide) = (draft.key(many), draft.replace(b"n", &[b'x'; 64]));
+    let wides = draft.lens_repeat(wide);
+    let [left, right] = [b"<", b">"].map(|mark| draft.replace(mark, b""));
+    let [left, right] = [draft.lens_join(left, key), draft.lens_join(right, wides)];
+    let (either, end) = (draft.lens_union(left, right), draft.copy_word(b";"));
+    let line = draft.lens_join(either, end);
+    let entry = draft.matched(line);
+    draft.lens_repeat(entry);
+    draft.table()
+}
+
+#[test]
+fn entries_found_by_the_arm_that_they_are_of() {
+    let asked = b"x".repeat(64);
+    let sheet = [&asked[..], b";"].concat();
+    let left = [b"<", &asked[..], b";"].concat();
+    let table = keys_of_two_arms();
+    assert!(kinds(&table, &sheet, &left).contains(&Kind::FoundOfLeftArm));
+    assert!(kinds(&table, &sheet, b">n;").contains(&Kind::FoundOfRightArm));
+    let none = kinds(&table, b"x;", b">n;");
+    assert!(!none.contains(&Kind::FoundOfRightArm) && !none.contains(&Kind::FoundOfLeftArm));
+}
+
+#[test]
+fn long_keys() {
+    let table = keys_of_two_arms();
+    let met = |sheet: &[u8], source: &[u8]| {
+        let mut kinds = kinds(&table, sheet, source);
+        let of_keys = [Kind::LongKey, Kind::LongKeys, Kind::LongKeysFound, Kind::KeyAt4095To4097];
+        kinds.retain(|kind| of_keys.contains(kind));
+        kinds
+    };
+    let old = |count: usize, each: usize| [b">", &b"n".repeat(each)[..], b";"].concat().repeat(count);
+    assert_eq!(met(b"x;", &old(256, 1)), [], "16,384 bytes");
+    assert_eq!(met(b"x;", &old(129, 2)), [Kind::LongKeys]);
+    let asked = [&b"x".repeat(128)[..], b";"].concat();
+    assert_eq!(met(&asked, &old(129, 2)), [Kind::LongKeys, Kind::LongKeysFound]);
+    assert_eq!(met(b"x;", &old(1, 64)), [Kind::KeyAt4095To4097]);
+    assert_eq!(met(b"x;", &old(1, 65)), [Kind::LongKey]);
 }
 
 #[test]
@@ -34,7 +187,8 @@ fn nested_unions() {
     draft.lens_union(pair, two);
     let of_program = [Kind::UnionsTwoDeep, Kind::UnionsOnTheLeft, Kind::SheetOfBothArms];
     assert_eq!(kinds(&draft.table(), b"a", b"0"), of_program);
-    assert_eq!(kinds(&draft.table(), b"a", b"1"), [&of_program[..], &[Kind::OldRightArmLikeLeft]].concat());
+    let of_right = [Kind::OldRightArmLikeLeft, Kind::KeptRightArm];
+    assert_eq!(kinds(&draft.table(), b"a", b"1"), [&of_program[..], &of_right].concat());
 
     let mut draft = Draft::new();
     let [zero, one, two] =
@@ -81,9 +235,14 @@ fn long_entries() {
     draft.lens_repeat(entry);
     let table = draft.table();
     let long = |name: &str| format!("{name}{}", "a".repeat(64)).into_bytes();
-    assert_eq!(kinds(&table, b"B", &long("A")), [Kind::LongEntry]);
-    assert_eq!(kinds(&table, b"A", &long("A")), [Kind::LongEntry, Kind::LongEntryFound]);
-    assert_eq!(kinds(&table, b"A", &long("A")[..64]), [], "a sheet of 4,033 bytes");
-    assert_eq!(kinds(&table, b"B", &long("ABCDEFGH")), [Kind::LongEntry, Kind::LongEntryOfEight]);
-    assert_eq!(kinds(&table, b"B", &long("ABCDEFGHI")), [Kind::LongEntry, Kind::LongEntryOfNineOrMore]);
+    let met = |sheet: &[u8], source: &[u8]| {
+        let mut kinds = kinds(&table, sheet, source);
+        kinds.retain(|kind| format!("{kind:?}").starts_with("LongEntry"));
+        kinds
+    };
+    assert_eq!(met(b"B", &long("A")), [Kind::LongEntry]);
+    assert_eq!(met(b"A", &long("A")), [Kind::LongEntry, Kind::LongEntryFound]);
+    assert_eq!(met(b"A", &long("A")[..64]), [], "a sheet of 4,033 bytes");
+    assert_eq!(met(b"B", &long("ABCDEFGH")), [Kind::LongEntry, Kind::LongEntryOfEight]);
+    assert_eq!(met(b"B", &long("ABCDEFGHI")), [Kind::LongEntry, Kind::LongEntryOfNineOrMore]);
 }

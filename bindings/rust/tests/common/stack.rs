@@ -93,7 +93,18 @@ fn taken(call: &dyn Fn()) -> usize {
 }
 
 pub fn cases() -> Vec<Case> {
-    vec![k(256), k(8), joins(), joins_over_a_match(), long_sheet(), full_room(), deepest_put()]
+    usual_cases().into_iter().chain(wide_cases()).collect()
+}
+
+/// Those in which no old entry is shown as far more than it is.
+pub fn usual_cases() -> Vec<Case> {
+    vec![k(256), k(8), joins(), joins_over_a_match(), full_room(), joins_over_entries(), ladder_over_a_match()]
+}
+
+/// Those with old entries of unions of which one has a sheet of over 4,096 bytes,
+/// or all have keys of over 12,000 bytes together.
+fn wide_cases() -> [Case; 3] {
+    [long_sheet(), joins_over_a_long_sheet(), ladder_over_long_keys()]
 }
 
 /// Program K with so many entries, at most 256, whose names all differ.
@@ -144,7 +155,8 @@ fn long_sheet() -> Case {
     let either = draft.lens_union(short, long);
     let many = draft.lens_repeat(either);
     draft.matched(many);
-    Case { old: vec![b'n'; MAX_TEXT], ..Case::new("an old entry with a long sheet", &draft, b"y") }
+    let old = vec![b'n'; MAX_TEXT];
+    Case { old, ..Case::new("an old entry with a long sheet", &draft, b"y") }
 }
 
 /// About as many rows as a program can have: 128 positions a side in each join.
@@ -157,17 +169,91 @@ fn full_room() -> Case {
     Case::new(&format!("{joined} joins of 128 positions a side"), &draft, &[b'a'; 128])
 }
 
-/// All that makes a put and a create large at once: the full room; two repeats
-/// for the large pad (the second is not reached from the root, so that more
-/// nodes are left for joins, which cost most); more than 8 old entries for the
-/// large deck; and a way down through joins, a repeat and a match.
-fn deepest_put() -> Case {
+/// The full room, 256 old entries, and a way down through joins, a repeat and a
+/// match.
+fn joins_over_entries() -> Case {
     let mut draft = Draft::new();
     let letter = draft.word(b"a");
     let key = draft.key(letter);
     let entry = draft.matched(key);
     draft.lens_repeat(entry);
-    draft.lens_repeat(entry);
     let joined = join_on(&mut draft, entry);
     Case::new(&format!("{joined} joins over a repeated match, 256 entries"), &draft, &[b'a'; 256])
+}
+
+/// Fills the program up: each new root is a union of that lens, and of a mark
+/// before the last root. Gives the number of unions.
+fn climb_on(draft: &mut Draft, mark: NodeNumber, lens: NodeNumber) -> usize {
+    let rungs = (MAX_NODES - draft.len()) / 2;
+    for _ in 0..rungs {
+        let root = (draft.len() - 1) as NodeNumber;
+        let further = draft.lens_join(mark, root);
+        draft.lens_union(lens, further);
+    }
+    rungs
+}
+
+/// A byte in the source that the sheet does not show.
+fn mark_of(draft: &mut Draft, word: NodeNumber) -> NodeNumber {
+    let nothing = draft.word(b"");
+    draft.constant(word, nothing, word)
+}
+
+/// A put takes more for a union than for a join, since the union chooses an arm
+/// on the way. As few nodes as can be are left for something else.
+fn ladder_over_a_match() -> Case {
+    let mut draft = Draft::new();
+    let letter = draft.word(b"a");
+    let (mark, key) = (mark_of(&mut draft, letter), draft.key(letter));
+    draft.matched(key);
+    let rungs = climb_on(&mut draft, mark, key);
+    let old = vec![b'a'; rungs + 1];
+    let name = format!("{rungs} unions and joins over a match");
+    Case { source: old.clone(), old, ..Case::new(&name, &draft, b"a") }
+}
+
+/// What one `n` of the old source is shown as.
+const WIDE: &[u8] = &[b'x'; 40];
+
+/// All that makes a put large at once: the full room; the way down; and 256 old
+/// entries of right arms, one of them with a sheet of over 4,096 bytes, with keys
+/// of over 16,384 bytes together.
+fn joins_over_a_long_sheet() -> Case {
+    let mut draft = Draft::new();
+    let letter = draft.word(b"x");
+    let some = draft.pattern_some(letter);
+    let (key, wide) = (draft.key(some), draft.replace(b"n", WIDE));
+    let wides = draft.lens_repeat(wide);
+    let (either, end) = (draft.lens_union(key, wides), draft.copy_word(b";"));
+    let line = draft.lens_join(either, end);
+    let entry = draft.matched(line);
+    draft.lens_repeat(entry);
+    let joined = join_on(&mut draft, end);
+    let name = format!("{joined} joins over 256 entries, one with a long sheet");
+    let long = [&[b'n'; 128][..], b";"].concat();
+    let old = [&b"nn;".repeat(255)[..], &long].concat();
+    let sheet = [&WIDE.repeat(2)[..], b";x;"].concat();
+    let [source, old, sheet] = [b"x;nn;", &old[..], &sheet].map(|text| [&vec![b';'; joined], text].concat());
+    Case { name, table: draft.table(), source, old, sheet }
+}
+
+/// The same with unions, and with keys alone: an entry is shown as 64 bytes,
+/// which the left arm has as its key.
+fn ladder_over_long_keys() -> Case {
+    let mut draft = Draft::new();
+    let (letter, end, short) = (draft.word(b"x"), draft.word(b";"), draft.word(b"n"));
+    let many = draft.pattern_repeat(letter);
+    let line = draft.pattern_join(many, end);
+    let (mark, key, other) = (mark_of(&mut draft, short), draft.key(line), draft.copy(end));
+    let shown = [&[b'x'; 63][..], b";"].concat();
+    let wide = draft.word(&shown);
+    let wide = draft.constant(short, wide, short);
+    let either = draft.lens_union(key, wide);
+    let entry = draft.matched(either);
+    draft.lens_repeat(entry);
+    let rungs = climb_on(&mut draft, mark, other);
+    let name = format!("{rungs} unions and joins over 256 entries with long keys");
+    let marks = vec![b'n'; rungs];
+    let [source, old] = [2, 256].map(|entries| [&marks[..], &vec![b'n'; entries]].concat());
+    Case { name, table: draft.table(), source, old, sheet: [&shown[..], b"x;"].concat() }
 }

@@ -2,7 +2,9 @@
 
 use super::draft::Draft;
 use super::faults::{mutated, refused, PROGRAM_REFUSALS};
+use super::keys::like_key_cases;
 use super::long_entries::long_entry_cases;
+use super::many_empty::many_empty_cases;
 use super::programs::accepted;
 use super::random::Random;
 use super::texts::{draw, draw_of_length, edit, garbage};
@@ -31,15 +33,18 @@ pub struct Case {
 
 /// Calls about one program: refused ones are checked and called with texts that
 /// would fit other programs, accepted ones get texts of all sorts. Programs with
-/// long old entries bring their own texts.
+/// long old entries, with many empty matches or with keys that are much alike
+/// bring their own texts.
 pub fn program_cases(random: &mut Random) -> Vec<Case> {
-    let table = match random.below(25) {
-        0..=1 => return long_entry_cases(random),
-        2..=4 => {
+    let table = match random.below(28) {
+        0..=2 => return long_entry_cases(random),
+        3..=4 => return many_empty_cases(random),
+        5 => return like_key_cases(random),
+        6..=8 => {
             let number = random.between(usize::from(*PROGRAM_REFUSALS.start()), usize::from(*PROGRAM_REFUSALS.end()));
             refused(random, number as u8, &mut accepted)
         }
-        5..=7 => {
+        9..=11 => {
             let table = accepted(random).table();
             mutated(random, &table)
         }

@@ -1,4 +1,5 @@
-//! Old entries whose sheets are longer than any text that a call takes.
+//! Old entries whose sheets are longer than any text that a call takes, and old
+//! entries whose keys come to much together.
 //!
 //! One source byte is shown as a word of up to 128 bytes, so a source of some
 //! hundred bytes has a sheet of over 4,096. Get refuses it with 16; put is still
@@ -67,6 +68,8 @@ struct Shape {
     wide: Vec<u8>,
     /// Whether the program is one entry and not a list of them.
     single: bool,
+    /// Whether an entry ends with a semicolon; only a single one may lack it.
+    ended: bool,
     /// Whether an entry has many empty leaves before its text.
     deep: bool,
     table: Vec<u8>,
@@ -88,7 +91,9 @@ impl Shape {
                 Place::InRun => vec![b'z'; length],
                 _ => (0..length).map(|_| *random.pick(b"u-")).collect(),
             };
-            let mut shape = Shape { key, wide, single: random.once_in(6), deep: random.once_in(8), table: Vec::new() };
+            let (single, deep) = (random.once_in(6), random.once_in(8));
+            let ended = !single || random.once_in(3);
+            let mut shape = Shape { key, wide, single, ended, deep, table: Vec::new() };
             shape.table = shape.write(random).table();
             if let Ok(program) = Program::read(&shape.table) {
                 return (shape, program);
@@ -114,7 +119,9 @@ impl Shape {
         };
         let digit = draft.range(b'0', b'9');
         row.push(draft.delete(digit, b"0"));
-        row.push(draft.copy_word(b";"));
+        if self.ended {
+            row.push(draft.copy_word(b";"));
+        }
         if self.deep {
             let nothing = draft.copy_word(b"");
             row.splice(..0, vec![nothing; random.between(20, 30)]);
@@ -139,8 +146,12 @@ impl Shape {
         draft.lens_join(lens, rest)
     }
 
-    /// Some old entries, of which one or two are long.
+    /// Some old entries, of which one or two are long; or many whose keys come to
+    /// about 16,384 bytes together.
     fn old_entries(&self, random: &mut Random) -> Vec<Old> {
+        if self.key == Place::InOtherArm && !self.single && random.once_in(3) {
+            return self.many_keys(random);
+        }
         let count = if self.single { 1 } else { *random.pick(&[1, 2, 3, 7, 8, 8, 9, 9, 10, 17, 40]) };
         let mut long_ones = vec![random.below(count)];
         if random.once_in(4) {
@@ -153,8 +164,20 @@ impl Shape {
         (0..count).map(entry).collect()
     }
 
+    fn many_keys(&self, random: &mut Random) -> Vec<Old> {
+        // The reference takes long over what is both long and deep.
+        let count = *random.pick(if self.deep { &[5, 9, 17] } else { &[5, 9, 17, 60, 128, 255] });
+        let each = random.between(10_000, 22_000) / count / self.wide.len();
+        let parts = (0..count).map(|_| each.saturating_sub(1) + random.below(4));
+        parts.map(|parts| Old { parts, name: Vec::new() }).collect()
+    }
+
     /// So many wide words that they come to about 4,096 bytes, or to more.
     fn many_parts(&self, random: &mut Random) -> usize {
+        // A key of 4,096 bytes, where the words come to that.
+        if self.key == Place::InOtherArm && random.once_in(4) {
+            return MAX_TEXT / self.wide.len();
+        }
         // The reference takes long over what is both huge and deep.
         let about = match random.below(if self.deep { 34 } else { 40 }) {
             0..=16 => random.between(MAX_TEXT - self.wide.len(), MAX_TEXT + 2 * self.wide.len()),
@@ -190,7 +213,15 @@ impl Shape {
             Place::InOtherArm => [&hidden[..], b"!"].concat(),
             Place::InRun => heads_with_runs(&old.name, &hidden),
         };
-        [&text[..], &[digit, b';']].concat()
+        [&text[..], &[digit], self.end()].concat()
+    }
+
+    fn end(&self) -> &'static [u8] {
+        if self.ended {
+            b";"
+        } else {
+            b""
+        }
     }
 
     /// A sheet that asks for old entries by their keys, in any order, with some
@@ -222,7 +253,7 @@ impl Shape {
             Place::InOtherArm => self.key_like(random, old.parts),
             Place::InRun => self.runs(random, &old.name),
         };
-        text.push(b';');
+        text.extend_from_slice(self.end());
         text
     }
 
@@ -252,7 +283,7 @@ impl Shape {
     /// end of a word.
     fn key_like(&self, random: &mut Random, parts: usize) -> Vec<u8> {
         let mut text = self.wide.repeat(parts);
-        text.truncate(MAX_TEXT - 1);
+        text.truncate(MAX_TEXT - self.end().len());
         if random.once_in(6) {
             text.pop();
         }

@@ -8,7 +8,10 @@
 //! | [`unions`] | nested unions whose sheets overlap |
 //! | [`empties`] | programs with empty leaves |
 //! | [`depths`] | programs nested deep, and texts in which the way is not forced |
-//! | [`long_entries`] | calls with old entries whose sheets are over 4,096 bytes |
+//! | [`several_matches`] | programs with several matches in a part |
+//! | [`long_entries`] | calls with old entries whose sheets are over 4,096 bytes, or whose keys come to much |
+//! | [`many_empty`] | calls with up to 126 empty matches in a part |
+//! | [`keys`] | calls with old entries whose keys are much alike |
 //! | [`faults`] | programs refused with a wanted number |
 //! | [`texts`] | sources, sheets, edits, garbage |
 //! | [`cases`] | whole calls, with buffers of every interesting size |
@@ -19,9 +22,12 @@ pub mod depths;
 pub mod draft;
 pub mod empties;
 pub mod faults;
+pub mod keys;
 pub mod long_entries;
+pub mod many_empty;
 pub mod programs;
 pub mod random;
+pub mod several_matches;
 pub mod small;
 pub mod texts;
 pub mod unions;

@@ -4,12 +4,13 @@
 //! nodes that still check (odd shapes, sharing, unreached nodes), records with
 //! fields and separators (what a publishing house would write), small programs
 //! around a union, and programs that go up to the limits. Nested unions, empty
-//! leaves and deep nesting have modules of their own.
+//! leaves, deep nesting and several matches have modules of their own.
 
 use super::depths::{deep, loose};
 use super::draft::{Draft, NodeNumber};
 use super::empties::empty_leaves;
 use super::random::Random;
+use super::several_matches::several_matches;
 use super::texts::draw;
 use super::unions::overlapping_unions;
 use crate::program::Program;
@@ -31,7 +32,7 @@ impl Room {
 
 /// An accepted program of any sort.
 pub fn accepted(random: &mut Random) -> Draft {
-    match random.below(16) {
+    match random.below(18) {
         0..=3 => grown(random, Room::USUAL),
         4..=6 => records(random),
         7 => two_kinds(random),
@@ -39,6 +40,7 @@ pub fn accepted(random: &mut Random) -> Draft {
         9..=11 => overlapping_unions(random),
         12 => empty_leaves(random),
         13..=14 => deep(random),
+        15..=16 => several_matches(random),
         _ => loose(random),
     }
 }

@@ -43,19 +43,24 @@ enum Matches {
     InArms,
     /// One match holds all unions.
     Above,
+    /// Each arm is a mark and an entry behind it, and every arm can read the
+    /// sheets of every other.
+    BehindMarks,
 }
 
 struct Nest {
     lean: Lean,
     matches: Matches,
     next_mark: u8,
+    /// The last entry behind a mark, which the next arm may share.
+    entry: Option<NodeNumber>,
 }
 
 impl Nest {
     fn draw(random: &mut Random) -> Nest {
         let lean = *random.pick(&[Lean::Left, Lean::Right, Lean::Either]);
-        let matches = *random.pick(&[Matches::Nowhere, Matches::InArms, Matches::Above, Matches::Above]);
-        Nest { lean, matches, next_mark: b'0' }
+        let choices = [Matches::Nowhere, Matches::InArms, Matches::Above, Matches::Above, Matches::BehindMarks];
+        Nest { lean, matches: *random.pick(&choices), next_mark: b'0', entry: None }
     }
 
     fn mark(&mut self) -> [u8; 1] {
@@ -64,6 +69,9 @@ impl Nest {
     }
 
     fn tree(&mut self, random: &mut Random, draft: &mut Draft, arms: usize) -> NodeNumber {
+        if arms == 1 && self.matches == Matches::BehindMarks {
+            return self.marked_entry(random, draft);
+        }
         if arms == 1 {
             let arm = self.arm(random, draft);
             return if self.matches == Matches::InArms { draft.matched(arm) } else { arm };
@@ -81,6 +89,20 @@ impl Nest {
         } else {
             union
         }
+    }
+
+    /// A mark, and behind it an entry of a child of its own or of the last one.
+    fn marked_entry(&mut self, random: &mut Random, draft: &mut Draft) -> NodeNumber {
+        let shared = self.entry.filter(|_| random.once_in(2));
+        let entry = shared.unwrap_or_else(|| {
+            let name = draft.range(b'a', b'b');
+            let (key, hidden) = (draft.key(name), hidden_digits(draft));
+            let line = draft.lens_join(key, hidden);
+            draft.matched(line)
+        });
+        self.entry = Some(entry);
+        let mark = draft.replace(&self.mark(), b"");
+        draft.lens_join(mark, entry)
     }
 
     /// A join between two unions.

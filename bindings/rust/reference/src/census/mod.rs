@@ -2,7 +2,7 @@
 //! that no longer draws some kind is found out. Each kind is looked up in the
 //! program and the texts themselves; how they were drawn plays no part.
 
-use std::collections::BTreeMap;
+use std::collections::{BTreeMap, BTreeSet};
 use std::fmt;
 
 use crate::ambiguity::overlap;
@@ -11,6 +11,8 @@ use crate::calls::MAX_TEXT;
 use crate::generator::cases::{Call, Case};
 use crate::program::Program;
 use crate::table::{Node, Side, SIDES};
+
+mod puts;
 
 #[derive(Clone, Copy, Debug, PartialEq, Eq, PartialOrd, Ord)]
 pub enum Kind {
@@ -33,6 +35,18 @@ pub enum Kind {
     /// So many times a first operand, a second operand, on one way down.
     DeepOnTheLeft20,
     DeepOnTheRight20,
+    /// Both halves of a join hold a match.
+    JoinOfMatches,
+    /// Both hold one over the same child.
+    JoinOfOneChild,
+    /// Both arms of a union hold a match.
+    UnionOfMatches,
+    /// A repeat of a match itself.
+    RepeatOfAMatch,
+    /// A repeat of a union of which one arm holds a match.
+    RepeatOfMatchOrRemark,
+    /// A repeat of a join whose halves both hold a match.
+    RepeatOfTwoMatches,
 
     // Calls with legal texts only.
     /// Both arms of a union could read a part of the sheet.
@@ -57,10 +71,48 @@ pub enum Kind {
     LongKey,
     /// The sheet has an entry with its key.
     LongEntryFound,
+    /// A put in which a match that reads the empty text comes up so often in one
+    /// part of a repeat.
+    EmptyMatches30,
+    EmptyMatches100,
+    /// At least 30, and an old entry is of their child.
+    EmptyMatchesWithOld,
+    /// At least 30, and all old entries are of other children.
+    EmptyMatchesOldOfOtherChild,
+    /// A put onto an old text of a right arm with a sheet of both arms.
+    KeptRightArm,
+    /// Within a right arm that was kept in the same way; and a match is in one of
+    /// the arms.
+    KeptRightArmTwice,
+    KeptRightArmTwiceOverAMatch,
+    KeptRightArmInARepeat,
+    /// A match is in one of the arms.
+    KeptRightArmOverAMatch,
+    /// The sheet is not of the old arm, and a match is in one of the arms.
+    CrossedOverAMatch,
+    /// A repeat that holds a match has some old parts and more sheet parts.
+    MorePartsThanOld,
+    /// It has some sheet parts and more old parts.
+    FewerPartsThanOld,
+    /// A key with no union below its match finds an old entry.
+    FoundWithoutUnion,
+    /// There is a union, and the entry is of its left arm, of a right arm.
+    FoundOfLeftArm,
+    FoundOfRightArm,
+    /// Two old entries of one child have the same key, which is not empty.
+    EqualKeys,
+    /// Their keys differ in the last byte only, or in that one has one more.
+    KeysApartAtTheEnd,
+    /// The keys of all old entries come to over 16,384 bytes.
+    LongKeys,
+    /// One of the entries is found.
+    LongKeysFound,
+    /// An old entry has a key of such a length.
+    KeyAt4095To4097,
 }
 
 impl Kind {
-    pub const ALL: [Kind; 26] = [
+    pub const ALL: [Kind; 52] = [
         Kind::UnionsTwoDeep,
         Kind::UnionsThreeDeep,
         Kind::UnionsOnTheLeft,
@@ -74,6 +126,12 @@ impl Kind {
         Kind::Deep60,
         Kind::DeepOnTheLeft20,
         Kind::DeepOnTheRight20,
+        Kind::JoinOfMatches,
+        Kind::JoinOfOneChild,
+        Kind::UnionOfMatches,
+        Kind::RepeatOfAMatch,
+        Kind::RepeatOfMatchOrRemark,
+        Kind::RepeatOfTwoMatches,
         Kind::SheetOfBothArms,
         Kind::OldRightArmLikeLeft,
         Kind::DeepShortText,
@@ -87,6 +145,26 @@ impl Kind {
         Kind::HugeEntry,
         Kind::LongKey,
         Kind::LongEntryFound,
+        Kind::EmptyMatches30,
+        Kind::EmptyMatches100,
+        Kind::EmptyMatchesWithOld,
+        Kind::EmptyMatchesOldOfOtherChild,
+        Kind::KeptRightArm,
+        Kind::KeptRightArmTwice,
+        Kind::KeptRightArmTwiceOverAMatch,
+        Kind::KeptRightArmInARepeat,
+        Kind::KeptRightArmOverAMatch,
+        Kind::CrossedOverAMatch,
+        Kind::MorePartsThanOld,
+        Kind::FewerPartsThanOld,
+        Kind::FoundWithoutUnion,
+        Kind::FoundOfLeftArm,
+        Kind::FoundOfRightArm,
+        Kind::EqualKeys,
+        Kind::KeysApartAtTheEnd,
+        Kind::LongKeys,
+        Kind::LongKeysFound,
+        Kind::KeyAt4095To4097,
     ];
 }
 
@@ -138,7 +216,7 @@ impl fmt::Display for Census {
     fn fmt(&self, f: &mut fmt::Formatter<'_>) -> fmt::Result {
         for kind in Kind::ALL {
             let name = format!("{kind:?}");
-            writeln!(f, "{name:>22}: {:>6} programs, {:>7} calls", self.programs(kind), self.calls(kind))?;
+            writeln!(f, "{name:>27}: {:>6} programs, {:>7} calls", self.programs(kind), self.calls(kind))?;
         }
         Ok(())
     }
@@ -154,6 +232,10 @@ struct Facts {
     overlaps: Vec<bool>,
     /// The most such unions on one way down from a node.
     union_depths: Vec<usize>,
+    /// Whether a union is at or below a node.
+    has_union: Vec<bool>,
+    /// The children of the matches at and below a node.
+    matched: Vec<BTreeSet<usize>>,
     depth: usize,
     left_depth: usize,
     right_depth: usize,
@@ -170,7 +252,10 @@ impl Facts {
         let depth = to_root(&|_, _| 1);
         let left_depth = to_root(&|node, operand| usize::from(is_pair(node) && operand == 0));
         let right_depth = to_root(&|node, operand| usize::from(is_pair(node) && operand == 1));
-        let mut facts = Facts { overlaps, union_depths, depth, left_depth, right_depth, kinds: Vec::new() };
+        let is_union = |node, _| usize::from(matches!(program.node(node), Node::LensUnion(..)));
+        let has_union = heights(program, &is_union).into_iter().map(|unions| unions > 0).collect();
+        let (matched, kinds) = (matched_children(program), Vec::new());
+        let mut facts = Facts { overlaps, union_depths, has_union, matched, depth, left_depth, right_depth, kinds };
         facts.kinds = Kind::ALL.into_iter().filter(|&kind| facts.shows(program, kind)).collect();
         facts
     }
@@ -182,6 +267,9 @@ impl Facts {
         let nested = |arm_of: fn(&Node) -> Option<usize>| {
             let unions = reached(program).into_iter().filter(|&node| is_overlapping(node));
             unions.filter_map(|node| arm_of(program.node(node))).any(is_overlapping)
+        };
+        let repeats = |holds: &dyn Fn(&Node) -> bool| {
+            any(&|node| matches!(*node, Node::LensRepeat(part) if holds(program.node(part))))
         };
         let union_depth = self.union_depths[program.root()];
         match kind {
@@ -198,9 +286,44 @@ impl Facts {
             Kind::Deep60 => self.depth >= 60,
             Kind::DeepOnTheLeft20 => self.left_depth >= 20,
             Kind::DeepOnTheRight20 => self.right_depth >= 20,
+            Kind::JoinOfMatches => any(&|node| self.joins_matches(node)),
+            Kind::JoinOfOneChild => any(&|node| self.joins_one_child(node)),
+            Kind::UnionOfMatches => any(&|node| self.union_holds(node) == Some([true; 2])),
+            Kind::RepeatOfAMatch => repeats(&|part| matches!(part, Node::Match(_))),
+            Kind::RepeatOfMatchOrRemark => repeats(&|part| self.union_holds(part).is_some_and(|[a, b]| a != b)),
+            Kind::RepeatOfTwoMatches => repeats(&|part| self.joins_matches(part)),
             _ => false,
         }
     }
+
+    fn joins_matches(&self, node: &Node) -> bool {
+        matches!(*node, Node::LensJoin(a, b) if !self.matched[a].is_empty() && !self.matched[b].is_empty())
+    }
+
+    fn joins_one_child(&self, node: &Node) -> bool {
+        matches!(*node, Node::LensJoin(a, b) if !self.matched[a].is_disjoint(&self.matched[b]))
+    }
+
+    /// Whether the arms of a union hold a match.
+    fn union_holds(&self, node: &Node) -> Option<[bool; 2]> {
+        match *node {
+            Node::LensUnion(a, b) => Some([a, b].map(|arm| !self.matched[arm].is_empty())),
+            _ => None,
+        }
+    }
+}
+
+fn matched_children(program: &Program) -> Vec<BTreeSet<usize>> {
+    let mut matched: Vec<BTreeSet<usize>> = Vec::new();
+    for node in 0..=program.root() {
+        let children = program.node(node).children();
+        let mut below: BTreeSet<usize> = children.iter().flat_map(|&child| matched[child].clone()).collect();
+        if let Node::Match(child) = *program.node(node) {
+            below.insert(child);
+        }
+        matched.push(below);
+    }
+    matched
 }
 
 fn sheets_overlap(program: &Program, node: usize) -> bool {
@@ -259,6 +382,7 @@ fn call_kinds(program: &Program, facts: &Facts, case: &Case) -> Vec<Kind> {
     kinds.extend(choice_kinds(program, case));
     if case.call == Call::Put {
         kinds.extend(entry_kinds(program, case));
+        kinds.extend(puts::put_kinds(program, &facts.has_union, case));
     }
     kinds
 }
