@@ -124,7 +124,7 @@ pub told : (bytes : Text) {checked which : Checked} (prepared : List ℕ) → Ch
 told bytes prepared h e = subst (λ (x : Checked). CheckedIs bytes x prepared) e h
 
 -- no program needs more room than 24,576 rows take
-pub never-small : {bytes : Text} → TooSmall bytes 148992 → ⊥
+pub never-small : {bytes : Text} → TooSmall bytes 75264 → ⊥
 never-small h = omega (arith, h .no-room, h .most)
 
 -- ---- The call Check

@@ -1,10 +1,10 @@
 -- How a position automaton stands in the prepared program, a slice of 64-bit numbers. A node has 16 of them: its four sizes, then for each
--- side its first row, whether the empty text belongs, and the sets of first and last positions. Behind the nodes stand the rows, six numbers
--- a position: the first and the last byte of its range, the set of positions that may follow it, and that of those that it may follow.
+-- side its first row, whether the empty text belongs, and the sets of first and last positions. Behind the nodes stand the rows, three numbers
+-- a position: the first and the last byte of its range, in one number, and the set of positions that may follow it.
 use mathlib.Core.Path.{_≡_}
 use mathlib.Core.Bool.{Bool, _&&_}
 use mathlib.Core.List.{List}
-use Prim.Native.Nat.{ℕ, _+_, _*_, _≤_, _<_, max, min}
+use Prim.Native.Nat.{ℕ, _+_, _*_, _/_, _%_, _≤_, _<_, max, min}
 use lib.Dec.{eqb, leb}
 use lib.ListN.{length, getD}
 use Rattle.semantics.specs.Pattern.{Pattern, inRange, nullable}
@@ -28,30 +28,34 @@ sideIndex Sheet = 1
 
 -- the first number of a row
 abbrev pub rowAt : ℕ → ℕ
-rowAt row = 1536 + 6 * row
+rowAt row = 1536 + 3 * row
 
 abbrev pub setAt : List ℕ → ℕ → Set
 setAt prepared i = record { low = getD prepared i 0; high = getD prepared (i + 1) 0 }
 
-abbrev pub followOf : List ℕ → ℕ → Set
-followOf prepared row = setAt prepared (rowAt row + 2)
+-- the first and the last byte of a row's range
+abbrev pub lowOf : List ℕ → ℕ → ℕ
+lowOf prepared row = getD prepared (rowAt row) 0 / 256
 
-abbrev pub precedingOf : List ℕ → ℕ → Set
-precedingOf prepared row = setAt prepared (rowAt row + 4)
+abbrev pub highOf : List ℕ → ℕ → ℕ
+highOf prepared row = getD prepared (rowAt row) 0 % 256
+
+abbrev pub followOf : List ℕ → ℕ → Set
+followOf prepared row = setAt prepared (rowAt row + 1)
 
 -- 'byte c may stand at position p'
 unfoldable pub standsIn : List ℕ → ℕ → ℕ → Bool
-standsIn prepared row byte = inRange (getD prepared (rowAt row) 0) (getD prepared (rowAt row + 1) 0) byte
+standsIn prepared row byte = inRange (lowOf prepared row) (highOf prepared row) byte
 
 -- 'two positions share a byte'
 unfoldable pub shareIn : List ℕ → ℕ → ℕ → Bool
 shareIn prepared row row′ =
-    leb (max (getD prepared (rowAt row) 0) (getD prepared (rowAt row′) 0)) (min (getD prepared (rowAt row + 1) 0) (getD prepared (rowAt row′ + 1) 0))
+    leb (max (lowOf prepared row) (lowOf prepared row′)) (min (highOf prepared row) (highOf prepared row′))
 
 -- 'two positions have the same bytes'
 unfoldable pub alikeIn : List ℕ → ℕ → ℕ → Bool
 alikeIn prepared row row′ =
-    eqb (getD prepared (rowAt row) 0) (getD prepared (rowAt row′) 0) && eqb (getD prepared (rowAt row + 1) 0) (getD prepared (rowAt row′ + 1) 0)
+    eqb (lowOf prepared row) (lowOf prepared row′) && eqb (highOf prepared row) (highOf prepared row′)
 
 -- the automaton of a node and a side, as it stands in the prepared program
 unfoldable pub automatonAt : List ℕ → ℕ → Side → Automaton
@@ -72,10 +76,9 @@ pub record Room (a : Automaton) (prepared : List ℕ) : Type 0 where
 
 -- Row p of the automaton that starts at `start` is that of position p.
 pub record RowIs (r : Pattern) (start p : ℕ) (prepared : List ℕ) : Type 0 where
-  pub low-is : getD prepared (rowAt (start + p)) 0 ≡ lowAt r p
-  pub high-is : getD prepared (rowAt (start + p) + 1) 0 ≡ highAt r p
+  pub low-is : lowOf prepared (start + p) ≡ lowAt r p
+  pub high-is : highOf prepared (start + p) ≡ highAt r p
   pub follow-is : (q : ℕ) → holds (followOf prepared (start + p)) q ≡ followAt r p q
-  pub preceding-is : (q : ℕ) → holds (precedingOf prepared (start + p)) q ≡ followAt r q p
 
 -- It is the position automaton of the pattern r.
 pub record Describes (r : Pattern) (a : Automaton) (prepared : List ℕ) : Type 0 where

@@ -4,7 +4,7 @@ use positions::Set;
 ghost use mathlib.Core.Path.{_≡_};
 ghost use Prim.Native.Nat.{_+_, _*_, _≤_, _<_};
 ghost use lib.ListN.{length};
-ghost use Rattle.automaton.specs.Rows.{rowAt, followOf, precedingOf, standsIn, shareIn, alikeIn, automatonAt};
+ghost use Rattle.automaton.specs.Rows.{rowAt, followOf, standsIn, shareIn, alikeIn, automatonAt};
 
 pub enum Side {
     Source,
@@ -58,50 +58,40 @@ pub fn automaton_of(prepared: &[u64], node: usize, side: Side) -> Automaton
 
 // The positions that may follow the position of a row.
 pub fn follow(prepared: &[u64], row: usize) -> Set
-    requires { ⌜ rowAt row + 4 ≤ length (now prepared) ⌝ }
+    requires { ⌜ rowAt (row + 1) ≤ length (now prepared) ⌝ }
     ensures { λ r. ⌜ r ≡ followOf (now (prepared .entry)) row ⌝ }
 {
-    set_at(prepared, 1536 + 6 * row + 2)
-}
-
-// The positions that the position of a row may follow.
-pub fn preceding(prepared: &[u64], row: usize) -> Set
-    requires { ⌜ rowAt row + 6 ≤ length (now prepared) ⌝ }
-    ensures { λ r. ⌜ r ≡ precedingOf (now (prepared .entry)) row ⌝ }
-{
-    set_at(prepared, 1536 + 6 * row + 4)
+    set_at(prepared, 1536 + 3 * row + 1)
 }
 
 // Whether a byte may stand at the position of a row.
 pub fn stands(prepared: &[u64], row: usize, byte: u8) -> bool
-    requires { ⌜ rowAt row + 4 ≤ length (now prepared) ⌝ }
+    requires { ⌜ rowAt (row + 1) ≤ length (now prepared) ⌝ }
     ensures { λ r. ⌜ r ≡ standsIn (now (prepared .entry)) row byte ⌝ }
 {
-    let i = 1536 + 6 * row;
+    let range = prepared[1536 + 3 * row];
     let c = byte as u64;
-    prepared[i] <= c && c <= prepared[i + 1]
+    c <= range % 256 && range / 256 <= c
 }
 
 // Whether the positions of two rows share a byte.
 pub fn share(prepared: &[u64], row: usize, other: usize) -> bool
-    requires { ⌜ rowAt row + 4 ≤ length (now prepared) ⌝ }
-    requires { ⌜ rowAt other + 4 ≤ length (now prepared) ⌝ }
+    requires { ⌜ rowAt (row + 1) ≤ length (now prepared) ⌝ }
+    requires { ⌜ rowAt (other + 1) ≤ length (now prepared) ⌝ }
     ensures { λ r. ⌜ r ≡ shareIn (now (prepared .entry)) row other ⌝ }
 {
-    let i = 1536 + 6 * row;
-    let j = 1536 + 6 * other;
-    larger(prepared[i], prepared[j]) <= smaller(prepared[i + 1], prepared[j + 1])
+    let a = prepared[1536 + 3 * row];
+    let b = prepared[1536 + 3 * other];
+    larger(a / 256, b / 256) <= smaller(a % 256, b % 256)
 }
 
 // Whether the same bytes may stand at the positions of two rows.
 pub fn alike(prepared: &[u64], row: usize, other: usize) -> bool
-    requires { ⌜ rowAt row + 4 ≤ length (now prepared) ⌝ }
-    requires { ⌜ rowAt other + 4 ≤ length (now prepared) ⌝ }
+    requires { ⌜ rowAt (row + 1) ≤ length (now prepared) ⌝ }
+    requires { ⌜ rowAt (other + 1) ≤ length (now prepared) ⌝ }
     ensures { λ r. ⌜ r ≡ alikeIn (now (prepared .entry)) row other ⌝ }
 {
-    let i = 1536 + 6 * row;
-    let j = 1536 + 6 * other;
-    prepared[i] == prepared[j] && prepared[i + 1] == prepared[j + 1]
+    prepared[1536 + 3 * row] == prepared[1536 + 3 * other]
 }
 
 fn larger(a: u64, b: u64) -> u64

@@ -15,6 +15,7 @@ use Rattle.positions.specs.declared.Set.{Set}
 use Rattle.positions.specs.Positions.{holds}
 use Rattle.table.specs.Prepared.{OneLens}
 use Rattle.automaton.specs.declared.Side.the-variants.{Source, Sheet}
+use Rattle.paths.specs.declared.Ends.{Ends}
 use Rattle.lens.specs.declared.Wrote.{Wrote}
 use Rattle.lens.specs.declared.Wrote.the-variants.{Count, Full}
 use Rattle.lens.specs.Overlay.{Writes, overlay-length, writes-full, writes-nothing, writes-within}
@@ -37,7 +38,6 @@ use Rattle.books.specs.declared.Place.{Place}
 use Rattle.books.specs.declared.Old.{Old}
 use Rattle.books.specs.declared.Old.the-variants.{At}
 use Rattle.books.specs.Looking.{oldText, OldFits}
-use Rattle.steps.specs.declared.Ends.{Ends}
 use Rattle.steps.specs.declared.Next.{Next}
 use Rattle.steps.specs.Steps.{EndsAre, nextOf, oldParts, firstOf, othersOf, countBehind}
 use Rattle.steps.specs.Stepping.{behind-back, old-at, sheet-ends, OldEnds, old-ends, NextFits, next-fits, writes-behind}

@@ -45,6 +45,11 @@ pub record BookFits (room : ℕ) (b : Book) : Type 0 where
   pub inside : (i : ℕ) → i < b .count → getD (b .starts) i 0 + getD (b .lengths) i 0 ≤ room
   pub still-left : (i : ℕ) → i < b .count → getD (b .used) i false ≡ false → holds (b .left) (getD (b .children) i 0) ≡ true
 
+-- The entries stand one behind the other, and end by n.
+pub record InOrder (n : ℕ) (b : Book) : Type 0 where
+  pub ends : (i : ℕ) → i < b .count → getD (b .starts) i 0 + getD (b .lengths) i 0 ≤ n
+  pub ordered : (i : ℕ) → i + 1 < b .count → getD (b .starts) i 0 + getD (b .lengths) i 0 ≤ getD (b .starts) (i + 1) 0
+
 -- The arrays have 256 places.
 pub record Sized (b : Book) : Type 0 where
   pub starts-sized : length (b .starts) ≡ 256
@@ -107,6 +112,14 @@ pub record Passed (ts : Trees) (old : Text) (b : Book) (n : ℕ) (k : Text) (i :
 pub fits-none : (room : ℕ) (b : Book) → b .count ≡ 0 → BookFits room b
 fits-none room b e =
     record { few = omega arith; inside = λ i h. absurd (omega arith); still-left = λ i h unused. absurd (omega arith) }
+
+-- and is in order
+pub in-order-none : (n : ℕ) (b : Book) → b .count ≡ 0 → InOrder n b
+in-order-none n b e = record { ends = λ i h. absurd (omega arith); ordered = λ i h. absurd (omega arith) }
+
+-- entries that end by n end by all that is no less
+pub in-order-more : {n : ℕ} (m : ℕ) {b : Book} → n ≤ m → InOrder n b → InOrder m b
+in-order-more m more known = record { ends = λ i h. omega (arith, known .ends i h); ordered = known .ordered }
 
 -- the arrays keep their size
 pub sized-added : (b : Book) (start size base child : ℕ) (left : Set) → Sized b → Sized (added b start size base child left)
@@ -189,6 +202,57 @@ fits-added room b start size base child left sized fits few within now-left =
         rw
         (getD-set-other (b .children) (b .count) i child 0 other)
         (now-left own ∙ or-right (eqb own child) (holds (b .left) own) (fits .still-left i (omega arith) before))
+
+-- an entry that begins where the others have ended keeps them in order
+pub in-order-added :
+    {at : ℕ} (n : ℕ) (b : Book) (start size base child : ℕ) (left : Set)
+    → Sized b
+    → InOrder at b
+    → b .count < 256
+    → at ≤ start
+    → start + size ≤ n
+    → InOrder n (added b start size base child left)
+in-order-added {at} n b start size base child left sized known few behind within =
+    record {
+      ends = λ i h. stands i h (eqb i (b .count)) refl;
+      ordered = λ i h. follows i h (eqb (i + 1) (b .count)) refl;
+    }
+  where
+    -- the end of an entry that was there
+    before : (i : ℕ) → i < b .count → getD (set (b .starts) (b .count) start) i 0 + getD (set (b .lengths) (b .count) size) i 0 ≡ getD (b .starts) i 0 + getD (b .lengths) i 0
+    before i h =
+        let other : ¬ (i ≡ b .count) = omega arith in
+        rw (getD-set-other (b .starts) (b .count) i start 0 other, getD-set-other (b .lengths) (b .count) i size 0 other)
+
+    stands :
+        (i : ℕ)
+        → i < b .count + 1
+        → (new : Bool)
+        → eqb i (b .count) ≡ new
+        → getD (set (b .starts) (b .count) start) i 0 + getD (set (b .lengths) (b .count) size) i 0 ≤ n
+    stands i h true e =
+        rw
+        (eqb-true i (b .count) e, getD-set-same (b .starts) (b .count) start 0 (omega arith), getD-set-same (b .lengths) (b .count) size 0 (omega arith))
+        within
+    stands i h false e =
+        let old : i < b .count = omega (arith, eqb-false i (b .count) e) in
+        rw (before i old) (omega (arith, known .ends i old))
+
+    follows :
+        (i : ℕ)
+        → i + 1 < b .count + 1
+        → (new : Bool)
+        → eqb (i + 1) (b .count) ≡ new
+        → getD (set (b .starts) (b .count) start) i 0 + getD (set (b .lengths) (b .count) size) i 0 ≤ getD (set (b .starts) (b .count) start) (i + 1) 0
+    follows i h true e =
+        rw
+        (before i (omega arith), eqb-true (i + 1) (b .count) e, getD-set-same (b .starts) (b .count) start 0 (omega arith))
+        (omega (arith, known .ends i (omega arith)))
+    follows i h false e =
+        let other = eqb-false (i + 1) (b .count) e in
+        rw
+        (before i (omega arith), getD-set-other (b .starts) (b .count) (i + 1) start 0 other)
+        (known .ordered i (omega (arith, other)))
 
 -- where an entry stands does not change when one is taken
 pub fits-marked : (room : ℕ) (b : Book) (i : ℕ) → Sized b → BookFits room b → BookFits room (marked b i)

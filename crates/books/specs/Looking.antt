@@ -225,13 +225,3 @@ module _ {b b′ : Book} (same : SameEntries b b′) where
         inside = λ i h. fit .inside i (omega (arith, same .count-same));
         each = λ i h. rw (same-entry (trees bytes) deck i) (fit .each i (omega (arith, same .count-same)));
       }
-
-  -- and the entries are parsed as they were
-  pub parsed-same : {bytes old trail : Text} → EntriesParsed bytes old trail b → EntriesParsed bytes old trail b′
-  parsed-same parsed =
-      record {
-        each = λ i h.
-            rw
-            (same .starts-same, same .lengths-same, same .bases-same, same .children-same)
-            (parsed .each i (omega (arith, same .count-same)));
-      }

@@ -1,9 +1,9 @@
 -- The automaton of a pattern from those of its parts: what its rows and its sets hold, position by position. Assumes nothing.
 use mathlib.Core.Path.{_≡_, refl, sym, ap, ap₂, _∙_}
-use mathlib.Core.Bool.{Bool, true, false, _&&_, _||_, and-true, false≢true}
+use mathlib.Core.Bool.{Bool, true, false, _&&_, _||_, and-true}
 use mathlib.Core.List.{List, [], _∷_}
 use mathlib.Core.Logic.{⊎-elim}
-use Prim.Native.Nat.{ℕ, _+_, _-_, _*_, _≤_, _<_}
+use Prim.Native.Nat.{ℕ, _+_, _-_, _*_, _/_, _%_, _≤_, _<_}
 use native.Mathlib.Omega.{arith}
 use lib.Dec.{eqb, ltb}
 use lib.ListN.{length, getD}
@@ -12,11 +12,10 @@ use Rattle.semantics.specs.Text.{Text}
 use Rattle.semantics.specs.Pattern.{Pattern, word, range, concat, alt, star, nullable}
 use Rattle.semantics.specs.Table.{positions}
 use Rattle.laws.specs.Basics.{bool-cases, false-of-not-true, cond-false, and-both}
-use Rattle.laws.specs.PositionAutomaton.{split, split-left, lowAt, highAt, firstAt, lastAt, followAt, first-within, last-within, follow-within, follow-from}
-use Rattle.positions.proofs.Bits.{same-test}
+use Rattle.laws.specs.PositionAutomaton.{split, split-left, lowAt, highAt, firstAt, lastAt, followAt, first-within, last-within, follow-within}
 use Rattle.positions.specs.declared.Set.{Set}
 use Rattle.positions.specs.Positions.{holds, holdsMoved, Empty, Moved}
-use Rattle.automaton.specs.Rows.{sideIndex, rowAt, followOf, precedingOf, automatonAt, RowIs, Describes}
+use Rattle.automaton.specs.Rows.{sideIndex, rowAt, lowOf, highOf, followOf, automatonAt, RowIs, Describes}
 use Rattle.builder.specs.Build.{countAt, Counted, Kept, SideBuilt, BuiltAlone, BuiltRepeat, BuiltPair, Aliased, RowPut, HeaderPut, RowCopied, Copied, Lettered, TwoOf, RowsJoined}
 use Rattle.automaton.specs.declared.Automaton.{Automaton}
 use Rattle.automaton.specs.declared.Side.{Side}
@@ -44,10 +43,6 @@ beyond n f within q h = false-of-not-true (f q) (λ e. omega (arith, within q e)
 and-false : (b : Bool) → (b && false) ≡ false
 and-false true = refl
 and-false false = refl
-
-and-swap : (a b : Bool) → (a && b) ≡ (b && a)
-and-swap true b = sym (and-true b)
-and-swap false b = sym (and-false b)
 
 -- a set of positions below m, moved up by n, is what a second half holds
 moved-half :
@@ -101,44 +96,42 @@ join-halves n f g b within q =
 pub concat-two : (r s : Pattern) → TwoOf (concat r s) r s (lastAt r)
 unfolding positions lowAt highAt followAt
 concat-two r s =
-    record { count-two = refl; low-two = λ p. refl; high-two = λ p. refl; follow-two = λ p q. refl; crossing-within = last-within r }
+    record { count-two = refl; low-two = λ p. refl; high-two = λ p. refl; follow-two = λ p q. refl }
 
 pub alt-two : (r s : Pattern) → TwoOf (alt r s) r s (λ i. false)
 unfolding positions lowAt highAt followAt
 alt-two r s =
-    record { count-two = refl; low-two = λ p. refl; high-two = λ p. refl; follow-two = λ p q. refl; crossing-within = λ i e. absurd (false≢true e) }
+    record { count-two = refl; low-two = λ p. refl; high-two = λ p. refl; follow-two = λ p q. refl }
 
 -- a row that holds what position p has is its row
 row-of :
     (r : Pattern) (start p row : ℕ) (l : List ℕ)
     → row ≡ start + p
-    → getD l (rowAt row) 0 ≡ lowAt r p
-    → getD l (rowAt row + 1) 0 ≡ highAt r p
+    → lowOf l row ≡ lowAt r p
+    → highOf l row ≡ highAt r p
     → ((q : ℕ) → holds (followOf l row) q ≡ followAt r p q)
-    → ((q : ℕ) → holds (precedingOf l row) q ≡ followAt r q p)
     → RowIs r start p l
-row-of r start p row l e low high follow forerun =
+row-of r start p row l e low high follow =
     record {
       low-is = rw e at low;
       high-is = rw e at high;
       follow-is = λ q. rw e at (follow q);
-      preceding-is = λ q. rw e at (forerun q);
     }
 
 -- a copied row, from the row of position p of r that it was
 module _
     (r : Pattern)
     (from to p up : ℕ)
-    (more earlier : ℕ → Bool)
+    (more : ℕ → Bool)
     (before after : List ℕ)
     (was : RowIs r from p before)
-    (row : RowCopied (from + p) to up more earlier before after)
+    (row : RowCopied (from + p) to up more before after)
   where
-    copied-low : getD after (rowAt to) 0 ≡ lowAt r p
-    copied-low = row .low-same ∙ was .low-is
+    copied-low : lowOf after to ≡ lowAt r p
+    copied-low = ap (λ (n : ℕ). n / 256) (row .range-same) ∙ was .low-is
 
-    copied-high : getD after (rowAt to + 1) 0 ≡ highAt r p
-    copied-high = row .high-same ∙ was .high-is
+    copied-high : highOf after to ≡ highAt r p
+    copied-high = ap (λ (n : ℕ). n % 256) (row .range-same) ∙ was .high-is
 
 module _
     (row : ℕ)
@@ -150,8 +143,8 @@ module _
     (right-below : right .start + right .count ≤ row)
     (more-is : Moved (right .first) (left .count) more)
     (none-is : Empty none)
-    (one : Copied (left .start) row (left .count) 0 last more none none l₀ l₁)
-    (two : Copied (right .start) (row + left .count) (right .count) (left .count) none none (right .first) last l₁ l₂)
+    (one : Copied (left .start) row (left .count) 0 last more l₀ l₁)
+    (two : Copied (right .start) (row + left .count) (right .count) (left .count) none none l₁ l₂)
   where
     module _
         (c r s : Pattern)
@@ -169,40 +162,10 @@ module _
             ∙ moved-half (left .count) (positions s) (right .first) (firstAt s) (omega arith) (first-within s) (of-s .first-is) q
             ∙ ap (λ (m : ℕ). split m (λ j. false) (firstAt s) q) (of-r .count-is)
 
-        -- what a position of r may follow is in r
-        left-before : p < positions r → (q : ℕ) → followAt r q p ≡ followAt c q p
-        left-before h q =
-            below-or-not
-            q
-            (positions r)
-            (λ k. sym (both .follow-two q p ∙ split-left (positions r) _ _ q k ∙ split-left (positions r) _ _ p h))
-            (λ k.
-            beyond (positions r) (λ i. followAt r i p) (λ i. follow-from r i p) q k
-            ∙ sym (both .follow-two q p ∙ split-right (positions r) _ _ q k ∙ split-left (positions r) _ _ p h))
-
-        -- what a position of s may follow is in s, or crosses to it where it is a first one
-        right-before :
-            positions r ≤ p
-            → (q : ℕ)
-            → (split (positions r) (λ j. false) (λ j. followAt s j (p - positions r)) q || (firstAt s (p - positions r) && crossing q)) ≡ followAt c q p
-        right-before h q =
-            below-or-not
-            q
-            (positions r)
-            (λ k.
-            rw
-            (split-left (positions r) (λ j. false) (λ j. followAt s j (p - positions r)) q k)
-            (and-swap (firstAt s (p - positions r)) (crossing q)
-            ∙ sym (both .follow-two q p ∙ split-left (positions r) _ _ q k ∙ split-right (positions r) _ _ p h)))
-            (λ k.
-            rw
-            (split-right (positions r) (λ j. false) (λ j. followAt s j (p - positions r)) q k, beyond (positions r) crossing (both .crossing-within) q k, and-false)
-            (or-false _ ∙ sym (both .follow-two q p ∙ split-right (positions r) _ _ q k ∙ split-right (positions r) _ _ p h)))
-
         left-row : p < positions r → RowIs c row p l₂
         left-row h =
             let was = of-r .row-is p h in
-            let it : RowCopied (left .start + p) (row + p) 0 (λ q. holds last p && holds more q) (λ q. holds none p && holds none q) l₀ l₂ =
+            let it : RowCopied (left .start + p) (row + p) 0 (λ q. holds last p && holds more q) l₀ l₂ =
             copied-row-later
             (row-same (left .start + p) l₀)
             (one .copied p (omega (arith, of-r .count-is)))
@@ -214,8 +177,8 @@ module _
             (row + p)
             l₂
             refl
-            (copied-low r (left .start) (row + p) p 0 _ _ l₀ l₂ was it ∙ sym (both .low-two p ∙ split-left (positions r) (lowAt r) (lowAt s) p h))
-            (copied-high r (left .start) (row + p) p 0 _ _ l₀ l₂ was it ∙ sym (both .high-two p ∙ split-left (positions r) (highAt r) (highAt s) p h))
+            (copied-low r (left .start) (row + p) p 0 _ l₀ l₂ was it ∙ sym (both .low-two p ∙ split-left (positions r) (lowAt r) (lowAt s) p h))
+            (copied-high r (left .start) (row + p) p 0 _ l₀ l₂ was it ∙ sym (both .high-two p ∙ split-left (positions r) (highAt r) (highAt s) p h))
             (λ q.
             it .follow-same q
             ∙ ap₂
@@ -224,20 +187,12 @@ module _
             (ap₂ _&&_ (last-is p) (more-at q))
             ∙ join-halves (positions r) (followAt r p) (firstAt s) (crossing p) (follow-within r p) q
             ∙ sym (both .follow-two p q ∙ split-left (positions r) _ _ p h))
-            (λ q.
-            it .preceding-same q
-            ∙ ap₂
-            _||_
-            (moved-zero (positions r) (precedingOf l₀ (left .start + p)) (λ i. followAt r i p) (omega (arith, of-r .count-is)) (λ i. follow-from r i p) (was .preceding-is) q)
-            (ap (λ (b : Bool). b && holds none q) (none-is p))
-            ∙ or-false _
-            ∙ left-before h q)
 
         right-row : positions r ≤ p → p < positions c → RowIs c row p l₂
         right-row h k =
             let i = p - positions r in
             let was = of-s .row-is i (omega (arith, both .count-two)) in
-            let it : RowCopied (right .start + i) (row + left .count + i) (left .count) (λ q. holds none i && holds none q) (λ q. holds (right .first) i && holds last q) l₀ l₂ =
+            let it : RowCopied (right .start + i) (row + left .count + i) (left .count) (λ q. holds none i && holds none q) l₀ l₂ =
             copied-row-later
             (row-outside (right .start + i) (one .rest) (omega (arith, both .count-two, of-s .count-is)))
             (two .copied i (omega (arith, both .count-two, of-s .count-is)))
@@ -249,8 +204,8 @@ module _
             (row + left .count + i)
             l₂
             (omega (arith, of-r .count-is))
-            (copied-low s (right .start) (row + left .count + i) i (left .count) _ _ l₀ l₂ was it ∙ sym (both .low-two p ∙ split-right (positions r) (lowAt r) (lowAt s) p h))
-            (copied-high s (right .start) (row + left .count + i) i (left .count) _ _ l₀ l₂ was it ∙ sym (both .high-two p ∙ split-right (positions r) (highAt r) (highAt s) p h))
+            (copied-low s (right .start) (row + left .count + i) i (left .count) _ l₀ l₂ was it ∙ sym (both .low-two p ∙ split-right (positions r) (lowAt r) (lowAt s) p h))
+            (copied-high s (right .start) (row + left .count + i) i (left .count) _ l₀ l₂ was it ∙ sym (both .high-two p ∙ split-right (positions r) (highAt r) (highAt s) p h))
             (λ q.
             it .follow-same q
             ∙ ap₂
@@ -268,22 +223,6 @@ module _
             ∙ or-false _
             ∙ ap (λ (m : ℕ). split m (λ j. false) (followAt s i) q) (of-r .count-is)
             ∙ sym (both .follow-two p q ∙ split-right (positions r) _ _ p h))
-            (λ q.
-            it .preceding-same q
-            ∙ ap₂
-            _||_
-            (moved-half
-            (left .count)
-            (positions s)
-            (precedingOf l₀ (right .start + i))
-            (λ j. followAt s j i)
-            (omega (arith, of-s .count-is))
-            (λ j. follow-from s j i)
-            (was .preceding-is)
-            q
-            ∙ ap (λ (m : ℕ). split m (λ j. false) (λ j. followAt s j i) q) (of-r .count-is))
-            (ap₂ _&&_ (of-s .first-is i) (last-is q))
-            ∙ right-before h q)
 
     -- the rows of both parts, from two copies
     pub rows-joined : RowsJoined row left right last l₀ l₂
@@ -305,10 +244,9 @@ module _
 pub row-is-kept : {r : Pattern} {start p : ℕ} {before after : List ℕ} → RowIs r start p before → RowKept (start + p) before after → RowIs r start p after
 row-is-kept was same =
     record {
-      low-is = same .low-kept ∙ was .low-is;
-      high-is = same .high-kept ∙ was .high-is;
+      low-is = ap (λ (n : ℕ). n / 256) (same .range-kept) ∙ was .low-is;
+      high-is = ap (λ (n : ℕ). n % 256) (same .range-kept) ∙ was .high-is;
       follow-is = λ q. ap (λ (s : Set). holds s q) (same .follow-kept) ∙ was .follow-is q;
-      preceding-is = λ q. ap (λ (s : Set). holds s q) (same .preceding-kept) ∙ was .preceding-is q;
     }
 
 pub side-small : (side : Side) → sideIndex side < 2
@@ -364,15 +302,14 @@ lettered-none row w l = record { lettered = λ p h. absurd (omega arith); rest =
 
 -- one more has
 pub lettered-more :
-    (row p : ℕ) (w l₀ l₁ l₂ : List ℕ) (next previous : Set)
-    → p < length w
+    (row p : ℕ) (w l₀ l₁ l₂ : List ℕ) (number : ℕ) (next : Set)
+    → (number / 256 ≡ getD w p 0) × (number % 256 ≡ getD w p 0)
     → ((q : ℕ) → holds next q ≡ (eqb q (p + 1) && ltb q (length w)))
-    → ((q : ℕ) → holds previous q ≡ eqb (q + 1) p)
     → Lettered row p w l₀ l₁
-    → RowPut (row + p) (getD w p 0) (getD w p 0) next previous l₁ l₂
+    → RowPut (row + p) number next l₁ l₂
     → Lettered row (p + 1) w l₀ l₂
 unfolding lowAt highAt followAt
-lettered-more row p w l₀ l₁ l₂ next previous inside next-is previous-is so-far put =
+lettered-more row p w l₀ l₁ l₂ number next number-is next-is so-far put =
     record {
       lettered =
           λ i k.
@@ -390,13 +327,9 @@ lettered-more row p w l₀ l₁ l₂ next previous inside next-is previous-is so
     this : RowIs (word w) row p l₂
     this =
         record {
-          low-is = put .low-put;
-          high-is = put .high-put;
+          low-is = ap (λ (n : ℕ). n / 256) (put .range-put) ∙ number-is .0;
+          high-is = ap (λ (n : ℕ). n % 256) (put .range-put) ∙ number-is .1;
           follow-is = λ q. ap (λ (s : Set). holds s q) (put .follow-put) ∙ next-is q;
-          preceding-is =
-              λ q.
-              ap (λ (s : Set). holds s q) (put .preceding-put) ∙ previous-is q ∙ same-test (q + 1) p p (q + 1) sym sym
-              ∙ sym (ap (λ (b : Bool). eqb p (q + 1) && b) (lt-ltb p (length w) inside) ∙ and-true (eqb p (q + 1)));
         }
 
 -- where only position 0 can pass, a bound on it is one on 0
@@ -436,15 +369,16 @@ word-built node side row w l₀ l₁ l₂ empty first last a-node empty-is first
     }
 
 pub range-built :
-    (node : ℕ) (side : Side) (row low high : ℕ) (l₀ l₁ l₂ : List ℕ) (none zero : Set)
+    (node : ℕ) (side : Side) (row low high number : ℕ) (l₀ l₁ l₂ : List ℕ) (none zero : Set)
     → 16 * node + 16 ≤ 1536
+    → (number / 256 ≡ low) × (number % 256 ≡ high)
     → Empty none
     → ((q : ℕ) → holds zero q ≡ (eqb q 0 && ltb q 1))
-    → RowPut row low high none none l₀ l₁
+    → RowPut row number none l₀ l₁
     → HeaderPut node side row false zero zero l₁ l₂
     → BuiltAlone (range low high) node side row 1 l₀ l₂
 unfolding positions nullable firstAt lastAt lowAt highAt followAt
-range-built node side row low high l₀ l₁ l₂ none zero a-node none-is zero-is put header =
+range-built node side row low high number l₀ l₁ l₂ none zero a-node number-is none-is zero-is put header =
     record {
       built = header-built node side row row 1 false zero zero l₀ l₁ l₂ a-node (put .rest) header;
       described =
@@ -454,9 +388,10 @@ range-built node side row low high l₀ l₁ l₂ none zero a-node none-is zero-
           zero-at
           zero-at
           (λ p h.
-          row-of (range low high) row p row l₁ (omega arith) (put .low-put) (put .high-put)
-          (λ q. ap (λ (s : Set). holds s q) (put .follow-put) ∙ none-is q)
-          (λ q. ap (λ (s : Set). holds s q) (put .preceding-put) ∙ none-is q));
+          row-of (range low high) row p row l₁ (omega arith)
+          (ap (λ (n : ℕ). n / 256) (put .range-put) ∙ number-is .0)
+          (ap (λ (n : ℕ). n % 256) (put .range-put) ∙ number-is .1)
+          (λ q. ap (λ (s : Set). holds s q) (put .follow-put) ∙ none-is q));
     }
   where
     zero-at : (q : ℕ) → holds zero q ≡ eqb q 0
@@ -468,7 +403,7 @@ pub star-built :
     (node : ℕ) (side : Side) (row : ℕ) (part : Automaton) (l₀ l₁ l₂ : List ℕ)
     → 16 * node + 16 ≤ 1536
     → part .count ≤ 128
-    → Copied (part .start) row (part .count) 0 (part .last) (part .first) (part .first) (part .last) l₀ l₁
+    → Copied (part .start) row (part .count) 0 (part .last) (part .first) l₀ l₁
     → HeaderPut node side row true (part .first) (part .last) l₁ l₂
     → BuiltRepeat node side row part l₀ l₂
 unfolding positions nullable firstAt lastAt lowAt highAt followAt
@@ -507,20 +442,14 @@ star-built node side row part l₀ l₁ l₂ a-node few rows header =
           (row + p)
           l₁
           refl
-          (it .low-same ∙ was .low-is)
-          (it .high-same ∙ was .high-is)
+          (copied-low r (part .start) (row + p) p 0 _ l₀ l₁ was it)
+          (copied-high r (part .start) (row + p) p 0 _ l₀ l₁ was it)
           (λ q.
           it .follow-same q
           ∙ ap₂
           _||_
           (moved-zero (positions r) (followOf l₀ (part .start + p)) (followAt r p) (omega (arith, of-r .count-is)) (follow-within r p) (was .follow-is) q)
-          (ap₂ _&&_ (of-r .last-is p) (of-r .first-is q)))
-          (λ q.
-          it .preceding-same q
-          ∙ ap₂
-          _||_
-          (moved-zero (positions r) (precedingOf l₀ (part .start + p)) (λ i. followAt r i p) (omega (arith, of-r .count-is)) (λ i. follow-from r i p) (was .preceding-is) q)
-          (ap₂ _&&_ (of-r .first-is p) (of-r .last-is q) ∙ and-swap (firstAt r p) (lastAt r q))));
+          (ap₂ _&&_ (of-r .last-is p) (of-r .first-is q))));
     }
 
 -- ---- Two parts

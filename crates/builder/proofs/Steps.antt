@@ -13,7 +13,7 @@ use Rattle.laws.specs.Basics.{bool-cases}
 use Rattle.positions.proofs.Bits.{same-test}
 use Rattle.positions.specs.declared.Set.{Set}
 use Rattle.positions.specs.Positions.{holds, holdsMoved, Empty, Added, Moved, Joined}
-use Rattle.automaton.specs.Rows.{rowAt, setAt, followOf, precedingOf, automatonAt}
+use Rattle.automaton.specs.Rows.{rowAt, setAt, followOf, automatonAt}
 use Rattle.builder.specs.Build.{countAt, headerAt, Kept, TwoPut, RowPut, HeaderPut, RowCopied, Copied}
 use Rattle.automaton.specs.declared.Side.{Side}
 
@@ -49,10 +49,8 @@ kept-both from to first second h₁ h₂ h₃ h₄ =
 
 -- The row is as it was.
 pub record RowKept (row : ℕ) (before after : List ℕ) : Type 0 where
-  pub low-kept : getD after (rowAt row) 0 ≡ getD before (rowAt row) 0
-  pub high-kept : getD after (rowAt row + 1) 0 ≡ getD before (rowAt row + 1) 0
+  pub range-kept : getD after (rowAt row) 0 ≡ getD before (rowAt row) 0
   pub follow-kept : followOf after row ≡ followOf before row
-  pub preceding-kept : precedingOf after row ≡ precedingOf before row
 
 -- two numbers of a list as a set
 set-path : (s : Set) (x y : ℕ) → x ≡ s .low → y ≡ s .high → _≡_ {A = Set} (record { low = x; high = y }) s
@@ -61,33 +59,25 @@ set-path s x y p q = λ i. record { low = p i; high = q i }
 -- it is, where each of its numbers is
 pub row-kept :
     (row : ℕ) (before after : List ℕ)
-    → ((i : ℕ) → rowAt row ≤ i → i < rowAt row + 6 → getD after i 0 ≡ getD before i 0)
+    → ((i : ℕ) → rowAt row ≤ i → i < rowAt (row + 1) → getD after i 0 ≡ getD before i 0)
     → RowKept row before after
 row-kept row before after same =
     record {
-      low-kept = same (rowAt row) (omega arith) (omega arith);
-      high-kept = same (rowAt row + 1) (omega arith) (omega arith);
+      range-kept = same (rowAt row) (omega arith) (omega arith);
       follow-kept =
           set-path
           (followOf before row)
-          (getD after (rowAt row + 2) 0)
-          (getD after (rowAt row + 2 + 1) 0)
-          (same (rowAt row + 2) (omega arith) (omega arith))
-          (same (rowAt row + 2 + 1) (omega arith) (omega arith));
-      preceding-kept =
-          set-path
-          (precedingOf before row)
-          (getD after (rowAt row + 4) 0)
-          (getD after (rowAt row + 4 + 1) 0)
-          (same (rowAt row + 4) (omega arith) (omega arith))
-          (same (rowAt row + 4 + 1) (omega arith) (omega arith));
+          (getD after (rowAt row + 1) 0)
+          (getD after (rowAt row + 1 + 1) 0)
+          (same (rowAt row + 1) (omega arith) (omega arith))
+          (same (rowAt row + 1 + 1) (omega arith) (omega arith));
     }
 
 -- outside the part that changed it is
 pub row-outside :
     {from to : ℕ} {before after : List ℕ} (row : ℕ)
     → Kept from to before after
-    → ((i : ℕ) → rowAt row ≤ i → i < rowAt row + 6 → from ≤ i → i < to → ⊥)
+    → ((i : ℕ) → rowAt row ≤ i → i < rowAt (row + 1) → from ≤ i → i < to → ⊥)
     → RowKept row before after
 row-outside {before = before} {after = after} row rest out = row-kept row before after (λ i x y. rest .kept i (out i x y))
 
@@ -108,31 +98,28 @@ two-put l i a b h =
           };
     }
 
-module _ (l₀ l₁ l₂ : List ℕ) where
-  -- a row is put as three pairs of numbers
-  pub row-put :
-      (l₃ : List ℕ) (row low high : ℕ) (follow forerun : Set)
-      → TwoPut (rowAt row) low high l₀ l₁
-      → TwoPut (rowAt row + 2) (follow .low) (follow .high) l₁ l₂
-      → TwoPut (rowAt row + 4) (forerun .low) (forerun .high) l₂ l₃
-      → RowPut row low high follow forerun l₀ l₃
-  row-put l₃ row low high follow forerun one two three =
-      record {
-        low-put = three .rest .kept (rowAt row) (omega arith) ∙ two .rest .kept (rowAt row) (omega arith) ∙ one .first-put;
-        high-put = three .rest .kept (rowAt row + 1) (omega arith) ∙ two .rest .kept (rowAt row + 1) (omega arith) ∙ one .second-put;
-        follow-put =
-            set-path follow (getD l₃ (rowAt row + 2) 0) (getD l₃ (rowAt row + 2 + 1) 0)
-            (three .rest .kept (rowAt row + 2) (omega arith) ∙ two .first-put)
-            (three .rest .kept (rowAt row + 2 + 1) (omega arith) ∙ two .second-put);
-        preceding-put = set-path forerun (getD l₃ (rowAt row + 4) 0) (getD l₃ (rowAt row + 4 + 1) 0) (three .first-put) (three .second-put);
-        rest =
-            kept-both (rowAt row) (rowAt (row + 1))
-            (kept-both (rowAt row) (rowAt (row + 1)) (one .rest) (two .rest) (omega arith) (omega arith) (omega arith) (omega arith))
-            (three .rest)
-            (omega arith) (omega arith) (omega arith) (omega arith);
-      }
+-- a row is put as its range, and then the two numbers of its set
+pub row-put :
+    (l l′ : List ℕ) (row range : ℕ) (follow : Set)
+    → rowAt row < length l
+    → TwoPut (rowAt row + 1) (follow .low) (follow .high) (set l (rowAt row) range) l′
+    → RowPut row range follow l l′
+row-put l l′ row range follow inside two =
+    record {
+      range-put = two .rest .kept (rowAt row) (omega arith) ∙ getD-set-same l (rowAt row) range 0 inside;
+      follow-put = set-path follow (getD l′ (rowAt row + 1) 0) (getD l′ (rowAt row + 1 + 1) 0) (two .first-put) (two .second-put);
+      rest =
+          record {
+            same-length = two .rest .same-length ∙ length-set l (rowAt row) range;
+            kept =
+                λ i out.
+                two .rest .kept i (λ x y. out (omega arith) (omega arith))
+                ∙ getD-set-other l (rowAt row) i range 0 (λ e. out (omega arith) (omega arith));
+          };
+    }
 
-  -- and a header too
+module _ (l₀ l₁ l₂ : List ℕ) where
+  -- a header is put as three pairs of numbers
   pub header-put :
       (l₃ : List ℕ) (node : ℕ) (side : Side) (start flag : ℕ) (empty : Bool) (first last : Set)
       → eqb flag 1 ≡ empty
@@ -194,68 +181,56 @@ moved-joined : (up : ℕ) (read old moved more all : Set) → read ≡ old → M
 moved-joined up read old moved more all read-is up-is all-is q =
     all-is q ∙ ap (λ (b : Bool). b || holds more q) (up-is q ∙ ap (λ (s : Set). holdsMoved s up q) read-is)
 
--- a row is put as it was read, both sets moved up and joined with more
+-- a row is put as it was read, its set moved up and joined with more
 pub row-copied :
-    (from to up : ℕ) (l l′ : List ℕ) (more earlier follow moved all forerun moved′ all′ : Set)
+    (from to up : ℕ) (l l′ : List ℕ) (more follow moved all : Set)
     → follow ≡ followOf l from
     → Moved follow up moved
     → Joined moved more all
-    → forerun ≡ precedingOf l from
-    → Moved forerun up moved′
-    → Joined moved′ earlier all′
-    → RowPut to (getD l (rowAt from) 0) (getD l (rowAt from + 1) 0) all all′ l l′
-    → RowCopied from to up (holds more) (holds earlier) l l′
-row-copied from to up l l′ more earlier follow moved all forerun moved′ all′ read up-is all-is read′ up-is′ all-is′ row =
+    → RowPut to (getD l (rowAt from) 0) all l l′
+    → RowCopied from to up (holds more) l l′
+row-copied from to up l l′ more follow moved all read up-is all-is row =
     record {
-      low-same = row .low-put;
-      high-same = row .high-put;
+      range-same = row .range-put;
       follow-same =
           λ q. ap (λ (s : Set). holds s q) (row .follow-put) ∙ moved-joined up follow (followOf l from) moved more all read up-is all-is q;
-      preceding-same =
-          λ q. ap (λ (s : Set). holds s q) (row .preceding-put) ∙ moved-joined up forerun (precedingOf l from) moved′ earlier all′ read′ up-is′ all-is′ q;
     }
 
 -- a copied row stays where another is written, and may have been read later
 pub copied-row-later :
-    {from to up : ℕ} {more earlier : ℕ → Bool} {a b c d : List ℕ}
+    {from to up : ℕ} {more : ℕ → Bool} {a b c d : List ℕ}
     → RowKept from a b
-    → RowCopied from to up more earlier b c
+    → RowCopied from to up more b c
     → RowKept to c d
-    → RowCopied from to up more earlier a d
-copied-row-later {up = up} {more = more} {earlier = earlier} read row written =
+    → RowCopied from to up more a d
+copied-row-later {up = up} {more = more} read row written =
     record {
-      low-same = written .low-kept ∙ row .low-same ∙ read .low-kept;
-      high-same = written .high-kept ∙ row .high-same ∙ read .high-kept;
+      range-same = written .range-kept ∙ row .range-same ∙ read .range-kept;
       follow-same =
           λ q.
           ap (λ (s : Set). holds s q) (written .follow-kept) ∙ row .follow-same q
           ∙ ap (λ (s : Set). holdsMoved s up q || more q) (read .follow-kept);
-      preceding-same =
-          λ q.
-          ap (λ (s : Set). holds s q) (written .preceding-kept) ∙ row .preceding-same q
-          ∙ ap (λ (s : Set). holdsMoved s up q || earlier q) (read .preceding-kept);
     }
 
 -- the row that is not changed
 pub row-same : (row : ℕ) (l : List ℕ) → RowKept row l l
 row-same row l = row-kept row l l (λ i x y. refl)
 
-module _ (from to up : ℕ) (last more first earlier : Set) where
+module _ (from to up : ℕ) (last more : Set) where
   -- no rows are copied yet
-  pub copied-none : (l : List ℕ) → Copied from to 0 up last more first earlier l l
+  pub copied-none : (l : List ℕ) → Copied from to 0 up last more l l
   copied-none l = record { copied = λ p h. absurd (omega arith); rest = kept-all (rowAt to) (rowAt (to + 0)) l }
 
   -- one more is
   pub copied-more :
-      (p : ℕ) (l₀ l₁ l₂ : List ℕ) (gained joined : Set)
+      (p : ℕ) (l₀ l₁ l₂ : List ℕ) (gained : Set)
       → from + p < to
       → ((q : ℕ) → holds gained q ≡ (holds last p && holds more q))
-      → ((q : ℕ) → holds joined q ≡ (holds first p && holds earlier q))
-      → Copied from to p up last more first earlier l₀ l₁
-      → RowCopied (from + p) (to + p) up (holds gained) (holds joined) l₁ l₂
+      → Copied from to p up last more l₀ l₁
+      → RowCopied (from + p) (to + p) up (holds gained) l₁ l₂
       → Kept (rowAt (to + p)) (rowAt (to + p + 1)) l₁ l₂
-      → Copied from to (p + 1) up last more first earlier l₀ l₂
-  copied-more p l₀ l₁ l₂ gained joined h gained-is joined-is so-far row rest =
+      → Copied from to (p + 1) up last more l₀ l₂
+  copied-more p l₀ l₁ l₂ gained h gained-is so-far row rest =
       record {
         copied =
             λ i k.
@@ -275,14 +250,12 @@ module _ (from to up : ℕ) (last more first earlier : Set) where
             kept-both (rowAt to) (rowAt (to + (p + 1))) (so-far .rest) rest (omega arith) (omega arith) (omega arith) (omega arith);
       }
     where
-      this : RowCopied (from + p) (to + p) up (λ q. holds last p && holds more q) (λ q. holds first p && holds earlier q) l₀ l₂
+      this : RowCopied (from + p) (to + p) up (λ q. holds last p && holds more q) l₀ l₂
       this =
-          let later : RowCopied (from + p) (to + p) up (holds gained) (holds joined) l₀ l₂ = copied-row-later (row-outside (from + p) (so-far .rest) (omega arith)) row (row-same (to + p) l₂) in
+          let later : RowCopied (from + p) (to + p) up (holds gained) l₀ l₂ = copied-row-later (row-outside (from + p) (so-far .rest) (omega arith)) row (row-same (to + p) l₂) in
           record {
-            low-same = later .low-same;
-            high-same = later .high-same;
+            range-same = later .range-same;
             follow-same = λ q. later .follow-same q ∙ ap (λ (b : Bool). holdsMoved (followOf l₀ (from + p)) up q || b) (gained-is q);
-            preceding-same = λ q. later .preceding-same q ∙ ap (λ (b : Bool). holdsMoved (precedingOf l₀ (from + p)) up q || b) (joined-is q);
           }
 
 -- ---- Sets of one position

@@ -1,6 +1,6 @@
 -- What the functions that build automata write, and what they leave as it was.
 use mathlib.Core.Path.{_≡_}
-use mathlib.Core.Bool.{Bool, true, false, _&&_, _||_}
+use mathlib.Core.Bool.{Bool, false, _&&_, _||_}
 use mathlib.Core.List.{List}
 use Prim.Native.Nat.{ℕ, _+_, _*_, _≤_, _<_}
 use lib.ListN.{length, getD}
@@ -9,7 +9,7 @@ use Rattle.semantics.specs.Table.{positions}
 use Rattle.laws.specs.PositionAutomaton.{split, lowAt, highAt, firstAt, followAt}
 use Rattle.positions.specs.declared.Set.{Set}
 use Rattle.positions.specs.Positions.{holds, holdsMoved}
-use Rattle.automaton.specs.Rows.{sideIndex, rowAt, followOf, precedingOf, automatonAt, RowIs, Describes}
+use Rattle.automaton.specs.Rows.{sideIndex, rowAt, followOf, automatonAt, RowIs, Describes}
 use Rattle.automaton.specs.declared.Automaton.{Automaton}
 use Rattle.automaton.specs.declared.Side.{Side}
 
@@ -91,11 +91,9 @@ pub record TwoPut (i a b : ℕ) (before after : List ℕ) : Type 0 where
   pub rest : Kept i (i + 2) before after
 
 -- A row was put.
-pub record RowPut (row low high : ℕ) (follow forerun : Set) (before after : List ℕ) : Type 0 where
-  pub low-put : getD after (rowAt row) 0 ≡ low
-  pub high-put : getD after (rowAt row + 1) 0 ≡ high
+pub record RowPut (row range : ℕ) (follow : Set) (before after : List ℕ) : Type 0 where
+  pub range-put : getD after (rowAt row) 0 ≡ range
   pub follow-put : followOf after row ≡ follow
-  pub preceding-put : precedingOf after row ≡ forerun
   pub rest : Kept (rowAt row) (rowAt (row + 1)) before after
 
 -- The six numbers of a node's side were put.
@@ -105,16 +103,14 @@ pub record HeaderPut (node : ℕ) (side : Side) (start : ℕ) (empty : Bool) (fi
       ≡ record { start = start; count = getD before (countAt node side) 0; nullable = empty; first = first; last = last }
   pub rest : Kept (headerAt node side) (headerAt node side + 6) before after
 
--- Row `to` is row `from` as it was, its positions moved up by `up`, and may be followed by those of `more` too, and follow those of `earlier` too.
-pub record RowCopied (from to up : ℕ) (more earlier : ℕ → Bool) (before after : List ℕ) : Type 0 where
-  pub low-same : getD after (rowAt to) 0 ≡ getD before (rowAt from) 0
-  pub high-same : getD after (rowAt to + 1) 0 ≡ getD before (rowAt from + 1) 0
+-- Row `to` is row `from` as it was, its positions moved up by `up`, and may be followed by those of `more` too.
+pub record RowCopied (from to up : ℕ) (more : ℕ → Bool) (before after : List ℕ) : Type 0 where
+  pub range-same : getD after (rowAt to) 0 ≡ getD before (rowAt from) 0
   pub follow-same : (q : ℕ) → holds (followOf after to) q ≡ (holdsMoved (followOf before from) up q || more q)
-  pub preceding-same : (q : ℕ) → holds (precedingOf after to) q ≡ (holdsMoved (precedingOf before from) up q || earlier q)
 
--- So are `count` rows from `to` on; each that is in `last` may be followed by `more` too, each that is in `first` may follow `earlier` too.
-pub record Copied (from to count up : ℕ) (last more first earlier : Set) (before after : List ℕ) : Type 0 where
-  pub copied : (p : ℕ) → p < count → RowCopied (from + p) (to + p) up (λ q. holds last p && holds more q) (λ q. holds first p && holds earlier q) before after
+-- So are `count` rows from `to` on; each that is in `last` may be followed by `more` too.
+pub record Copied (from to count up : ℕ) (last more : Set) (before after : List ℕ) : Type 0 where
+  pub copied : (p : ℕ) → p < count → RowCopied (from + p) (to + p) up (λ q. holds last p && holds more q) before after
   pub rest : Kept (rowAt to) (rowAt (to + count)) before after
 
 -- The first `count` letters have a row each, from `row` on, and may be followed by the next letter.
@@ -135,7 +131,6 @@ pub record TwoOf (c r s : Pattern) (crossing : ℕ → Bool) : Type 0 where
       (λ i. split (positions r) (followAt r i) (λ j. crossing i && firstAt s j) q)
       (λ i. split (positions r) (λ j. false) (followAt s i) q)
       p
-  pub crossing-within : (i : ℕ) → crossing i ≡ true → i < positions r
 
 -- The rows of two automata, copied to `row`, are those of a pattern of their two; those in `last` may be followed by the first ones of `right`.
 pub record RowsJoined (row : ℕ) (left right : Automaton) (last : Set) (before after : List ℕ) : Type 0 where

@@ -3,6 +3,7 @@ use crate::rows::copy_rows;
 use crate::rows::only_if;
 use crate::rows::put_header;
 use crate::rows::put_row;
+use crate::rows::range_of;
 use crate::rows::single;
 use automaton::Automaton;
 use automaton::Side;
@@ -28,7 +29,7 @@ fn last_of(count: usize) -> Set
     Set::empty().with(count - 1)
 }
 
-// A row for each letter, followed by the next one and behind the one before.
+// A row for each letter, followed by the next one.
 fn put_letters(prepared: &mut [u64], row: usize, letters: &[u8])
     requires { ⌜ (length (now letters) ≤ 128) × (rowAt (row + length (now letters)) ≤ length (now prepared)) ⌝ }
     ensures { λ r. ⌜ Lettered row (length (now (letters .entry))) (now (letters .entry)) (now (prepared .entry)) (now (prepared .exit)) ⌝ }
@@ -36,15 +37,9 @@ fn put_letters(prepared: &mut [u64], row: usize, letters: &[u8])
     let count = letters.len();
     let mut p = 0;
     while p < count {
-        let letter = letters[p] as u64;
-        put_row(
-            prepared,
-            row + p,
-            letter,
-            letter,
-            single(p + 1, count),
-            last_of(p),
-        );
+        let letter = letters[p];
+        let range = range_of(letter, letter);
+        put_row(prepared, row + p, range, single(p + 1, count));
         p += 1;
     }
 }
@@ -71,7 +66,7 @@ pub fn build_range(prepared: &mut [u64], node: usize, side: Side, row: usize, fi
     ensures { λ r. ⌜ BuiltAlone (range first last) node side row 1 (now (prepared .entry)) (now (prepared .exit)) ⌝ }
 {
     let none = Set::empty();
-    put_row(prepared, row, first as u64, last as u64, none, none);
+    put_row(prepared, row, range_of(first, last), none);
     let zero = single(0, 1);
     put_header(prepared, node, side, row, false, zero, zero);
 }
@@ -88,9 +83,9 @@ fn join_rows(prepared: &mut [u64], row: usize, left: Automaton, right: Automaton
     let first = right.first;
     let next = first.moved(n);
     let none = Set::empty();
-    copy_rows(prepared, left.start, row, n, 0, last, next, none, none);
+    copy_rows(prepared, left.start, row, n, 0, last, next);
     let to = row + n;
-    copy_rows(prepared, right.start, to, m, n, none, none, first, last);
+    copy_rows(prepared, right.start, to, m, n, none, none);
 }
 
 fn both(a: bool, b: bool) -> bool
@@ -178,7 +173,7 @@ pub fn build_star(prepared: &mut [u64], node: usize, side: Side, row: usize, par
     let first = part.first;
     let last = part.last;
     let n = part.count;
-    copy_rows(prepared, part.start, row, n, 0, last, first, first, last);
+    copy_rows(prepared, part.start, row, n, 0, last, first);
     put_header(prepared, node, side, row, true, first, last);
 }
 

@@ -1,12 +1,11 @@
 // Rows and headers of automata, written and copied.
 use automaton::Side;
 use automaton::follow;
-use automaton::preceding;
 use automaton::side_index;
 use positions::Set;
 ghost use mathlib.Core.Path.{_≡_};
 ghost use mathlib.Core.Bool.{_&&_};
-ghost use Prim.Native.Nat.{ℕ, _+_, _*_, _≤_, _<_};
+ghost use Prim.Native.Nat.{ℕ, _+_, _*_, _/_, _%_, _≤_, _<_};
 ghost use lib.Dec.{eqb, ltb};
 ghost use lib.ListN.{length};
 ghost use Rattle.positions.specs.Positions.{holds};
@@ -21,18 +20,22 @@ fn put_two(prepared: &mut [u64], i: usize, a: u64, b: u64)
     prepared[i + 1] = b;
 }
 
-pub fn put_row(prepared: &mut [u64], row: usize, low: u64, high: u64, follow: Set, earlier: Set)
-    requires { ⌜ rowAt row + 6 ≤ length (now prepared) ⌝ }
-    ensures { λ r. ⌜ RowPut row low high follow earlier (now (prepared .entry)) (now (prepared .exit)) ⌝ }
+// A range as one number: its first byte times 256, and its last.
+pub fn range_of(first: u8, last: u8) -> u64
+    ensures { λ r. ⌜ (r / 256 ≡ first) × (r % 256 ≡ last) ⌝ }
 {
-    let i = 1536 + 6 * row;
+    first as u64 * 256 + last as u64
+}
+
+pub fn put_row(prepared: &mut [u64], row: usize, range: u64, follow: Set)
+    requires { ⌜ rowAt (row + 1) ≤ length (now prepared) ⌝ }
+    ensures { λ r. ⌜ RowPut row range follow (now (prepared .entry)) (now (prepared .exit)) ⌝ }
+{
+    let i = 1536 + 3 * row;
     let a = follow.low;
     let b = follow.high;
-    let c = earlier.low;
-    let d = earlier.high;
-    put_two(prepared, i, low, high);
-    put_two(prepared, i + 2, a, b);
-    put_two(prepared, i + 4, c, d);
+    prepared[i] = range;
+    put_two(prepared, i + 1, a, b);
 }
 
 // 1 for true, and 0 for false.
@@ -83,21 +86,18 @@ pub fn single(p: usize, count: usize) -> Set
     }
 }
 
-// A row copied, its positions moved up, with more that may follow and more that it may follow.
-fn copy_row(prepared: &mut [u64], from: usize, to: usize, up: usize, more: Set, earlier: Set)
+// A row copied, its positions moved up, with more that may follow.
+fn copy_row(prepared: &mut [u64], from: usize, to: usize, up: usize, more: Set)
     requires { ⌜ (from < to) × (rowAt (to + 1) ≤ length (now prepared)) ⌝ }
-    ensures { λ r. ⌜ RowCopied from to up (holds more) (holds earlier) (now (prepared .entry)) (now (prepared .exit)) ⌝ }
+    ensures { λ r. ⌜ RowCopied from to up (holds more) (now (prepared .entry)) (now (prepared .exit)) ⌝ }
     ensures { λ r. ⌜ Kept (rowAt to) (rowAt (to + 1)) (now (prepared .entry)) (now (prepared .exit)) ⌝ }
 {
-    let i = 1536 + 6 * from;
-    let low = prepared[i];
-    let high = prepared[i + 1];
+    let range = prepared[1536 + 3 * from];
     let next = follow(prepared, from).moved(up).union(more);
-    let previous = preceding(prepared, from).moved(up).union(earlier);
-    put_row(prepared, to, low, high, next, previous);
+    put_row(prepared, to, range, next);
 }
 
-// The rows of an automaton copied, its positions moved up. Those in `last` may be followed by `more` too, those in `first` may follow `earlier` too.
+// The rows of an automaton copied, its positions moved up. Those in `last` may be followed by `more` too.
 pub fn copy_rows(
     prepared: &mut [u64],
     from: usize,
@@ -106,17 +106,14 @@ pub fn copy_rows(
     up: usize,
     last: Set,
     more: Set,
-    first: Set,
-    earlier: Set,
 )
     requires { ⌜ (from + count ≤ to) × (rowAt (to + count) ≤ length (now prepared)) ⌝ }
-    ensures { λ r. ⌜ Copied from to count up last more first earlier (now (prepared .entry)) (now (prepared .exit)) ⌝ }
+    ensures { λ r. ⌜ Copied from to count up last more (now (prepared .entry)) (now (prepared .exit)) ⌝ }
 {
     let mut p = 0;
     while p < count {
         let gained = only_if(last.has(p), more);
-        let joined = only_if(first.has(p), earlier);
-        copy_row(prepared, from + p, to + p, up, gained, joined);
+        copy_row(prepared, from + p, to + p, up, gained);
         p += 1;
     }
 }

@@ -23,10 +23,11 @@ use Rattle.lens.specs.Parsed.{parsed-length}
 use Rattle.lens.specs.Reading.{reading}
 use Rattle.lens.specs.Emitting.{Emits}
 use Rattle.books.specs.declared.Book.{Book}
-use Rattle.books.specs.Listed.{Sized, unused, unused-none, fits-none}
+use Rattle.books.specs.Listed.{Sized, unused, unused-none, fits-none, in-order-none, in-order-more}
 use Rattle.books.specs.Looking.{Dealt, EntriesParsed, OldParsed, partAt, over-more, unused-dealt, entries-parsed-deck, same-all}
 use Rattle.decks.specs.Below.{BelowIs}
-use Rattle.decks.specs.Dealing.{SheetRoom}
+use Rattle.decks.specs.declared.deck.Dealing.{Dealing}
+use Rattle.decks.specs.Dealing.{PathRoom, DealtTo, DealtOn}
 use Rattle.listing.specs.declared.Listing.{Listing}
 use Rattle.listing.specs.Listing.{treeEntries, entries-of, ToList, StandsIn, Untaken, Lists, PutBehind}
 use Rattle.bookless.specs.Bookless.{Given}
@@ -36,10 +37,10 @@ use Rattle.writer.specs.Writing.{Ready as ToWrite}
 use Rattle.answers.specs.Answers.{Ready}
 use Rattle.answers.specs.Results.{RootPath, Makes}
 use Rattle.calls.specs.declared.put.Desk.{Desk}
-use Rattle.calls.specs.declared.put.Desk.the-variants.{Small, Long, Full}
-use Rattle.calls.specs.declared.put.Sourced.{Sourced}
-use Rattle.calls.specs.declared.put.Sourced.the-variants.{Done, Short}
-use Rattle.calls.specs.Sources.{TextReady, BookReady, ListsSource, wholeOf, MakesOr}
+use Rattle.calls.specs.declared.put.Desk.the-variants.{Small, Large}
+use Rattle.calls.specs.declared.put.Reach.{Reach}
+use Rattle.calls.specs.declared.put.Reach.the-variants.{Short, Long}
+use Rattle.calls.specs.Sources.{TextReady, BookReady, ListsSource, wholeOf, DeskReady}
 use Rattle.answers.proofs.Giving.{root-at, root-node, too-long, not-too-long}
 
 -- ---- The empty book
@@ -112,6 +113,7 @@ module _ {bytes : Text} {prepared : List ℕ} (ready : Ready bytes prepared) {ro
       ready-book within =
           record {
             over = record { sized = lists .sized; fits = all .untaken within .fits };
+            in-order = in-order-more (length old) (omega arith) (lists .lists-ordered (in-order-none 0 b (empty .0)) within);
             entries-parsed = lists .lists-parsed old trail (stands-whole old) (stands-whole trail) (parsed-none empty bytes old trail) within;
             old-ready = known;
             listed = listed within;
@@ -195,53 +197,50 @@ second-long a old k h = rw (not-too-long a k, too-long old h) refl
 pub neither-long : (a old : Text) → length a ≤ maxText → length old ≤ maxText → (tooLong a || tooLong old) ≡ false
 neither-long a old k h = rw (not-too-long a k, not-too-long old h) refl
 
--- ---- The desks of a put
+-- ---- The cards of a put
 
--- room for the sheet of an entry, as long as a text may be or as long as any
-pub short-room : {sheet marks path : List ℕ} → 4096 ≡ length sheet → 1 ≡ length marks → 4096 ≡ length path → SheetRoom sheet marks path
-short-room s m p = record { least-room = omega arith; same-room = omega arith; marks-room = record { bounded = omega arith; long-room = λ long. omega arith } }
+-- room for the path of an entry's sheet, as long as a text may be or as long as any
+pub short-room : {marks path : List ℕ} → 1 ≡ length marks → 4096 ≡ length path → PathRoom marks path
+short-room m p = record { least-room = omega arith; marks-room = record { bounded = omega arith; long-room = λ long. omega arith } }
 
-pub long-room : {sheet marks path : List ℕ} → 524288 ≡ length sheet → 16384 ≡ length marks → 524288 ≡ length path → SheetRoom sheet marks path
-long-room s m p = record { least-room = omega arith; same-room = omega arith; marks-room = record { bounded = omega arith; long-room = λ long. omega arith } }
+pub long-room : {marks path : List ℕ} → 4096 ≡ length marks → 524288 ≡ length path → PathRoom marks path
+long-room m p = record { least-room = omega arith; marks-room = record { bounded = omega arith; long-room = λ long. omega arith } }
 
--- how many desks there are after a desk, in the order in which they are tried
+-- how many reaches, or desks, there are after one, in the order in which they are tried
+abbrev pub reachesAfter : Reach → ℕ
+reachesAfter Short = 1
+reachesAfter Long = 0
+
 abbrev pub desksAfter : Desk → ℕ
-desksAfter Small = 2
-desksAfter Long = 1
-desksAfter Full = 0
+desksAfter Small = 1
+desksAfter (Large d) = 0
 
--- whether a desk had room
-abbrev hadRoom : Sourced → ℕ
-hadRoom (Done wrote) = 1
-hadRoom Short = 0
+-- the large desk goes on from the cards that a deck has
+pub large-goes-on :
+    {bytes old trail : Text} {b : Book} {cards : Text} {d : Dealing}
+    → DealtTo bytes old trail b cards d
+    → length cards ≤ 18432
+    → DeskReady (Large d) bytes old trail b cards
+large-goes-on {bytes} {old} {trail} {b} {cards} dealt few = record { goes-on = λ d′ e. (subst (DealtTo bytes old trail b cards) (cc e) dealt, few) }
 
-module _ {room deck : ℕ} {bytes : Text} {make : Lens → Text} {path path′ : List ℕ} {before after : Text} where
-  -- it had, and wrote
-  pub desk-wrote : {wrote : Wrote} → Makes bytes make before after wrote → MakesOr room deck bytes make path path′ before after (Done wrote)
-  desk-wrote makes =
-      record {
-        done = λ w e. subst (Makes bytes make before after) (cc e) makes;
-        short = λ e. absurd (let z : _≡_ {A = ℕ} 1 0 = ap hadRoom e in omega arith);
-      }
+-- the small one needs none
+pub small-begins : {desk : Desk} {bytes old trail : Text} {b : Book} {cards : Text} → desk ≡ Small → DeskReady desk bytes old trail b cards
+small-begins is = record { goes-on = λ d e. absurd (let z : _≡_ {A = ℕ} 1 0 = ap desksAfter (sym is ∙ e) in omega arith) }
 
-  -- it had not, and wrote nothing
-  pub desk-short : after ≡ before → path′ ≡ path → (524288 ≤ room → deck < 1058304) → MakesOr room deck bytes make path path′ before after Short
-  desk-short same-out same-path less =
-      record { done = λ w e. absurd (let z : _≡_ {A = ℕ} 0 1 = ap hadRoom e in omega arith); short = λ e. (same-out, same-path, less) }
+module _ {room : ℕ} {bytes old trail : Text} {b : Book} {deck : Text} {d : Dealing} (on : DealtOn room bytes old trail b deck d) where
+  -- where every entry has its card, more room would not have changed it
+  pub dealt-all : {more : ℕ} → d .entries ≡ b .count → DealtOn more bytes old trail b deck d
+  dealt-all e = record { dealt = on .dealt; all = on .all; stopped = λ less. absurd (omega (arith, e)) }
 
-  module _ {tried : Sourced} (known : MakesOr room deck bytes make path path′ before after tried) (e : tried ≡ Short) where
-    -- the sheet and its path are then as they were
-    pub still-ready : {new : Text} → TextReady bytes sheet new path → TextReady bytes sheet new path′
-    still-ready ready = rw (known .short e .1) ready
+  -- where none is left, every entry has its card
+  pub none-left : b .count ≤ d .entries → Dealt bytes old trail b deck
+  none-left h = on .all (omega (arith, on .dealt .few))
 
-    -- what the next desk writes is then what the root makes
-    pub desk-next : {last : Text} {wrote : Wrote} → Makes bytes make after last wrote → Makes bytes make before last wrote
-    desk-next next = rw (known .short e .0) at next
-
--- the full desk always has room
-pub desk-last :
-    {A : Type 0} {bytes : Text} {make : Lens → Text} {path path′ : List ℕ} {before after : Text} {tried : Sourced}
-    → MakesOr 524288 1058304 bytes make path path′ before after tried
-    → tried ≡ Short
+-- a large deck, with room for the path of any sheet, has room for every card
+pub large-deals-all :
+    {A : Type 0} {bytes old trail : Text} {b : Book} {deck : Text} {d : Dealing}
+    → DealtOn 524288 bytes old trail b deck d
+    → length deck ≡ 570752
+    → d .entries < b .count
     → A
-desk-last tried e = absurd (omega (arith, tried .short e .2 (omega arith)))
+large-deals-all on size less = absurd (omega (arith, on .stopped less (omega arith)))

@@ -2,7 +2,7 @@
 use mathlib.Core.Path.{_≡_}
 use mathlib.Core.Bool.{false}
 use mathlib.Core.List.{List}
-use Prim.Native.Nat.{ℕ, _-_, _≤_, _<_}
+use Prim.Native.Nat.{ℕ, _-_, _≤_}
 use lib.Dec.{ltb}
 use lib.ListN.{length}
 use Rattle.semantics.specs.Text.{Text}
@@ -10,26 +10,28 @@ use Rattle.semantics.specs.Lens.{Lens, source, entries, put}
 use Rattle.semantics.specs.Lens.{Side as SideOf}
 use Rattle.semantics.specs.Table.{nodeCount, trees}
 use Rattle.semantics.specs.Calls.{gives, refuseIf, program, maxText, maxEntries, output}
-use Rattle.lens.specs.declared.Wrote.{Wrote}
 use Rattle.lens.specs.Parsed.{Parsed}
 use Rattle.answers.specs.declared.Answer.{Answer}
-use Rattle.answers.specs.Results.{GivesText, Makes}
+use Rattle.answers.specs.Results.{GivesText}
 use Rattle.books.specs.declared.Book.{Book}
 use Rattle.books.specs.declared.Place.{Place}
-use Rattle.books.specs.Listed.{unused}
+use Rattle.books.specs.Listed.{unused, InOrder}
 use Rattle.books.specs.Looking.{BookOver, EntriesParsed}
 use Rattle.listing.specs.declared.Listing.{Listing}
-use Rattle.calls.specs.declared.put.Sourced.{Sourced}
-use Rattle.calls.specs.declared.put.Sourced.the-variants.{Done, Short}
+use Rattle.decks.specs.declared.deck.Dealing.{Dealing}
+use Rattle.decks.specs.Dealing.{DealtTo}
+use Rattle.calls.specs.declared.put.Desk.{Desk}
+use Rattle.calls.specs.declared.put.Desk.the-variants.{Large}
 
 -- A text of at most 4,096 bytes that belongs to the root on a side, and its least path.
 pub record TextReady (bytes : Text) (side : SideOf) (text : Text) (path : List ℕ) : Type 0 where
   pub short : length text ≤ maxText
   pub parsed : Parsed bytes (nodeCount bytes - 1) side 0 path text
 
--- The book of an old source with its path: the entries of the root, each parsed at its child.
+-- The book of an old source with its path: the entries of the root, in order, each parsed at its child.
 pub record BookReady (bytes old trail : Text) (b : Book) : Type 0 where
   pub over : BookOver (length old) b
+  pub in-order : InOrder (length old) b
   pub entries-parsed : EntriesParsed bytes old trail b
   pub old-ready : TextReady bytes source old trail
   pub listed : (l : Lens) → program bytes ≡ gives l → unused (trees bytes) old b ≡ entries l old
@@ -46,14 +48,12 @@ pub record PutsInto (bytes new old before after : Text) (answer : Answer) : Type
       → program bytes ≡ gives l
       → GivesText (refuseIf (ltb maxEntries (length (entries l old))) 15 (output (length before) (put l new old))) before after answer
 
--- ---- The desks of a put
+-- ---- The deck of a put
 
 -- where an old source of that length stands in the deck, and where its positions begin
 abbrev pub wholeOf : ℕ → Place
 wholeOf len = record { start = 0; len = len; base = 0 }
 
--- What the root makes was written; or a desk with that much room for an entry's sheet and in its deck is not the full one, and both the slice and the path are
--- as they were.
-pub record MakesOr (room deck : ℕ) (bytes : Text) (make : Lens → Text) (path path′ : List ℕ) (before after : Text) (tried : Sourced) : Type 0 where
-  pub done : (wrote : Wrote) → tried ≡ Done wrote → Makes bytes make before after wrote
-  pub short : tried ≡ Short → (after ≡ before) × (path′ ≡ path) × (524288 ≤ room → deck < 1058304)
+-- The small desk begins with nothing; the large one goes on from the cards that the small deck has.
+pub record DeskReady (desk : Desk) (bytes old trail : Text) (b : Book) (cards : Text) : Type 0 where
+  pub goes-on : (d : Dealing) → desk ≡ Large d → DealtTo bytes old trail b cards d × (length cards ≤ 18432)

@@ -11,7 +11,10 @@ use automaton::Side;
 use books::Book;
 use books::Place;
 use decks::below::fill_below;
-use decks::deck::fill_deck;
+use decks::deck::Dealing;
+use decks::deck::begin_deck;
+use decks::deck::deal;
+use decks::deck::move_deck;
 use lens::Wrote;
 use listing::Listing;
 use listing::list;
@@ -26,8 +29,10 @@ ghost use Rattle.semantics.specs.Calls.{putCall};
 ghost use Rattle.answers.specs.Answers.{Ready};
 ghost use Rattle.answers.specs.Results.{GivesText, Makes};
 ghost use Rattle.decks.specs.Below.{BelowIs};
-ghost use Rattle.decks.specs.Dealing.{SheetRoom};
-ghost use Rattle.calls.specs.Sources.{TextReady, BookReady, ListsSource, PutsInto, wholeOf, MakesOr};
+ghost use Rattle.books.specs.Looking.{Dealt};
+ghost use Rattle.decks.specs.Dealing.{DealtTo, DealtOn};
+ghost use Rattle.calls.specs.declared.put.Desk.the-variants.{Small};
+ghost use Rattle.calls.specs.Sources.{TextReady, BookReady, ListsSource, PutsInto, wholeOf, DeskReady};
 
 // The entries of an old source, in a book of their own.
 fn entries_of(bytes: &[u8], prepared: &[u64], text: &[u8], path: &[u8]) -> Listing
@@ -98,46 +103,44 @@ fn put_parsed(
     finish(wrote, made, out)
 }
 
-// The rooms that a put is written from: for the sheet of an old entry as much as a text may have, or as much as such a sheet may; a deck whose cards have 16,384 bytes, or as
-// much as 256 may take.
+// The desks that a put is written from: one with a small deck, and one with a deck for the cards of any keys, which goes on from what the small one has.
 enum Desk {
     Small,
-    Long,
-    Full,
+    Large(Dealing),
 }
 
-// What writing from a desk came to: it wrote, or the desk has too little room.
-enum Sourced {
-    Done(Wrote),
+// The sheets of old entries whose paths there is room for: those that are as long as a text may be, or all.
+enum Reach {
     Short,
+    Long,
 }
 
-// A deck whose cards have 16,384 bytes.
-fn small_deck() -> [u8; 25600]
-    ensures { λ r. ⌜ 25600 ≡ length r ⌝ }
+// A deck for cards of which the last begins within 5,118 bytes: the keys of a source that are parts of it always have room.
+fn small_deck() -> [u8; 18432]
+    ensures { λ r. ⌜ 18432 ≡ length r ⌝ }
 {
-    [0u8; 25600]
+    [0u8; 18432]
 }
 
-// A deck for 256 cards of any keys.
-fn full_deck() -> [u8; 1058304]
-    ensures { λ r. ⌜ 1058304 ≡ length r ⌝ }
+// A deck for 256 cards of any keys. A sheet has at most 128 bytes for each byte of its entry, and for an empty one; so have all cards together, and two bytes more for each.
+fn large_deck() -> [u8; 570752]
+    ensures { λ r. ⌜ 570752 ≡ length r ⌝ }
 {
-    [0u8; 1058304]
+    [0u8; 570752]
 }
 
-// Room for the sheet of an old entry, which can be longer than any text, or for its path.
-fn long_sheet() -> [u8; 524288]
+// Room for the path of an old entry's sheet, which can be longer than any text.
+fn long_path() -> [u8; 524288]
     ensures { λ r. ⌜ 524288 ≡ length r ⌝ }
 {
     [0u8; 524288]
 }
 
 // Room for the sets that finding that path keeps.
-fn long_marks() -> [u64; 16384]
-    ensures { λ r. ⌜ 16384 ≡ length r ⌝ }
+fn long_marks() -> [u64; 4096]
+    ensures { λ r. ⌜ 4096 ≡ length r ⌝ }
 {
-    [0u64; 16384]
+    [0u64; 4096]
 }
 
 // Room for the card of a key.
@@ -165,7 +168,118 @@ fn whole(len: usize) -> Place
     }
 }
 
-// The source, written from rooms that are lent.
+// ---- The cards of the old entries
+
+// The next cards, as long as there is room for them and for the paths of sheets that are no longer than a text.
+fn deal_short(
+    bytes: &[u8],
+    prepared: &[u64],
+    old: &[u8],
+    trail: &[u8],
+    below: &[u64],
+    book: Book,
+    dealt: Dealing,
+    deck: &mut [u8],
+) -> Dealing
+    requires { ⌜ Ready (now bytes) (now prepared) × BelowIs (now bytes) (now below) ⌝ }
+    requires { ⌜ BookReady (now bytes) (now old) (now trail) book ⌝ }
+    requires { ⌜ DealtTo (now bytes) (now old) (now trail) book (now deck) dealt × (length (now deck) < 16777216) ⌝ }
+    ensures { λ r. ⌜ DealtOn 4096 (now (bytes .entry)) (now (old .entry)) (now (trail .entry)) book (now (deck .exit)) r ⌝ }
+{
+    let mut marks = no_marks();
+    let mut track = no_text();
+    let mut card = no_card();
+    deal(
+        bytes,
+        prepared,
+        old,
+        trail,
+        below,
+        book,
+        dealt,
+        &mut marks,
+        &mut track,
+        &mut card,
+        deck,
+    )
+}
+
+// The same with room for the path of any sheet.
+fn deal_long(
+    bytes: &[u8],
+    prepared: &[u64],
+    old: &[u8],
+    trail: &[u8],
+    below: &[u64],
+    book: Book,
+    dealt: Dealing,
+    deck: &mut [u8],
+) -> Dealing
+    requires { ⌜ Ready (now bytes) (now prepared) × BelowIs (now bytes) (now below) ⌝ }
+    requires { ⌜ BookReady (now bytes) (now old) (now trail) book ⌝ }
+    requires { ⌜ DealtTo (now bytes) (now old) (now trail) book (now deck) dealt × (length (now deck) < 16777216) ⌝ }
+    ensures { λ r. ⌜ DealtOn 524288 (now (bytes .entry)) (now (old .entry)) (now (trail .entry)) book (now (deck .exit)) r ⌝ }
+{
+    let mut marks = long_marks();
+    let mut track = long_path();
+    let mut card = no_card();
+    deal(
+        bytes,
+        prepared,
+        old,
+        trail,
+        below,
+        book,
+        dealt,
+        &mut marks,
+        &mut track,
+        &mut card,
+        deck,
+    )
+}
+
+// The next cards, as long as the deck has room. As `answer_in`, it calls itself for the larger room: so that room is on the stack only while cards are dealt, and only where a sheet asks for it.
+fn deal_at(
+    reach: Reach,
+    bytes: &[u8],
+    prepared: &[u64],
+    old: &[u8],
+    trail: &[u8],
+    below: &[u64],
+    book: Book,
+    dealt: Dealing,
+    deck: &mut [u8],
+) -> Dealing
+    requires { ⌜ Ready (now bytes) (now prepared) × BelowIs (now bytes) (now below) ⌝ }
+    requires { ⌜ BookReady (now bytes) (now old) (now trail) book ⌝ }
+    requires { ⌜ DealtTo (now bytes) (now old) (now trail) book (now deck) dealt × (length (now deck) < 16777216) ⌝ }
+    ensures { λ r. ⌜ DealtOn 524288 (now (bytes .entry)) (now (old .entry)) (now (trail .entry)) book (now (deck .exit)) r ⌝ }
+{
+    match reach {
+        Reach::Short => {
+            let more = deal_short(bytes, prepared, old, trail, below, book, dealt, deck);
+            if more.entries == book.count {
+                return more;
+            }
+            let to = Reach::Long;
+            deal_at(to, bytes, prepared, old, trail, below, book, more, deck)
+        }
+        Reach::Long => deal_long(bytes, prepared, old, trail, below, book, dealt, deck),
+    }
+}
+
+// The first reach. At most 256 entries have cards, so it is the short one; that it is asked keeps the compiler from laying both rooms into one frame.
+fn first_reach(dealt: Dealing) -> Reach {
+    if 256 < dealt.entries {
+        Reach::Long
+    } else {
+        Reach::Short
+    }
+}
+
+// ---- The source
+
+// The source, from a deck with the cards of all entries.
 fn write_from(
     bytes: &[u8],
     prepared: &[u64],
@@ -175,33 +289,15 @@ fn write_from(
     trail: &[u8],
     below: &[u64],
     book: Book,
-    room: &mut [u8],
-    marks: &mut [u64],
-    track: &mut [u8],
-    deck: &mut [u8],
+    deck: &[u8],
     out: &mut [u8],
-) -> Sourced
-    requires { ⌜ Ready (now bytes) (now prepared) ⌝ }
+) -> Wrote
+    requires { ⌜ Ready (now bytes) (now prepared) × BelowIs (now bytes) (now below) ⌝ }
     requires { ⌜ TextReady (now bytes) sheet (now new) (now path) ⌝ }
     requires { ⌜ BookReady (now bytes) (now old) (now trail) book ⌝ }
-    requires { ⌜ BelowIs (now bytes) (now below) ⌝ }
-    requires { ⌜ SheetRoom (now room) (now marks) (now track) × (9216 ≤ length (now deck)) × (length (now deck) < 16777216) ⌝ }
-    ensures { λ r. ⌜ MakesOr (length (now (room .entry))) (length (now (deck .entry))) (now (bytes .entry)) (λ l. put l (now (new .entry)) (now (old .entry))) (now (path .entry)) (now (path .exit)) (now (out .entry)) (now (out .exit)) r ⌝ }
+    requires { ⌜ Dealt (now bytes) (now old) (now trail) book (now deck) × (9216 ≤ length (now deck)) ⌝ }
+    ensures { λ r. ⌜ Makes (now (bytes .entry)) (λ l. put l (now (new .entry)) (now (old .entry))) (now (out .entry)) (now (out .exit)) r ⌝ }
 {
-    if !fill_deck(
-        bytes,
-        prepared,
-        old,
-        trail,
-        below,
-        book,
-        room,
-        marks,
-        track,
-        deck,
-    ) {
-        return Sourced::Short;
-    }
     let node = root_of(bytes);
     let spot = Spot { node, base: 0 };
     let place = whole(old.len());
@@ -221,12 +317,11 @@ fn write_from(
         &mut card,
         out,
     );
-    let wrote = done.wrote;
-    Sourced::Done(wrote)
+    done.wrote
 }
 
-// The same, from each desk's own rooms.
-fn from_small(
+// The source, from a large deck, with the cards that another one has and then the rest.
+fn write_large(
     bytes: &[u8],
     prepared: &[u64],
     new: &[u8],
@@ -235,18 +330,33 @@ fn from_small(
     trail: &[u8],
     below: &[u64],
     book: Book,
+    dealt: Dealing,
+    cards: &[u8],
     out: &mut [u8],
-) -> Sourced
-    requires { ⌜ Ready (now bytes) (now prepared) ⌝ }
+) -> Wrote
+    requires { ⌜ Ready (now bytes) (now prepared) × BelowIs (now bytes) (now below) ⌝ }
     requires { ⌜ TextReady (now bytes) sheet (now new) (now path) ⌝ }
     requires { ⌜ BookReady (now bytes) (now old) (now trail) book ⌝ }
-    requires { ⌜ BelowIs (now bytes) (now below) ⌝ }
-    ensures { λ r. ⌜ MakesOr 4096 25600 (now (bytes .entry)) (λ l. put l (now (new .entry)) (now (old .entry))) (now (path .entry)) (now (path .exit)) (now (out .entry)) (now (out .exit)) r ⌝ }
+    requires { ⌜ DealtTo (now bytes) (now old) (now trail) book (now cards) dealt × (length (now cards) ≤ 18432) ⌝ }
+    ensures { λ r. ⌜ Makes (now (bytes .entry)) (λ l. put l (now (new .entry)) (now (old .entry))) (now (out .entry)) (now (out .exit)) r ⌝ }
 {
-    let mut room = no_text();
-    let mut track = no_text();
-    let mut marks = no_marks();
-    let mut deck = small_deck();
+    let mut deck = large_deck();
+    move_deck(cards, dealt, &mut deck);
+    let reach = first_reach(dealt);
+    let all = deal_at(
+        reach,
+        bytes,
+        prepared,
+        old,
+        trail,
+        below,
+        book,
+        dealt,
+        &mut deck,
+    );
+    if all.entries < book.count {
+        return Wrote::Full;
+    }
     write_from(
         bytes,
         prepared,
@@ -256,93 +366,13 @@ fn from_small(
         trail,
         below,
         book,
-        &mut room,
-        &mut marks,
-        &mut track,
-        &mut deck,
+        &deck,
         out,
     )
 }
 
-fn from_long(
-    bytes: &[u8],
-    prepared: &[u64],
-    new: &[u8],
-    path: &mut [u8],
-    old: &[u8],
-    trail: &[u8],
-    below: &[u64],
-    book: Book,
-    out: &mut [u8],
-) -> Sourced
-    requires { ⌜ Ready (now bytes) (now prepared) ⌝ }
-    requires { ⌜ TextReady (now bytes) sheet (now new) (now path) ⌝ }
-    requires { ⌜ BookReady (now bytes) (now old) (now trail) book ⌝ }
-    requires { ⌜ BelowIs (now bytes) (now below) ⌝ }
-    ensures { λ r. ⌜ MakesOr 524288 25600 (now (bytes .entry)) (λ l. put l (now (new .entry)) (now (old .entry))) (now (path .entry)) (now (path .exit)) (now (out .entry)) (now (out .exit)) r ⌝ }
-{
-    let mut room = long_sheet();
-    let mut track = long_sheet();
-    let mut marks = long_marks();
-    let mut deck = small_deck();
-    write_from(
-        bytes,
-        prepared,
-        new,
-        path,
-        old,
-        trail,
-        below,
-        book,
-        &mut room,
-        &mut marks,
-        &mut track,
-        &mut deck,
-        out,
-    )
-}
-
-fn from_full(
-    bytes: &[u8],
-    prepared: &[u64],
-    new: &[u8],
-    path: &mut [u8],
-    old: &[u8],
-    trail: &[u8],
-    below: &[u64],
-    book: Book,
-    out: &mut [u8],
-) -> Sourced
-    requires { ⌜ Ready (now bytes) (now prepared) ⌝ }
-    requires { ⌜ TextReady (now bytes) sheet (now new) (now path) ⌝ }
-    requires { ⌜ BookReady (now bytes) (now old) (now trail) book ⌝ }
-    requires { ⌜ BelowIs (now bytes) (now below) ⌝ }
-    ensures { λ r. ⌜ MakesOr 524288 1058304 (now (bytes .entry)) (λ l. put l (now (new .entry)) (now (old .entry))) (now (path .entry)) (now (path .exit)) (now (out .entry)) (now (out .exit)) r ⌝ }
-{
-    let mut room = long_sheet();
-    let mut track = long_sheet();
-    let mut marks = long_marks();
-    let mut deck = full_deck();
-    write_from(
-        bytes,
-        prepared,
-        new,
-        path,
-        old,
-        trail,
-        below,
-        book,
-        &mut room,
-        &mut marks,
-        &mut track,
-        &mut deck,
-        out,
-    )
-}
-
-// The source, from a desk that the put needs. As `answer_in`, it calls itself for the next one, so that two are never on the stack together.
-fn write_at(
-    desk: Desk,
+// The source, from the small deck; or, where that has not room for every card, from the large one, which goes on from there.
+fn write_small(
     bytes: &[u8],
     prepared: &[u64],
     new: &[u8],
@@ -353,49 +383,97 @@ fn write_at(
     book: Book,
     out: &mut [u8],
 ) -> Wrote
-    requires { ⌜ Ready (now bytes) (now prepared) ⌝ }
+    requires { ⌜ Ready (now bytes) (now prepared) × BelowIs (now bytes) (now below) ⌝ }
     requires { ⌜ TextReady (now bytes) sheet (now new) (now path) ⌝ }
     requires { ⌜ BookReady (now bytes) (now old) (now trail) book ⌝ }
-    requires { ⌜ BelowIs (now bytes) (now below) ⌝ }
+    ensures { λ r. ⌜ Makes (now (bytes .entry)) (λ l. put l (now (new .entry)) (now (old .entry))) (now (out .entry)) (now (out .exit)) r ⌝ }
+{
+    let mut deck = small_deck();
+    let begun = begin_deck(old, trail, &mut deck);
+    let dealt = deal_short(bytes, prepared, old, trail, below, book, begun, &mut deck);
+    if dealt.entries < book.count {
+        let to = Desk::Large(dealt);
+        return write_at(
+            to,
+            bytes,
+            prepared,
+            new,
+            path,
+            old,
+            trail,
+            below,
+            book,
+            &deck,
+            out,
+        );
+    }
+    write_from(
+        bytes,
+        prepared,
+        new,
+        path,
+        old,
+        trail,
+        below,
+        book,
+        &deck,
+        out,
+    )
+}
+
+// The source, from a desk. The small one calls this again for the large one: so the compiler puts neither deck into a frame that other calls have too.
+fn write_at(
+    desk: Desk,
+    bytes: &[u8],
+    prepared: &[u64],
+    new: &[u8],
+    path: &mut [u8],
+    old: &[u8],
+    trail: &[u8],
+    below: &[u64],
+    book: Book,
+    cards: &[u8],
+    out: &mut [u8],
+) -> Wrote
+    requires { ⌜ Ready (now bytes) (now prepared) × BelowIs (now bytes) (now below) ⌝ }
+    requires { ⌜ TextReady (now bytes) sheet (now new) (now path) ⌝ }
+    requires { ⌜ BookReady (now bytes) (now old) (now trail) book ⌝ }
+    requires { ⌜ DeskReady desk (now bytes) (now old) (now trail) book (now cards) ⌝ }
     ensures { λ r. ⌜ Makes (now (bytes .entry)) (λ l. put l (now (new .entry)) (now (old .entry))) (now (out .entry)) (now (out .exit)) r ⌝ }
 {
     match desk {
-        Desk::Small => {
-            let tried = from_small(bytes, prepared, new, path, old, trail, below, book, out);
-            let Sourced::Done(wrote) = tried else {
-                let to = Desk::Long;
-                return write_at(to, bytes, prepared, new, path, old, trail, below, book, out);
-            };
-            wrote
-        }
-        Desk::Long => {
-            let tried = from_long(bytes, prepared, new, path, old, trail, below, book, out);
-            let Sourced::Done(wrote) = tried else {
-                let to = Desk::Full;
-                return write_at(to, bytes, prepared, new, path, old, trail, below, book, out);
-            };
-            wrote
-        }
-        Desk::Full => {
-            let tried = from_full(bytes, prepared, new, path, old, trail, below, book, out);
-            let Sourced::Done(wrote) = tried else {
-                return Wrote::Full;
-            };
-            wrote
+        Desk::Small => { write_small(bytes, prepared, new, path, old, trail, below, book, out) }
+        Desk::Large(dealt) => {
+            write_large(
+                bytes,
+                prepared,
+                new,
+                path,
+                old,
+                trail,
+                below,
+                book,
+                dealt,
+                cards,
+                out,
+            )
         }
     }
 }
 
-// The first desk. A book has at most 256 entries, so it is the small one; that it is asked of the book keeps the compiler from laying the rooms of all desks side by side.
-fn first_desk(book: Book) -> Desk {
+// The first desk: always the small one, since a book has at most 256 entries. That it is asked keeps the compiler from laying both decks into one frame.
+fn first_desk(book: Book) -> Desk
+    requires { ⌜ book .count ≤ 256 ⌝ }
+    ensures { λ r. ⌜ r ≡ Small ⌝ }
+{
     if 256 < book.count {
-        Desk::Full
-    } else {
-        Desk::Small
+        let none = Dealing { entries: 0, at: 0 };
+        return Desk::Large(none);
     }
+    Desk::Small
 }
 
-// The source, from the first desk that has the room.
+// The source, from the small deck if that has room for the cards, and from the large one otherwise.
 fn write_source(
     bytes: &[u8],
     prepared: &[u64],
@@ -425,6 +503,7 @@ fn write_source(
         trail,
         &below,
         book,
+        old,
         out,
     )
 }

@@ -3,13 +3,13 @@ use mathlib.Core.Path.{_≡_, refl, sym, ap, subst, _∙_}
 use mathlib.Core.Bool.{Bool, true, false}
 use mathlib.Core.List.{List, _++_}
 use mathlib.Core.Option.{some}
-use Prim.Native.Nat.{ℕ, _+_, _-_, _*_, _≤_, _<_, max}
+use Prim.Native.Nat.{ℕ, _+_, _-_, _*_, _≤_, _<_, min, max}
 use native.Mathlib.Nat.{sub-zero, add-sub-cancel-left, mul-le-mul-right, le-trans}
 use native.Mathlib.Omega.{arith}
-use lib.Dec.{eqb}
-use lib.ListN.{length, take, drop, getD, length-take, length-drop}
-use lib.Seq.{length-take-le, take-append-seam, take-append-le, take-at, drop-at, getD-take}
-use borrow.Author.Tests.{eqb-true, eqb-false}
+use lib.Dec.{leb, eqb}
+use lib.ListN.{length, take, drop, getD, length-append, length-take, length-drop}
+use lib.Seq.{length-take-le, take-take, take-append-seam, take-append-le, take-at, drop-at, getD-take}
+use borrow.Author.Tests.{leb-true, leb-false, eqb-true, eqb-false}
 use Rattle.semantics.specs.Text.{Text, orElse}
 use Rattle.semantics.specs.Pattern.{In}
 use Rattle.semantics.specs.Lens.{Lens, source as source-side, sheet, language, get, keyOf, entryOf}
@@ -18,6 +18,7 @@ use Rattle.semantics.specs.Table.{nodeCount, Trees, trees, treeAt, lensAt, lens
 use Rattle.laws.specs.NodeTrees.{lens-below, tree-length}
 use Rattle.laws.specs.WellTyped.{WellTyped}
 use Rattle.laws.specs.GetPut.{get-in, get-length}
+use Rattle.paths.specs.Walking.{less-marks}
 use Rattle.automaton.specs.declared.Side.the-variants.{Sheet}
 use Rattle.automaton.specs.Rows.{sideOf, automatonAt}
 use Rattle.automaton.specs.Built.{Built, treeLanguage}
@@ -32,16 +33,24 @@ use Rattle.lens.specs.Emitting.{LensNode, Fits, Emits}
 use Rattle.lens.specs.Nodes.{same-lens}
 use Rattle.lens.specs.Parsed.{Parsed}
 use Rattle.books.specs.declared.Book.{Book}
-use Rattle.books.specs.Cards.{CardAt, card-tells}
-use Rattle.books.specs.Listed.{textAt, entryAt}
-use Rattle.books.specs.Looking.{BookOver, EntriesParsed, placeAt, partAt, trailOf, cardPlace, Dealt, same-within, entry-dealt}
+use Rattle.books.specs.Cards.{CardAt, card-tells, key-short}
+use Rattle.books.specs.Listed.{textAt, entryAt, InOrder}
+use Rattle.books.specs.Looking.{BookOver, EntriesParsed, placeAt, partAt, cardPlace, Dealt, same-within, entry-dealt}
 use Rattle.decks.specs.declared.cards.Card.{Card}
+use Rattle.decks.specs.declared.deck.Dealing.{Dealing}
 use Rattle.decks.specs.declared.deck.Tried.{Tried}
 use Rattle.decks.specs.declared.deck.Tried.the-variants.{Made, Long}
 use Rattle.decks.specs.Below.{unionAt, BelowIs}
-use Rattle.decks.specs.Dealing.{Sealed, SheetRoom, CardTried, HeadPut}
-use Rattle.decks.proofs.Sealing.{writes-front, behindHead, withBehind, sealed-at}
+use Rattle.decks.specs.Dealing.{Sealed, PathRoom, CardTried, HeadPut, CardIn, DealtTo}
+use Rattle.decks.proofs.Sealing.{card-length, writes-front, behindHead, withBehind, sealed-at}
 use Rattle.decks.proofs.Heads.{head-long, head-front, head-behind, head-prints, head-places, head-print, head-place}
+
+-- ---- A text that was written
+
+-- a text that has room stands at the front of the buffer
+writes-begins : {text before after : Text} {wrote : Wrote} → Writes text before after wrote → length text ≤ length before → take (length text) after ≡ text
+writes-begins {text} {before} w room =
+    rw (w .buffer-is, overlay-fits text before room) (take-append-seam text (drop (length text) before))
 
 -- ---- The sheet of an entry
 
@@ -54,39 +63,61 @@ module _ {bytes : Text} {prepared : List ℕ} {child : ℕ} (known : LensNode by
       let count = rw (known .tree-is) at (has .described .count-is) in
       omega (arith, has .room .few, count)
 
-  -- What get reads off an entry of at most 4,096 bytes is at most 128 times as long: where it does not fit, the room is shorter than that.
-  pub sheet-over :
-      {text before after : Text}
-      → Fits bytes child source-side text
-      → length text ≤ 4096
-      → Emits bytes child Get text before after Full
-      → length before < 524288
-  unfolding reading
-  sheet-over {text} {before} fits short emits =
+  -- What get reads off an entry has at most 128 bytes for each byte of it, and for an empty one.
+  sheet-size : {text : Text} → Fits bytes child source-side text → length (get (known .tree) text) ≤ 128 * max 1 (length text)
+  sheet-size {text} fits =
       let same = same-lens (fits .tree) (known .tree) (sym (fits .tree-is) ∙ known .tree-is) in
       let longest = rw same at (get-length (fits .tree) (fits .typed) text (fits .belongs)) in
-      let short-sheet : length (get (known .tree) text) ≤ 524288 =
-      le-trans longest (le-trans (mul-le-mul-right (max 1 (length text)) few-positions) (omega arith)) in
-      omega (arith, full-over (get (known .tree) text) before (emits .writes (known .tree) (known .tree-is) .answer-is))
+      le-trans longest (mul-le-mul-right (max 1 (length text)) few-positions)
 
-  -- It ends within the buffer.
+  -- Where it does not fit and there is room for the path of every sheet, it is the room that is shorter than that.
+  pub sheet-over :
+      (path room : Text)
+      {text after : Text} {most : ℕ}
+      → Fits bytes child source-side text
+      → length text ≤ 4096
+      → most ≡ min (length path) (length room)
+      → Emits bytes child Get text (take (most - 0) room) after Full
+      → 524288 ≤ length path
+      → length room < 128 + 128 * length text
+  unfolding reading
+  sheet-over path room {text} {most = most} fits short most-is emits paths =
+      let over = full-over (get (known .tree) text) (take (most - 0) room) (emits .writes (known .tree) (known .tree-is) .answer-is) in
+      omega (arith, over, length-take (most - 0) room, sheet-size fits)
+
+  -- It ends within the room that it was lent.
   pub sheet-within : {text before after : Text} {n : ℕ} → Emits bytes child Get text before after (Count n) → n ≤ length after
   sheet-within {text} {before} {after} {n} emits = writes-within (reading Get (known .tree) text) before after n (emits .writes (known .tree) (known .tree-is))
 
--- It belongs to the entry's child, as it was written and is lent.
+  -- and within the whole room
+  pub sheet-ends : (rest : Text) {text before after : Text} {n : ℕ} → Emits bytes child Get text before after (Count n) → n ≤ length (after ++ rest)
+  sheet-ends rest emits = rw length-append (omega (arith, sheet-within emits))
+
+-- the room is as long when the part of it for the sheet came back
+pub sheet-back :
+    (path room after : Text)
+    {most : ℕ}
+    → most ≡ min (length path) (length room)
+    → length after ≡ length (take (most - 0) room)
+    → length (after ++ drop (most - 0) room) ≡ length room
+sheet-back path room after {most} most-is kept = part-length room after 0 most (omega arith) (omega (arith, most-is)) kept
+
+-- the sheet that was written, as it is lent, whatever stands behind it
+sheet-front : {sheet before after : Text} {n : ℕ} (rest : Text) → Writes sheet before after (Count n) → take (n - 0) (after ++ rest) ≡ sheet
+sheet-front {sheet} {before} {after} {n} rest w =
+    rw sub-zero (take-append-le n after rest (writes-within sheet before after n w) ∙ writes-front w)
+
+-- It belongs to the entry's child.
 pub sheet-belongs :
-    {bytes : Text} {child : ℕ} {text before after : Text} {n : ℕ}
-    → Fits bytes child source-side text → Emits bytes child Get text before after (Count n) → Fits bytes child sheet (take (n - 0) after)
+    {bytes : Text} {child : ℕ} {text before after : Text} {n : ℕ} (rest : Text)
+    → Fits bytes child source-side text → Emits bytes child Get text before after (Count n) → Fits bytes child sheet (take (n - 0) (after ++ rest))
 unfolding reading
-sheet-belongs {text = text} fits emits =
+sheet-belongs {text = text} rest fits emits =
     record {
       tree = fits .tree;
       tree-is = fits .tree-is;
       typed = fits .typed;
-      belongs =
-          rw
-          (sub-zero, writes-front (emits .writes (fits .tree) (fits .tree-is)))
-          (get-in (fits .tree) (fits .typed) text (fits .belongs));
+      belongs = rw (sheet-front rest (emits .writes (fits .tree) (fits .tree-is))) (get-in (fits .tree) (fits .typed) text (fits .belongs));
     }
 
 -- ---- The card of an entry
@@ -95,30 +126,69 @@ sheet-belongs {text = text} fits emits =
 pub record EntryCard (bytes : Text) (child : ℕ) (text card : Text) (size print : ℕ) : Type 0 where
   pub made : (l : Lens) → treeAt (trees bytes) child ≡ lens l → CardAt (keyOf l (get l text)) card size print
 
--- it has at most 4,098 bytes
-pub entry-small :
-    {bytes : Text} {child : ℕ} {side : SideOf} {base : ℕ} {path : List ℕ} {text card : Text} {size print : ℕ}
-    → Parsed bytes child side base path text
-    → EntryCard bytes child text card size print
-    → size ≤ 4098
-entry-small parsed entry = entry .made (parsed .tree) (parsed .tree-is) .small
+-- a slot that begins as one with the card of a key has that card too
+card-moves :
+    {key slot other : Text} {size print : ℕ} → CardAt key slot size print → size ≤ length other → take size other ≡ take size slot → CardAt key other size print
+card-moves {slot = slot} {other = other} {size = size} card room same =
+    record {
+      within = room;
+      small = card .small;
+      short = λ h. (same ∙ card .short h .0, card .short h .1);
+      long = λ h.
+          let (two, head-is) = card .long h in
+          (two, sym (take-take 2 size other two) ∙ ap (take 2) same ∙ take-take 2 size slot two ∙ head-is);
+    }
+
+-- a card has at most two bytes more than its key
+card-size : {key slot : Text} {size print : ℕ} → CardAt key slot size print → size ≤ 2 + length key
+card-size {key} {slot} {size} card = go (leb (length key) 4096) refl
+  where
+    go : (short : Bool) → leb (length key) 4096 ≡ short → size ≤ 2 + length key
+    go true e =
+        let whole = ap length (card .short (leb-true (length key) 4096 e) .0) in
+        omega (arith, whole, length-take-le size slot (card .within), card-length key)
+    go false e = omega (arith, leb-false (length key) 4096 e, card .small)
+
+module _ {bytes : Text} {child : ℕ} {text : Text} {size print : ℕ} where
+  entry-moves :
+      {card slot : Text} → EntryCard bytes child text card size print → size ≤ length slot → take size slot ≡ take size card → EntryCard bytes child text slot size print
+  entry-moves entry room same = record { made = λ l e. card-moves (entry .made l e) room same }
+
+  -- it ends within its slot
+  pub entry-within : {prepared : List ℕ} {card : Text} → LensNode bytes prepared child → EntryCard bytes child text card size print → size ≤ length card
+  entry-within known entry = entry .made (known .tree) (known .tree-is) .within
+
+  -- it has at most 4,098 bytes,
+  pub entry-small : {prepared : List ℕ} {card : Text} → LensNode bytes prepared child → EntryCard bytes child text card size print → size ≤ 4098
+  entry-small known entry = entry .made (known .tree) (known .tree-is) .small
+
+  -- and two more than the entry's sheet
+  pub entry-size :
+      {prepared : List ℕ} {card : Text}
+      → LensNode bytes prepared child
+      → Fits bytes child source-side text
+      → EntryCard bytes child text card size print
+      → size ≤ 130 + 128 * length text
+  entry-size known fits entry =
+      let l = known .tree in
+      omega (arith, card-size (entry .made l (known .tree-is)), key-short l (get l text), sheet-size known fits)
 
 -- the key of the sheet that was written
 pub sheet-card-made :
-    (card : Text)
+    (card behind : Text)
     {bytes : Text} {child : ℕ} {text before after rest sealed-card : Text} {n : ℕ} {wrote : Wrote} {r : Card}
     → length card ≡ 4098
     → length rest ≡ length (behindHead card)
     → Emits bytes child Get text before after (Count n)
-    → Emits bytes child Key (take (n - 0) after) (behindHead card) rest wrote
+    → Emits bytes child Key (take (n - 0) (after ++ behind)) (behindHead card) rest wrote
     → length sealed-card ≡ length (withBehind card rest)
     → Sealed (withBehind card rest) wrote sealed-card r
     → EntryCard bytes child text sealed-card (r .len) (r .print)
 unfolding reading
-sheet-card-made card {rest = rest} long kept emits key-emits same sealed =
+sheet-card-made card behind {rest = rest} long kept emits key-emits same sealed =
     record {
       made = λ l e.
-          rw (sub-zero, writes-front (emits .writes l e)) at (sealed-at card rest long kept (key-emits .writes l e) same sealed);
+          rw (sheet-front behind (emits .writes l e)) at (sealed-at card rest long kept (key-emits .writes l e) same sealed);
     }
 
 -- the key of the source itself, where there is no union below
@@ -146,18 +216,42 @@ source-card-made card {child = child} {text = text} {rest = rest} below-is insid
           rw key-is (sealed-at card rest long kept (emits .writes l e) same sealed);
     }
 
-module _ {bytes : Text} {child : ℕ} {text room card : Text} where
-  pub tried-made : {r : Card} → EntryCard bytes child text card (r .len) (r .print) → CardTried bytes child text room card (Made r)
+-- it stands where it was sealed, whatever is behind
+pub slot-card :
+    {bytes : Text} {child : ℕ} {text card : Text} {size print : ℕ} (rest : Text)
+    → size ≤ length card
+    → EntryCard bytes child text card size print
+    → EntryCard bytes child text (card ++ rest) size print
+slot-card {card = card} {size = size} rest within entry =
+    entry-moves entry (rw length-append (omega (arith, within))) (take-append-le size card rest within)
+
+-- it stands where it was copied to
+pub copied-card :
+    {bytes : Text} {child : ℕ} {text card before after : Text} {size print : ℕ} {wrote : Wrote}
+    → size ≤ length card
+    → size ≤ length before
+    → Writes (take (size - 0) card) before after wrote
+    → EntryCard bytes child text card size print
+    → EntryCard bytes child text after size print
+copied-card {card = card} {before = before} {size = size} within room w entry =
+    let copy : Text = take (size - 0) card in
+    let long : length copy ≡ size = rw sub-zero (length-take-le size card within) in
+    let after-long = ap length (w .buffer-is) ∙ overlay-length copy before in
+    let front = writes-begins w (omega (arith, long, room)) in
+    entry-moves entry (omega (arith, after-long, room)) (rw (long, sub-zero) at front)
+
+module _ {bytes : Text} {child : ℕ} {text path room : Text} where
+  pub tried-made : {r : Card} → EntryCard bytes child text room (r .len) (r .print) → CardTried bytes child text path room (Made r)
   tried-made {r} entry =
       record {
         made = λ c e l is. let same : c ≡ r = cc e in rw same (entry .made l is);
         too-long = λ e. absurd (let z : _≡_ {A = ℕ} 0 1 = cc e in omega arith);
       }
 
-  pub tried-long : length room < 524288 → CardTried bytes child text room card Long
+  pub tried-long : (524288 ≤ length path → length room < 128 + 128 * length text) → CardTried bytes child text path room Long
   tried-long short = record { made = λ c e. absurd (let z : _≡_ {A = ℕ} 0 1 = cc e in omega arith); too-long = λ e. short }
 
-  pub made-entry : {r : Card} {tried : Tried} → CardTried bytes child text room card tried → tried ≡ Made r → EntryCard bytes child text card (r .len) (r .print)
+  pub made-entry : {r : Card} {tried : Tried} → CardTried bytes child text path room tried → tried ≡ Made r → EntryCard bytes child text room (r .len) (r .print)
   made-entry {r} tried e = record { made = λ l is. tried .made r e l is }
 
 -- ---- An entry's text and path, as they are lent
@@ -177,6 +271,10 @@ lent-text source b i = lent-part source b i
 -- it is as short as the old source
 pub lent-short : (source : Text) (b : Book) (i : ℕ) → length source ≤ 4096 → length (lentAt source b i) ≤ 4096
 lent-short source b i h = simp (length-take, length-drop) (omega arith)
+
+-- it is no longer than its entry
+lent-length : (source : Text) (b : Book) (i : ℕ) → length (lentAt source b i) ≤ getD (b .lengths) i 0
+lent-length source b i = simp (length-take, length-drop) (omega arith)
 
 -- it is parsed at its child
 pub lent-parsed :
@@ -214,226 +312,286 @@ entry-key :
 unfolding entryAt entryOf orElse
 entry-key ts source b i at-child = rw at-child
 
--- ---- The room for an entry's sheet, lent for one entry after the other
+-- ---- The room for a sheet's path and for a card, lent for one entry after the other
 
 -- It is as long as it was.
-pub record SameRoom (sheet₀ marks₀ path₀ sheet marks path : List ℕ) : Type 0 where
-  pub sheet-same : length sheet ≡ length sheet₀
+pub record SameRoom (marks₀ path₀ card₀ marks path card : List ℕ) : Type 0 where
   pub marks-same : length marks ≡ length marks₀
   pub path-same : length path ≡ length path₀
+  pub card-same : length card ≡ length card₀
 
-pub same-room-begins : {sheet marks path : List ℕ} → SameRoom sheet marks path sheet marks path
-same-room-begins = record { sheet-same = refl; marks-same = refl; path-same = refl }
+pub same-room-begins : {marks path card : List ℕ} → SameRoom marks path card marks path card
+same-room-begins = record { marks-same = refl; path-same = refl; card-same = refl }
 
-module _ {sheet₀ marks₀ path₀ sheet marks path : List ℕ} (same : SameRoom sheet₀ marks₀ path₀ sheet marks path) where
+module _ {marks₀ path₀ card₀ marks path card : List ℕ} (same : SameRoom marks₀ path₀ card₀ marks path card) where
   -- it is lent and comes back as long
   pub same-room-kept :
-      {sheet′ marks′ path′ : List ℕ} → length sheet′ ≡ length sheet → length marks′ ≡ length marks → length path′ ≡ length path
-      → SameRoom sheet₀ marks₀ path₀ sheet′ marks′ path′
-  same-room-kept s m p = record { sheet-same = s ∙ same .sheet-same; marks-same = m ∙ same .marks-same; path-same = p ∙ same .path-same }
+      {marks′ path′ card′ : List ℕ} → length marks′ ≡ length marks → length path′ ≡ length path → length card′ ≡ length card
+      → SameRoom marks₀ path₀ card₀ marks′ path′ card′
+  same-room-kept m p k = record { marks-same = m ∙ same .marks-same; path-same = p ∙ same .path-same; card-same = k ∙ same .card-same }
 
   -- and is still enough
-  pub same-room-left : SheetRoom sheet₀ marks₀ path₀ → SheetRoom sheet marks path
+  pub same-room-left : PathRoom marks₀ path₀ → PathRoom marks path
   same-room-left room =
       record {
-        least-room = omega (arith, room .least-room, same .sheet-same);
-        same-room = same .path-same ∙ room .same-room ∙ sym (same .sheet-same);
-        marks-room = record { bounded = omega (arith, room .marks-room .bounded, same .sheet-same); long-room = rw (same .sheet-same, same .marks-same) (room .marks-room .long-room) };
+        least-room = omega (arith, room .least-room, same .path-same);
+        marks-room = less-marks (omega (arith, same .path-same)) (same .marks-same) (room .marks-room);
       }
 
 -- ---- The deck, card by card
 
--- the room for a card, as it is lent
-pub slot-long : (deck : Text) (at : ℕ) → at + 4098 ≤ length deck → length (take (at + 4098 - at) (drop at deck)) ≡ 4098
-slot-long deck at h = simp (length-take, length-drop) (omega arith)
+-- the rest of the deck, as it is lent for the next card
+abbrev pub restFrom : Text → ℕ → Text
+restFrom deck at = take (length deck - at) (drop at deck)
 
--- the deck to which it was given back as `card`
-abbrev pub withCard : Text → ℕ → Text → Text
-withCard deck at card = take at deck ++ (card ++ drop (at + 4098 - at) (drop at deck))
+-- the deck to which it was given back as `room`
+abbrev pub withRest : Text → ℕ → Text → Text
+withRest deck at room = take at deck ++ (room ++ drop (length deck - at) (drop at deck))
 
-pub deck-long : (deck : Text) (at : ℕ) (card : Text) → at + 4098 ≤ length deck → length card ≡ 4098 → length (withCard deck at card) ≡ length deck
-deck-long deck at card h size = part-length deck card at (at + 4098) (omega arith) h (size ∙ sym (slot-long deck at h))
+pub rest-long : (deck : Text) (at : ℕ) → length (restFrom deck at) ≡ length deck - at
+rest-long deck at = simp (length-take, length-drop) (omega arith)
 
--- Entry j has its card in the deck, among the cards in front of `at`.
-pub record CardIn (bytes source : Text) (b : Book) (deck : Text) (at j : ℕ) : Type 0 where
-  pub size : ℕ
-  pub card : Text
-  pub from : 9216 ≤ cardPlace deck j
-  pub ends : cardPlace deck j + size ≤ at
-  pub here : take size (drop (cardPlace deck j) deck) ≡ take size card
-  pub entry : EntryCard bytes (getD (b .children) j 0) (textAt source b j) card size (getD deck (8192 + j) 0)
+module _ (deck : Text) (at : ℕ) (within : at ≤ length deck) (room : Text) (kept : length room ≡ length (restFrom deck at)) where
+  pub deck-long : length (withRest deck at room) ≡ length deck
+  deck-long = part-length deck room at (length deck) within (omega arith) kept
 
--- The deck begins with the old source and its path, and the entries before i have their cards in it, in front of `at`.
-pub record DealtTo (bytes source trail : Text) (b : Book) (deck : Text) (at i : ℕ) : Type 0 where
-  pub source-is : take (length source) deck ≡ source
-  pub trail-is : take (length trail) (trailOf deck) ≡ trail
-  pub behind-heads : 9216 ≤ at
-  pub within : at ≤ length deck
-  pub packed : at ≤ 9216 + 4098 * i
-  pub cards : (j : ℕ) → j < i → CardIn bytes source b deck at j
+  -- what stands in front of the rest
+  pub rest-front : take at (withRest deck at room) ≡ take at deck
+  rest-front = take-at (take at deck) (room ++ drop (length deck - at) (drop at deck)) at (length-take-le at deck within)
 
--- the deck is as long when the path was written into it, behind the source
-pub trail-long :
-    (first rest : Text)
-    → 4096 ≤ length first
-    → length rest ≡ length (take (length first - 4096) (drop 4096 first))
-    → length (take 4096 first ++ (rest ++ drop (length first - 4096) (drop 4096 first))) ≡ length first
-trail-long first rest h kept = part-length first rest 4096 (length first) h (omega arith) kept
-
--- a text that has room stands at the front of the buffer
-writes-begins : {text before after : Text} {wrote : Wrote} → Writes text before after wrote → length text ≤ length before → take (length text) after ≡ text
-writes-begins {text} {before} w room =
-    rw (w .buffer-is, overlay-fits text before room) (take-append-seam text (drop (length text) before))
+  -- and at its beginning
+  rest-begins : (n : ℕ) → n ≤ length room → take n (drop at (withRest deck at room)) ≡ take n room
+  rest-begins n h =
+      ap (take n) (drop-at (take at deck) (room ++ drop (length deck - at) (drop at deck)) at (length-take-le at deck within))
+      ∙ take-append-le n room (drop (length deck - at) (drop at deck)) h
 
 module _ {bytes source trail : Text} {b : Book} where
   -- the old source and its path alone
   pub dealt-none :
       {before first rest : Text} {wrote wrote′ : Wrote}
       → Writes source before first wrote
-      → Writes trail (take (length first - 4096) (drop 4096 first)) rest wrote′
+      → Writes trail (restFrom first 4096) rest wrote′
       → length source ≤ 4096
       → length trail ≡ length source
       → 9216 ≤ length before
-      → DealtTo bytes source trail b (take 4096 first ++ (rest ++ drop (length first - 4096) (drop 4096 first))) 9216 0
+      → DealtTo bytes source trail b (withRest first 4096 rest) (record { entries = 0; at = 9216 })
   dealt-none {before} {first} {rest} w w′ short as-long room =
       record {
-        source-is = same-within 4096 deck first same-front 0 (length source) (omega arith) ∙ writes-begins w (omega (arith, short, room));
+        source-short = short;
+        trail-short = omega (arith, as-long, short);
+        few-heads = omega arith;
+        source-is = same-within 4096 deck first (rest-front first 4096 reaches rest kept) 0 (length source) (omega (arith, short)) ∙ writes-begins w (omega (arith, short, room));
         trail-is =
-            ap (take (length trail)) (drop-at (take 4096 first) (rest ++ behind) 4096 front)
-            ∙ take-append-le (length trail) rest behind (omega (arith, rest-long, lent-long, first-long, room, as-long, short))
+            rest-begins first 4096 reaches rest kept (length trail) (omega (arith, kept, lent-long, first-long, room, as-long, short))
             ∙ writes-begins w′ (omega (arith, lent-long, first-long, room, as-long, short));
         behind-heads = omega arith;
-        within = omega (arith, deck-is-long, first-long, room);
-        packed = omega arith;
+        within = omega (arith, deck-long first 4096 reaches rest kept, first-long, room);
+        few = omega arith;
+        packed = λ h. omega arith;
         cards = λ j h. absurd (omega arith);
       }
     where
-      lent : Text
-      lent = take (length first - 4096) (drop 4096 first)
-
-      behind : Text
-      behind = drop (length first - 4096) (drop 4096 first)
-
       deck : Text
-      deck = take 4096 first ++ (rest ++ behind)
+      deck = withRest first 4096 rest
 
       first-long : length first ≡ length before
       first-long = ap length (w .buffer-is) ∙ overlay-length source before
 
-      lent-long : length lent ≡ length first - 4096
-      lent-long = simp (length-take, length-drop) (omega arith)
+      reaches : 4096 ≤ length first
+      reaches = omega (arith, first-long, room)
 
-      rest-long : length rest ≡ length lent
-      rest-long = ap length (w′ .buffer-is) ∙ overlay-length trail lent
+      lent-long : length (restFrom first 4096) ≡ length first - 4096
+      lent-long = rest-long first 4096
 
-      front : length (take 4096 first) ≡ 4096
-      front = length-take-le 4096 first (omega (arith, first-long, room))
+      kept : length rest ≡ length (restFrom first 4096)
+      kept = ap length (w′ .buffer-is) ∙ overlay-length trail (restFrom first 4096)
 
-      same-front : take 4096 deck ≡ take 4096 first
-      same-front = take-at (take 4096 first) (rest ++ behind) 4096 front
+  -- every deck with the same bytes in front of where the last card ends has the same cards
+  module _ (other : Text) {deck : Text} {d : Dealing} (dealt : DealtTo bytes source trail b deck d) (same : take (d .at) other ≡ take (d .at) deck) (room : d .at ≤ length other) where
+    part-same : (p n : ℕ) → p + n ≤ d .at → take n (drop p other) ≡ take n (drop p deck)
+    part-same p n ends = same-within (d .at) other deck same p n ends
 
-      deck-is-long : length deck ≡ length first
-      deck-is-long = trail-long first rest (omega (arith, first-long, room)) rest-long
+    byte-same : (k : ℕ) → k < d .at → getD other k 0 ≡ getD deck k 0
+    byte-same k h = sym (getD-take (d .at) other k 0 h) ∙ ap (λ (t : Text). getD t k 0) same ∙ getD-take (d .at) deck k 0 h
 
-  module _ {deck : Text} {at i : ℕ} (dealt : DealtTo bytes source trail b deck at i) where
-    -- one card more, in the room that was lent for it, and its head
-    module _
-        {card after : Text} {size print : ℕ}
-        (short : length source ≤ 4096)
-        (as-long : length trail ≡ length source)
-        (few : i < 256)
-        (room : at + 4098 ≤ length deck)
-        (long : length card ≡ 4098)
-        (small : size ≤ 4098)
-        (made : EntryCard bytes (getD (b .children) i 0) (lentAt source b i) card size print)
-        (put : HeadPut (withCard deck at card) i print at after) where
-      abbrev more : Text
-      more = withCard deck at card
-
-      more-long : length more ≡ length deck
-      more-long = deck-long deck at card room long
-
-      front : length (take at deck) ≡ at
-      front = length-take-le at deck (dealt .within)
-
-      same-front : take at more ≡ take at deck
-      same-front = take-at (take at deck) (card ++ drop (at + 4098 - at) (drop at deck)) at front
-
-      -- what stands in front of the card, byte by byte and part by part
-      byte-kept : (k : ℕ) → k < at → getD more k 0 ≡ getD deck k 0
-      byte-kept k h = sym (getD-take at more k 0 h) ∙ ap (λ (t : Text). getD t k 0) same-front ∙ getD-take at deck k 0 h
-
-      part-kept : (p n : ℕ) → 9216 ≤ p → p + n ≤ at → take n (drop p after) ≡ take n (drop p deck)
-      part-kept p n from ends = ap (take n) (head-behind put few p from) ∙ same-within at more deck same-front p n ends
-
-      front-kept : (s n : ℕ) → s + n ≤ 8192 → take n (drop s after) ≡ take n (drop s deck)
-      front-kept s n ends =
-          same-within 8192 after more (head-front put) s n ends ∙ same-within at more deck same-front s n (omega (arith, dealt .behind-heads))
-
-      head-room : 9216 ≤ length more
-      head-room = omega (arith, more-long, room, dealt .behind-heads)
-
-      card-new : CardIn bytes source b after (at + size) i
-      card-new =
-          let place = head-place put few head-room in
-          record {
-            size = size;
-            card = card;
-            from = omega (arith, place, dealt .behind-heads);
-            ends = omega (arith, place);
-            here =
-                rw
-                (place, head-behind put few at (dealt .behind-heads), drop-at (take at deck) (card ++ drop (at + 4098 - at) (drop at deck)) at front)
-                (take-append-le size card (drop (at + 4098 - at) (drop at deck)) (omega (arith, small, long)));
-            entry = rw (head-print put few head-room, ← (lent-text source b i)) made;
-          }
-
-      card-kept : (j : ℕ) → j < i → CardIn bytes source b after (at + size) j
-      card-kept j h =
-          let c = dealt .cards j h in
-          let other : j ≡ i → ⊥ = λ e. omega arith in
-          let behind = dealt .behind-heads in
-          let print-is = head-prints put few j other (omega arith) ∙ byte-kept (8192 + j) (omega arith) in
-          let place-is : cardPlace after j ≡ cardPlace deck j =
-          head-places put few j other (omega arith)
-          ∙ rw (byte-kept (8448 + 3 * j) (omega arith), byte-kept (8448 + 3 * j + 1) (omega arith), byte-kept (8448 + 3 * j + 2) (omega arith)) in
-          record {
-            size = c .size;
-            card = c .card;
-            from = omega (arith, place-is, c .from);
-            ends = omega (arith, place-is, c .ends);
-            here = rw place-is (part-kept (cardPlace deck j) (c .size) (c .from) (c .ends) ∙ c .here);
-            entry = rw print-is (c .entry);
-          }
-
-      pub dealt-more : DealtTo bytes source trail b after (at + size) (i + 1)
-      dealt-more =
-          record {
-            source-is = front-kept 0 (length source) (omega arith) ∙ dealt .source-is;
-            trail-is = front-kept 4096 (length trail) (omega arith) ∙ dealt .trail-is;
-            behind-heads = omega (arith, dealt .behind-heads);
-            within = omega (arith, head-long put, more-long, room, small);
-            packed = omega (arith, dealt .packed, small);
-            cards = λ j h. go j h (eqb j i) refl;
-          }
-        where
-          go : (j : ℕ) → j < i + 1 → (last : Bool) → eqb j i ≡ last → CardIn bytes source b after (at + size) j
-          go j h true e = rw (eqb-true j i e) card-new
-          go j h false e = let other = eqb-false j i e in card-kept j (omega arith)
-
-    -- every entry has its card
-    pub dealt-all : EntriesParsed bytes source trail b → BookOver (length source) b → b .count ≤ i → Dealt bytes source trail b deck
-    dealt-all parsed over all =
+    card-same : (j : ℕ) → j < d .entries → CardIn bytes source b other (d .at) j
+    card-same j h =
+        let c = dealt .cards j h in
+        let heads = dealt .few-heads in
+        let behind = dealt .behind-heads in
+        let print-is = byte-same (8192 + j) (omega arith) in
+        let place-is : cardPlace other j ≡ cardPlace deck j =
+        rw (byte-same (8448 + 3 * j) (omega arith), byte-same (8448 + 3 * j + 1) (omega arith), byte-same (8448 + 3 * j + 2) (omega arith)) in
         record {
-          source-is = dealt .source-is;
-          trail-is = dealt .trail-is;
-          cards-fit = record {
-            inside = λ j h. let c = dealt .cards j (omega arith) in omega (arith, c .ends, dealt .within);
-            each = λ j h.
-                let c = dealt .cards j (omega arith) in
-                let p = parsed .each j h in
-                rw
-                (entry-dealt (trees bytes) source deck over (dealt .source-is) j h, entry-key (trees bytes) source b j (lens-there bytes (getD (b .children) j 0) (p .tree) (p .tree-is)))
-                (card-tells (c .entry .made (p .tree) (p .tree-is)) (c .here));
-          };
+          size = c .size;
+          card = c .card;
+          from = omega (arith, place-is, c .from);
+          ends = omega (arith, place-is, c .ends);
+          here = rw place-is (part-same (cardPlace deck j) (c .size) (c .ends) ∙ c .here);
+          entry = rw print-is (c .entry);
         }
+
+    pub dealt-same : DealtTo bytes source trail b other d
+    dealt-same =
+        record {
+          source-short = dealt .source-short;
+          trail-short = dealt .trail-short;
+          few-heads = dealt .few-heads;
+          source-is = part-same 0 (length source) (omega (arith, dealt .source-short, dealt .behind-heads)) ∙ dealt .source-is;
+          trail-is = part-same 4096 (length trail) (omega (arith, dealt .trail-short, dealt .behind-heads)) ∙ dealt .trail-is;
+          behind-heads = dealt .behind-heads;
+          within = room;
+          few = dealt .few;
+          packed = dealt .packed;
+          cards = card-same;
+        }
+
+  -- a deck to which that front was copied
+  pub dealt-copied :
+      {from before after : Text} {d : Dealing} {wrote : Wrote}
+      → d .at ≤ length from
+      → d .at ≤ length before
+      → Writes (take (d .at - 0) from) before after wrote
+      → DealtTo bytes source trail b from d
+      → DealtTo bytes source trail b after d
+  dealt-copied {from} {before} {after} {d} within room w dealt =
+      let long : length (take (d .at - 0) from) ≡ d .at = rw sub-zero (length-take-le (d .at) from within) in
+      let front = writes-begins w (omega (arith, long, room)) in
+      let after-long = ap length (w .buffer-is) ∙ overlay-length (take (d .at - 0) from) before in
+      dealt-same after dealt (rw (long, sub-zero) at front) (omega (arith, after-long, room))
+
+  -- The next card stands behind the others, and then gets its head.
+  module _
+      {deck after : Text} {at i size print : ℕ} {slot : Text}
+      (dealt : DealtTo bytes source trail b deck (record { entries = i; at = at }))
+      (few : i < 256)
+      (counted : i < b .count)
+      (room : at + size ≤ length deck)
+      (here : take size (drop at deck) ≡ take size slot)
+      (made : EntryCard bytes (getD (b .children) i 0) (lentAt source b i) slot size print)
+      (put : HeadPut deck i print at after) where
+    card-new : CardIn bytes source b after (at + size) i
+    card-new =
+        let place = head-place put few (omega (arith, room, dealt .behind-heads)) in
+        let print-is = head-print put few (omega (arith, room, dealt .behind-heads)) in
+        record {
+          size = size;
+          card = slot;
+          from = omega (arith, place, dealt .behind-heads);
+          ends = omega (arith, place);
+          here = rw (place, head-behind put few at (dealt .behind-heads)) here;
+          entry = rw (print-is, ← (lent-text source b i)) (made .made);
+        }
+
+    card-kept : (j : ℕ) → j < i → CardIn bytes source b after (at + size) j
+    card-kept j h =
+        let c = dealt .cards j h in
+        let other : j ≡ i → ⊥ = λ e. omega arith in
+        let print-is = head-prints put few j other (omega arith) in
+        let place-is = head-places put few j other (omega arith) in
+        record {
+          size = c .size;
+          card = c .card;
+          from = omega (arith, place-is, c .from);
+          ends = omega (arith, place-is, c .ends);
+          here = rw place-is (ap (take (c .size)) (head-behind put few (cardPlace deck j) (c .from)) ∙ c .here);
+          entry = rw print-is (c .entry);
+        }
+
+    front-kept : (s n : ℕ) → s + n ≤ 8192 → take n (drop s after) ≡ take n (drop s deck)
+    front-kept s n ends = same-within 8192 after deck (head-front put) s n ends
+
+    card-put :
+        (i + 1 < b .count → at + size ≤ 9216 + 130 * (i + 1) + 128 * getD (b .starts) (i + 1) 0)
+        → DealtTo bytes source trail b after (record { entries = i + 1; at = at + size })
+    card-put next =
+        record {
+          source-short = dealt .source-short;
+          trail-short = dealt .trail-short;
+          few-heads = omega (arith, few);
+          source-is = front-kept 0 (length source) (omega (arith, dealt .source-short)) ∙ dealt .source-is;
+          trail-is = front-kept 4096 (length trail) (omega (arith, dealt .trail-short)) ∙ dealt .trail-is;
+          behind-heads = omega (arith, dealt .behind-heads);
+          within = omega (arith, head-long put, room);
+          few = omega (arith, counted);
+          packed = next;
+          cards = λ j h. go j h (eqb j i) refl;
+        }
+      where
+        go : (j : ℕ) → j < i + 1 → (last : Bool) → eqb j i ≡ last → CardIn bytes source b after (at + size) j
+        go j h true e = rw (eqb-true j i e) card-new
+        go j h false e = let other = eqb-false j i e in card-kept j (omega arith)
+
+  module _ {deck : Text} {at i : ℕ} (dealt : DealtTo bytes source trail b deck (record { entries = i; at = at })) where
+    -- the rest of the deck was lent: the cards that were there are there
+    pub dealt-lent : (room : Text) → length room ≡ length (restFrom deck at) → DealtTo bytes source trail b (withRest deck at room) (record { entries = i; at = at })
+    dealt-lent room kept =
+        dealt-same
+        (withRest deck at room)
+        dealt
+        (rest-front deck at (dealt .within) room kept)
+        (omega (arith, deck-long deck at (dealt .within) room kept, dealt .within))
+
+    -- one card more, at the beginning of the rest
+    pub dealt-more :
+        (room : Text)
+        {prepared : List ℕ} {after : Text} {size print : ℕ}
+        → BookOver (length source) b
+        → InOrder (length source) b
+        → i < b .count
+        → LensNode bytes prepared (getD (b .children) i 0)
+        → Fits bytes (getD (b .children) i 0) source-side (lentAt source b i)
+        → length room ≡ length (restFrom deck at)
+        → EntryCard bytes (getD (b .children) i 0) (lentAt source b i) room size print
+        → HeadPut (withRest deck at room) i print at after
+        → DealtTo bytes source trail b after (record { entries = i + 1; at = at + size })
+    dealt-more room {size = size} over order counted known fits kept made put =
+        let ends = entry-within known made in
+        card-put
+        (dealt-lent room kept)
+        (omega (arith, counted, over .fits .few))
+        counted
+        (omega (arith, ends, kept, rest-long deck at, deck-long deck at (dealt .within) room kept, dealt .within))
+        (rest-begins deck at (dealt .within) room kept size ends)
+        made
+        put
+        (λ more. omega (arith, dealt .packed counted, entry-size known fits made, lent-length source b i, order .ordered i more))
+
+    -- where the deck has no room for the next card, it is shorter than it may have to be,
+    pub stopped-card :
+        BookOver (length source) b → InOrder (length source) b → i < b .count → length deck < at + 4098 → length deck < 570752
+    stopped-card over order counted short =
+        omega (arith, dealt .packed counted, over .fits .few, order .ends i counted, dealt .source-short)
+
+    -- and so it is where the rest is shorter than the next entry's sheet can be
+    pub stopped-sheet :
+        BookOver (length source) b
+        → InOrder (length source) b
+        → i < b .count
+        → length deck - at < 128 + 128 * length (lentAt source b i)
+        → length deck < 570752
+    stopped-sheet over order counted short =
+        omega (arith, dealt .packed counted, over .fits .few, order .ends i counted, dealt .source-short, lent-length source b i)
+
+  -- every entry has its card
+  pub dealt-all :
+      {deck : Text} {d : Dealing}
+      → DealtTo bytes source trail b deck d
+      → EntriesParsed bytes source trail b
+      → BookOver (length source) b
+      → d .entries ≡ b .count
+      → Dealt bytes source trail b deck
+  dealt-all {deck} dealt parsed over all =
+      record {
+        source-is = dealt .source-is;
+        trail-is = dealt .trail-is;
+        cards-fit = record {
+          inside = λ j h. let c = dealt .cards j (omega arith) in omega (arith, c .ends, dealt .within);
+          each = λ j h.
+              let c = dealt .cards j (omega arith) in
+              let p = parsed .each j h in
+              rw
+              (entry-dealt (trees bytes) source deck over (dealt .source-is) j h, entry-key (trees bytes) source b j (lens-there bytes (getD (b .children) j 0) (p .tree) (p .tree-is)))
+              (card-tells (c .entry (p .tree) (p .tree-is)) (c .here));
+        };
+      }

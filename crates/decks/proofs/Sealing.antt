@@ -22,7 +22,7 @@ use Rattle.decks.specs.Dealing.{KeyBehind, Sealed, KeyCard}
 -- ---- A card is sealed
 
 -- a card has two bytes more than its key
-card-length : (k : Text) → length (cardOf k) ≡ 2 + length k
+pub card-length : (k : Text) → length (cardOf k) ≡ 2 + length k
 unfolding cardOf
 card-length k = omega arith
 

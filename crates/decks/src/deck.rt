@@ -1,5 +1,5 @@
 // The deck: the old source, in the first 4,096 bytes; its path, in the next 4,096; for each of 256 entries one byte of its key's fingerprint, and three for where
-// its card stands; and then the cards, one behind the other.
+// its card stands; and then the cards, one behind the other. A sheet that is made for its key stands, until it has its card, where the card will.
 use crate::below::has_union;
 use crate::cards::Card;
 use crate::cards::seal;
@@ -10,23 +10,38 @@ use lens::read::emit;
 use lens::read::read_text;
 use lens::texts::write_text;
 ghost use mathlib.Core.Path.{_≡_};
-ghost use Prim.Native.Nat.{_+_, _*_, _≤_, _<_};
+ghost use Prim.Native.Nat.{_+_, _*_, _≤_, _<_, min};
 ghost use lib.ListN.{length};
+ghost use Rattle.semantics.specs.Text.{Text};
 ghost use Rattle.semantics.specs.Lens.{source};
 ghost use Rattle.automaton.specs.Built.{Built};
 ghost use Rattle.lens.specs.Emitting.{LensNode};
 ghost use Rattle.lens.specs.Parsed.{Parsed};
+ghost use Rattle.books.specs.declared.Book.{Book};
+ghost use Rattle.books.specs.Listed.{InOrder};
 ghost use Rattle.books.specs.Looking.{BookOver, EntriesParsed};
 ghost use Rattle.decks.specs.Below.{BelowIs};
-ghost use Rattle.decks.specs.Dealing.{SheetRoom, CardTried, DeckTried, HeadPut};
+ghost use Rattle.decks.specs.Dealing.{PathRoom, CardTried, HeadPut, DealtTo, Begun, MovedTo, DealtOn};
 
-// What making the card of an old entry came to: the card, or the entry's sheet had no room.
+// How far the cards of a book have come: so many entries have theirs, and the last one ends at `at`.
+pub struct Dealing {
+    pub entries: usize,
+    pub at: usize,
+}
+
+// What making the card of an old entry came to: the card, or there was no room for the entry's sheet or its path.
 enum Tried {
     Made(Card),
     Long,
 }
 
-// The card of an old entry's key, that of its own sheet, which is made first.
+fn smaller(a: usize, b: usize) -> usize
+    ensures { λ r. ⌜ r ≡ min a b ⌝ }
+{
+    if a < b { a } else { b }
+}
+
+// The card of an old entry's key, that of its own sheet. The sheet is made in the room first, and the card then put in its place.
 fn sheet_card(
     bytes: &[u8],
     prepared: &[u64],
@@ -34,29 +49,33 @@ fn sheet_card(
     base: usize,
     text: &[u8],
     trail: &[u8],
-    sheet: &mut [u8],
     marks: &mut [u64],
     path: &mut [u8],
     card: &mut [u8],
+    room: &mut [u8],
 ) -> Tried
     requires { ⌜ LensNode (now bytes) (now prepared) child ⌝ }
     requires { ⌜ Parsed (now bytes) child source base (now trail) (now text) ⌝ }
-    requires { ⌜ (length (now text) ≤ 4096) × (length (now card) ≡ 4098) ⌝ }
-    requires { ⌜ SheetRoom (now sheet) (now marks) (now path) ⌝ }
-    ensures { λ r. ⌜ CardTried (now (bytes .entry)) child (now (text .entry)) (now (sheet .entry)) (now (card .exit)) r ⌝ }
+    requires { ⌜ (length (now text) ≤ 4096) × (length (now card) ≡ 4098) × (4098 ≤ length (now room)) ⌝ }
+    requires { ⌜ PathRoom (now marks) (now path) ⌝ }
+    ensures { λ r. ⌜ CardTried (now (bytes .entry)) child (now (text .entry)) (now (path .entry)) (now (room .exit)) r ⌝ }
 {
+    let most = smaller(path.len(), room.len());
+    let sheet = &mut room[0..most];
     let wrote = emit(bytes, prepared, child, Mode::Get, base, text, trail, sheet);
     let Wrote::Count(n) = wrote else {
         return Tried::Long;
     };
-    let made = &sheet[0..n];
-    let room = &mut card[2..];
-    let key = read_text(bytes, prepared, child, Mode::Key, made, marks, path, room);
+    let made = &room[0..n];
+    let behind = &mut card[2..];
+    let key = read_text(bytes, prepared, child, Mode::Key, made, marks, path, behind);
     let sealed = seal(card, key);
+    let len = sealed.len;
+    write_text(&card[0..len], room);
     Tried::Made(sealed)
 }
 
-// The card of an old entry's key. Where there is no union below, the key is read off the source and no sheet is made.
+// The card of an old entry's key, at the beginning of the room. Where there is no union below, the key is read off the source and no sheet is made.
 fn entry_card(
     bytes: &[u8],
     prepared: &[u64],
@@ -65,17 +84,17 @@ fn entry_card(
     text: &[u8],
     trail: &[u8],
     below: &[u64],
-    sheet: &mut [u8],
     marks: &mut [u64],
     path: &mut [u8],
     card: &mut [u8],
+    room: &mut [u8],
 ) -> Tried
     requires { ⌜ LensNode (now bytes) (now prepared) child ⌝ }
     requires { ⌜ Parsed (now bytes) child source base (now trail) (now text) ⌝ }
     requires { ⌜ BelowIs (now bytes) (now below) ⌝ }
-    requires { ⌜ (length (now text) ≤ 4096) × (length (now card) ≡ 4098) ⌝ }
-    requires { ⌜ SheetRoom (now sheet) (now marks) (now path) ⌝ }
-    ensures { λ r. ⌜ CardTried (now (bytes .entry)) child (now (text .entry)) (now (sheet .entry)) (now (card .exit)) r ⌝ }
+    requires { ⌜ (length (now text) ≤ 4096) × (length (now card) ≡ 4098) × (4098 ≤ length (now room)) ⌝ }
+    requires { ⌜ PathRoom (now marks) (now path) ⌝ }
+    ensures { λ r. ⌜ CardTried (now (bytes .entry)) child (now (text .entry)) (now (path .entry)) (now (room .exit)) r ⌝ }
 {
     if has_union(below, child) {
         return sheet_card(
@@ -85,13 +104,14 @@ fn entry_card(
             base,
             text,
             trail,
-            sheet,
             marks,
             path,
             card,
+            room,
         );
     }
-    let room = &mut card[2..];
+    let slot = &mut room[0..4098];
+    let behind = &mut slot[2..];
     let key = emit(
         bytes,
         prepared,
@@ -100,9 +120,9 @@ fn entry_card(
         base,
         text,
         trail,
-        room,
+        behind,
     );
-    let sealed = seal(card, key);
+    let sealed = seal(slot, key);
     Tried::Made(sealed)
 }
 
@@ -119,60 +139,83 @@ fn put_head(deck: &mut [u8], i: usize, print: u8, at: usize)
     deck[j + 2] = (at % 256) as u8;
 }
 
-// An old source, its path and its entries' cards are put into a deck. False if the sheet of an entry, or the cards, had no room.
-pub fn fill_deck(
+// An old source and its path are put into a deck, which has no card yet.
+pub fn begin_deck(source: &[u8], trail: &[u8], deck: &mut [u8]) -> Dealing
+    requires { ⌜ (length (now source) ≤ 4096) × (length (now trail) ≡ length (now source)) × (9216 ≤ length (now deck)) ⌝ }
+    ensures { λ r. ⌜ Begun (now (source .entry)) (now (trail .entry)) (now (deck .exit)) r ⌝ }
+{
+    write_text(source, deck);
+    write_text(trail, &mut deck[4096..]);
+    Dealing {
+        entries: 0,
+        at: 9216,
+    }
+}
+
+// What a deck has so far is put into another one.
+pub fn move_deck(from: &[u8], dealt: Dealing, deck: &mut [u8])
+    requires { ⌜ (9216 ≤ dealt .at) × (dealt .at ≤ length (now from)) × (dealt .at ≤ length (now deck)) ⌝ }
+    ensures { λ _. ⌜ ((bytes source trail : Text) (b : Book) → MovedTo bytes source trail b (now (from .entry)) (now (deck .exit)) dealt) ⌝ }
+{
+    let at = dealt.at;
+    write_text(&from[0..at], deck);
+}
+
+// The cards of the next entries are put behind those that are there, as long as there is room.
+pub fn deal(
     bytes: &[u8],
     prepared: &[u64],
     source: &[u8],
     trail: &[u8],
     below: &[u64],
     book: Book,
-    sheet: &mut [u8],
+    dealt: Dealing,
     marks: &mut [u64],
     path: &mut [u8],
+    card: &mut [u8],
     deck: &mut [u8],
-) -> bool
+) -> Dealing
     requires { ⌜ Built (now bytes) (now prepared) × BelowIs (now bytes) (now below) ⌝ }
-    requires { ⌜ BookOver (length (now source)) book ⌝ }
+    requires { ⌜ BookOver (length (now source)) book × InOrder (length (now source)) book ⌝ }
     requires { ⌜ EntriesParsed (now bytes) (now source) (now trail) book ⌝ }
     requires { ⌜ (length (now source) ≤ 4096) × (length (now trail) ≡ length (now source)) ⌝ }
-    requires { ⌜ SheetRoom (now sheet) (now marks) (now path) ⌝ }
-    requires { ⌜ (9216 ≤ length (now deck)) × (length (now deck) < 16777216) ⌝ }
-    ensures { λ done. ⌜ DeckTried (now (bytes .entry)) (now (source .entry)) (now (trail .entry)) book (now (sheet .entry)) (now (deck .entry)) (now (deck .exit)) done ⌝ }
+    requires { ⌜ PathRoom (now marks) (now path) × (length (now card) ≡ 4098) ⌝ }
+    requires { ⌜ DealtTo (now bytes) (now source) (now trail) book (now deck) dealt × (length (now deck) < 16777216) ⌝ }
+    ensures { λ r. ⌜ DealtOn (length (now (path .entry))) (now (bytes .entry)) (now (source .entry)) (now (trail .entry)) book (now (deck .exit)) r ⌝ }
 {
-    write_text(source, deck);
-    write_text(trail, &mut deck[4096..]);
     let count = book.count;
-    let mut at = 9216;
-    let mut i = 0;
+    let mut at = dealt.at;
+    let mut i = dealt.entries;
     while i < count {
-        let past = at + 4098;
-        if deck.len() < past {
-            return false;
+        if deck.len() < at + 4098 {
+            return Dealing { entries: i, at };
         }
         let child = book.children[i] as usize;
         let base = book.bases[i] as usize;
         let start = book.starts[i] as usize;
         let end = start + book.lengths[i] as usize;
+        let text = &source[start..end];
+        let track = &trail[start..end];
+        let room = &mut deck[at..];
         let tried = entry_card(
             bytes,
             prepared,
             child,
             base,
-            &source[start..end],
-            &trail[start..end],
+            text,
+            track,
             below,
-            sheet,
             marks,
             path,
-            &mut deck[at..past],
+            card,
+            room,
         );
-        let Tried::Made(card) = tried else {
-            return false;
+        let Tried::Made(made) = tried else {
+            return Dealing { entries: i, at };
         };
-        put_head(deck, i, card.print, at);
-        at += card.len;
+        put_head(deck, i, made.print, at);
+        at += made.len;
         i += 1;
     }
-    true
+    Dealing { entries: i, at }
 }

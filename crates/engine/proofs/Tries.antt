@@ -62,7 +62,7 @@ module _ {size : ℕ} {call : Call} {bytes sheet source before between : Text} {
 -- the full room has room for every program
 pub never-small-there :
     {call : Call} {bytes sheet source before after : Text} {tried : Tried}
-    → Tries 148992 call bytes sheet source before after tried
+    → Tries 75264 call bytes sheet source before after tried
     → tried ≡ Small
     → ⊥
 never-small-there tries e = never-small (no-room tries e .too-small)

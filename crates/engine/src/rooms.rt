@@ -37,23 +37,23 @@ enum Tried {
     Small,
 }
 
-fn small_room() -> [u64; 2304]
-    ensures { λ r. ⌜ 2304 ≡ length r ⌝ }
+fn small_room() -> [u64; 1920]
+    ensures { λ r. ⌜ 1920 ≡ length r ⌝ }
 {
-    [0u64; 2304]
+    [0u64; 1920]
 }
 
-fn middle_room() -> [u64; 13824]
-    ensures { λ r. ⌜ 13824 ≡ length r ⌝ }
+fn middle_room() -> [u64; 7680]
+    ensures { λ r. ⌜ 7680 ≡ length r ⌝ }
 {
-    [0u64; 13824]
+    [0u64; 7680]
 }
 
 // 96 nodes with 128 positions on each side.
-fn full_room() -> [u64; 148992]
-    ensures { λ r. ⌜ 148992 ≡ length r ⌝ }
+fn full_room() -> [u64; 75264]
+    ensures { λ r. ⌜ 75264 ≡ length r ⌝ }
 {
-    [0u64; 148992]
+    [0u64; 75264]
 }
 
 // What a call does with an accepted and prepared program.
@@ -101,21 +101,21 @@ fn try_in(
 }
 
 fn try_small(call: Call, bytes: &[u8], sheet: &[u8], source: &[u8], out: &mut [u8]) -> Tried
-    ensures { λ r. ⌜ Tries 2304 call (now (bytes .entry)) (now (sheet .entry)) (now (source .entry)) (now (out .entry)) (now (out .exit)) r ⌝ }
+    ensures { λ r. ⌜ Tries 1920 call (now (bytes .entry)) (now (sheet .entry)) (now (source .entry)) (now (out .entry)) (now (out .exit)) r ⌝ }
 {
     let mut prepared = small_room();
     try_in(call, bytes, &mut prepared, sheet, source, out)
 }
 
 fn try_middle(call: Call, bytes: &[u8], sheet: &[u8], source: &[u8], out: &mut [u8]) -> Tried
-    ensures { λ r. ⌜ Tries 13824 call (now (bytes .entry)) (now (sheet .entry)) (now (source .entry)) (now (out .entry)) (now (out .exit)) r ⌝ }
+    ensures { λ r. ⌜ Tries 7680 call (now (bytes .entry)) (now (sheet .entry)) (now (source .entry)) (now (out .entry)) (now (out .exit)) r ⌝ }
 {
     let mut prepared = middle_room();
     try_in(call, bytes, &mut prepared, sheet, source, out)
 }
 
 fn try_full(call: Call, bytes: &[u8], sheet: &[u8], source: &[u8], out: &mut [u8]) -> Tried
-    ensures { λ r. ⌜ Tries 148992 call (now (bytes .entry)) (now (sheet .entry)) (now (source .entry)) (now (out .entry)) (now (out .exit)) r ⌝ }
+    ensures { λ r. ⌜ Tries 75264 call (now (bytes .entry)) (now (sheet .entry)) (now (source .entry)) (now (out .entry)) (now (out .exit)) r ⌝ }
 {
     let mut prepared = full_room();
     try_in(call, bytes, &mut prepared, sheet, source, out)

@@ -1,14 +1,14 @@
 -- Sets that are gathered position by position: what the loops over the positions cite. Assumes nothing.
-use mathlib.Core.Path.{_≡_, sym, _∙_}
-use mathlib.Core.Bool.{Bool, true, false, _||_}
+use mathlib.Core.Path.{_≡_, refl, sym, subst, _∙_}
+use mathlib.Core.Bool.{Bool, true, false, not, _&&_, _||_}
 use mathlib.Core.Logic.{_↔_, inl, inr, ⊎-elim}
 use Prim.Native.Nat.{ℕ, _+_, _≤_, _<_}
 use native.Mathlib.Omega.{arith}
-use borrow.Author.Tests.{eqb-true, eqb-false, eq-eqb, ltb-true, ltb-false}
+use borrow.Author.Tests.{eqb-true, eqb-false, eq-eqb, ne-eqb, ltb-true, ltb-false}
 use lib.Dec.{eqb, ltb}
 use Rattle.laws.specs.Basics.{bool-cases, not-both, or-either, or-left, or-right}
 use Rattle.positions.specs.declared.Set.{Set}
-use Rattle.positions.specs.Positions.{holds, Empty, Added, FirstFrom}
+use Rattle.positions.specs.Positions.{holds, Empty, Added, Removed, FirstFrom}
 use Rattle.language.specs.Sets.{Gathered, Grown}
 
 -- A set grew by a test's positions where the test is true exactly of what was given.
@@ -73,6 +73,10 @@ module _ (gives : ℕ → ℕ → Type 0) where
           (λ e. let ne = eqb-false p n e in inl (before .held-iff q .1 (p, (omega arith), g)))
           (bool-cases (eqb p n)))
 
+  -- The same, where the number of positions is written otherwise.
+  pub gathered-at : {n m : ℕ} {s : Set} → n ≡ m → Gathered gives n s → Gathered gives m s
+  gathered-at {s = s} e = subst (λ (k : ℕ). Gathered gives k s) e
+
 -- ---- From one position of a set to the next
 
 -- The place is a position of the set or past all, and none from count on to before it is one.
@@ -85,6 +89,55 @@ going-begins first = record { at-one = first .held; none-past = λ q h l. first 
 
 pub going-on : {due : Set} {count n p : ℕ} → n < count → FirstFrom due (n + 1) p → Going due count p
 going-on below first = record { at-one = first .held; none-past = λ q h l. first .skipped q (omega arith) l }
+
+-- What is left of a set from the position p on.
+pub record LeftFrom (due : Set) (p : ℕ) (left : Set) : Type 0 where
+  pub gone : (q : ℕ) → q < p → holds left q ≡ false
+  pub stays : (q : ℕ) → p ≤ q → holds left q ≡ holds due q
+
+pub left-begins : {due : Set} {p : ℕ} → FirstFrom due 0 p → LeftFrom due p due
+left-begins first = record { gone = λ q l. first .skipped q (omega arith) l; stays = λ q h. refl }
+
+-- The first of it goes, and the next of the set is the first of what is then left.
+module _ {due left : Set} {n : ℕ} (known : LeftFrom due n left) (below : n < 128) (there : holds due n ≡ true) where
+  pub left-first : FirstFrom left 0 n
+  left-first =
+      record {
+        from = omega arith;
+        skipped = λ q h l. known .gone q l;
+        held = λ l. known .stays n (omega arith) ∙ there;
+      }
+
+  module _ {rest : Set} {p : ℕ} (removed : Removed left n rest) (first : FirstFrom rest 0 p) where
+    -- nothing up to n is left
+    none-to : (q : ℕ) → q < n + 1 → holds rest q ≡ false
+    none-to q l = removed q ∙ go (eqb q n) refl
+      where
+        go : (same : Bool) → eqb q n ≡ same → (not same && holds left q) ≡ false
+        go true e = refl
+        go false e = let other = eqb-false q n e in known .gone q (omega arith)
+
+    -- what is behind n is as it was
+    same-past : (q : ℕ) → n + 1 ≤ q → holds rest q ≡ holds due q
+    same-past q h = removed q ∙ rw (ne-eqb q n (omega arith)) (known .stays q (omega arith))
+
+    past : n + 1 ≤ p
+    past = go (ltb p (n + 1)) refl
+      where
+        go : (less : Bool) → ltb p (n + 1) ≡ less → n + 1 ≤ p
+        go true e = let l = ltb-true p (n + 1) e in absurd (not-both (first .held (omega arith)) (none-to p l))
+        go false e = ltb-false p (n + 1) e
+
+    pub left-next : FirstFrom due (n + 1) p
+    left-next =
+        record {
+          from = past;
+          skipped = λ q h l. sym (same-past q h) ∙ first .skipped q (omega arith) l;
+          held = λ l. sym (same-past p past) ∙ first .held l;
+        }
+
+    pub left-on : LeftFrom due p rest
+    left-on = record { gone = λ q l. first .skipped q (omega arith) l; stays = λ q h. same-past q (omega (arith, past)) }
 
 -- What only positions of the set give is gathered from these alone.
 module _ {gives : ℕ → ℕ → Type 0} {due : Set} (only : (p q : ℕ) → gives p q → holds due p ≡ true) where

@@ -154,18 +154,18 @@ module _ {r : Pattern} {a : Automaton} {prepared : List ℕ} (room : Room a prep
   pub behind-steps :
       {t : Text} {s : Set} → Behind r t s → {c : ℕ} {next : Set} → Gathered (Back prepared a s c) (a .count) next
       → Behind r (c ∷ t) next
-  behind-steps {t} known {c} {next} led = record { behind-iff = λ p l. Iff·trans (led-iff p) (Iff·symm (follow-law r p l c t)) }
+  behind-steps {t} known {c} {next} led = record { behind-iff = λ p l. Iff·trans (led-iff p l) (Iff·symm (follow-law r p l c t)) }
     where
       -- The set has p exactly if the byte and t can be read from a position that may follow p.
-      led-iff : (p : ℕ) → (holds next p ≡ true) ↔ ReadsAt r (followAt r p) c t
-      led-iff p = (
+      led-iff : (p : ℕ) → p < positions r → (holds next p ≡ true) ↔ ReadsAt r (followAt r p) c t
+      led-iff p l = (
         λ e.
             let (q, k, g) = led .held-iff p .0 e in
             let m = counted q k in
             record {
               position = q;
               in-pattern = m;
-              allowed = sym (d .row-is q m .preceding-is p) ∙ g .leads;
+              allowed = sym (d .row-is p l .follow-is q) ∙ g .leads;
               stands = sym (stands-is q c m) ∙ g .stood .stands;
               rest-in = known .behind-iff q m .0 (g .stood .held);
             },
@@ -173,5 +173,5 @@ module _ {r : Pattern} {a : Automaton} {prepared : List ℕ} (room : Room a prep
             let q = x .position in
             let m = x .in-pattern in
             let there = standing-at q m (known .behind-iff q m .1 (x .rest-in)) (x .stands) in
-            led .held-iff p .1 (q, omega (arith, d .count-is), record { stood = there; leads = d .row-is q m .preceding-is p ∙ x .allowed }),
+            led .held-iff p .1 (q, omega (arith, d .count-is), record { stood = there; inside = omega (arith, d .count-is); leads = d .row-is p l .follow-is q ∙ x .allowed }),
       )

@@ -503,35 +503,3 @@ follow-within (star r) p q e =
     (follow-within r p q)
     (λ h. first-within r q (and-both (lastAt r p) (firstAt r q) h .1))
     (or-either (followAt r p q) (lastAt r p && firstAt r q) e)
-
--- nor is anything beyond them followed
-two-from :
-    (n m : ℕ) (first cross second : ℕ → ℕ → Bool)
-    → ((i j : ℕ) → second i j ≡ true → i < m)
-    → (p q : ℕ)
-    → split n (λ i. split n (first i) (cross i) q) (λ i. split n (λ j. false) (second i) q) p ≡ true
-    → p < n + m
-two-from n m first cross second within p q e =
-    split-within
-    n
-    m
-    (λ i. split n (first i) (cross i) q)
-    (λ i. split n (λ j. false) (second i) q)
-    (λ i. split-either n (λ j. false) (second i) (λ b. b ≡ true → i < m) (λ j h. absurd (false≢true h)) (within i) q)
-    p
-    e
-
-pub follow-from : (r : Pattern) (p q : ℕ) → followAt r p q ≡ true → p < positions r
-unfolding followAt positions
-follow-from (word w) p q e =
-    let h = and-both (eqb q (p + 1)) (ltb q (length w)) e in
-    omega (arith, eqb-true q (p + 1) (h .0), ltb-true q (length w) (h .1))
-follow-from (range first last) p q e = absurd (false≢true e)
-follow-from (concat r s) p q e =
-    two-from (positions r) (positions s) (followAt r) (λ i j. lastAt r i && firstAt s j) (followAt s) (follow-from s) p q e
-follow-from (alt r s) p q e = two-from (positions r) (positions s) (followAt r) (λ i j. false) (followAt s) (follow-from s) p q e
-follow-from (star r) p q e =
-    ⊎-elim
-    (follow-from r p q)
-    (λ h. last-within r p (and-both (lastAt r p) (firstAt r q) h .0))
-    (or-either (followAt r p q) (lastAt r p && firstAt r q) e)

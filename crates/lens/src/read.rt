@@ -6,6 +6,7 @@ use automaton::Automaton;
 use automaton::Side;
 use automaton::automaton_of;
 use paths::border;
+use paths::ends_of;
 use paths::find_path;
 use paths::first_loop;
 use paths::goes_left;
@@ -196,10 +197,9 @@ fn emit_repeat(
     ensures { λ r. ⌜ Emits (now (bytes .entry)) node mode (now (text .entry)) (now (out .entry)) (now (out .exit)) r ⌝ }
 {
     let part = automaton_for(prepared, child, mode);
-    let ends = part.last;
-    let begins = part.first;
-    let last = ends.moved(base);
-    let first = begins.moved(base);
+    let ends = ends_of(part, base);
+    let last = ends.last;
+    let first = ends.first;
     let mut o = 0;
     let mut n = 0;
     while o < text.len() {

@@ -15,6 +15,7 @@ use Rattle.laws.specs.Paths.{firstLoop}
 use Rattle.positions.specs.declared.Set.{Set}
 use Rattle.positions.specs.Positions.{holds, Added, Moved}
 use Rattle.table.specs.Prepared.{OneLens}
+use Rattle.automaton.specs.declared.Automaton.{Automaton}
 use Rattle.automaton.specs.declared.Side.the-variants.{Source}
 use Rattle.automaton.specs.Rows.{automatonAt}
 use Rattle.automaton.specs.Built.{treeLanguage}
@@ -74,18 +75,19 @@ repeat-next child t i some-text e = rw (e, parts-next (treeLanguage source child
 
 -- nothing is passed yet: the sets are the automaton's, moved up by base
 pub repeated-begin :
-    {bytes : Text} {prepared : List ℕ} {node child base : ℕ} {path text : Text} {at : ℕ} {b : Book} {last first : Set}
+    {bytes : Text} {prepared : List ℕ} {node child base : ℕ} {path text : Text} {at : ℕ} {b : Book} {a : Automaton} {last first : Set}
     → ToList bytes prepared text at b
     → node < nodeCount bytes
     → Parsed bytes node source base path text
     → OneLens (trees bytes) node child (λ l. lens (repeat l))
-    → Moved (automatonAt prepared child Source .last) base last × Moved (automatonAt prepared child Source .first) base first
+    → a ≡ automatonAt prepared child Source
+    → Moved (a .last) base last × Moved (a .first) base first
     → Repeated bytes node child base path text at b last first b 0
 unfolding language positions treeLanguage
-repeated-begin {bytes} {at = at} {b = b} asked inside parsed s (up-last, up-first) =
+repeated-begin {bytes} {at = at} {b = b} asked inside parsed s a-is (up-last, up-first) =
     let described = node-described (asked .built) (lt-trans (s .lower) inside) (s .child) (s .at-child) refl in
     record {
-      ends = rw (s .at-child) (moved-ends described (few-as parsed (repeat (s .child)) (s .tree-is)) up-last up-first);
+      ends = rw (s .at-child) (moved-ends described (few-as parsed (repeat (s .child)) (s .tree-is)) (rw a-is at up-last) (rw a-is at up-first));
       as-long = parsed-length parsed;
       left = parsed-begin parsed;
       done = [];

@@ -19,7 +19,7 @@ use Rattle.positions.specs.Positions.{Added}
 use Rattle.automaton.specs.Built.{Built, treeLanguage}
 use Rattle.lens.specs.Parsed.{Parsed, parsed-length}
 use Rattle.books.specs.declared.Book.{Book}
-use Rattle.books.specs.Listed.{unused, added, Entered, BookFits, Sized, fits-added, sized-added, unused-match, unused-length}
+use Rattle.books.specs.Listed.{unused, added, Entered, BookFits, InOrder, Sized, fits-added, in-order-added, in-order-more, sized-added, unused-match, unused-length}
 use Rattle.books.specs.Looking.{placeAt, partAt, EntriesParsed}
 use Rattle.listing.specs.declared.Listing.{Listing}
 
@@ -65,8 +65,8 @@ pub record PutBehind (ts : Trees) (old : Text) (es : Entries) (before : Book) (r
   pub untaken : r .over ≡ false → Untaken ts old (r .book)
   pub too-many : r .over ≡ true → 256 < before .count + length es
 
--- The entries of a text were listed, whatever the old source in which the text stands at `at`; and each is parsed by the old source's path, if those that
--- were in the book are.
+-- The entries of a text were listed, whatever the old source in which the text stands at `at`. Each is parsed by the old source's path, if those that were in
+-- the book are; and they stand in order and end by the end of the text, if those that were in the book do by its start.
 pub record Lists (bytes : Text) (es : Entries) (text : Text) (path : Text) (at : ℕ) (before : Book) (r : Listing) : Type 0 where
   pub sized : Sized (r .book)
   pub few : r .book .count ≤ 256
@@ -78,6 +78,7 @@ pub record Lists (bytes : Text) (es : Entries) (text : Text) (path : Text) (at :
       → EntriesParsed bytes old trail before
       → r .over ≡ false
       → EntriesParsed bytes old trail (r .book)
+  pub lists-ordered : InOrder at before → r .over ≡ false → InOrder (at + length text) (r .book)
 
 -- The one entry of a match was listed, whatever the lens of its child and the path by which the text is parsed there.
 pub record ListsMatch (child base : ℕ) (text : Text) (at : ℕ) (before : Book) (r : Listing) : Type 0 where
@@ -166,6 +167,7 @@ lists-none bytes text path at b sized few =
             too-many = λ e. absurd (true≢false (sym e));
           };
       lists-parsed = λ old trail s p before e. before;
+      lists-ordered = λ before e. in-order-more (at + length text) (omega arith) before;
     }
 
 -- where there are not too many, only the book counts
@@ -182,6 +184,7 @@ lists-settled within known =
           let all = known .lists old s u in
           record { listed = λ e. all .listed within; untaken = λ e. all .untaken within; too-many = λ e. absurd (true≢false (sym e)) };
       lists-parsed = λ old trail s p before e. known .lists-parsed old trail s p before within;
+      lists-ordered = λ before e. known .lists-ordered before within;
     }
 
 -- ---- A match's entry
@@ -244,6 +247,8 @@ lists-with text at b base child left sized room now-left =
                 };
             lists-parsed = λ old trail s p before e.
                 parsed-added at (length text) base child left sized room before (rw (s .text-is, ← (parsed-length parsed), p .text-is) parsed);
+            lists-ordered = λ before e.
+                in-order-added (at + length text) b at (length text) base child left sized before room (omega arith) (omega arith);
           };
     }
 
@@ -278,6 +283,7 @@ lists-full text at b base child sized full =
             lists = λ old s u.
                 record { listed = λ e. absurd (true≢false e); untaken = λ e. absurd (true≢false e); too-many = λ e. omega arith };
             lists-parsed = λ old trail s p before e. absurd (true≢false e);
+            lists-ordered = λ before e. absurd (true≢false e);
           };
     }
 
@@ -317,6 +323,8 @@ module _
           lists-parsed = λ old trail s on before e.
               let one = first .lists-parsed old trail (stands-first u v s) (stands-first p q on) before more in
               second .lists-parsed old trail (stands-second u v s) (rw as-long at (stands-second p q on)) one e;
+          lists-ordered = λ before e.
+              in-order-more (at + length (u ++ v)) (omega (arith, length-append u v)) (second .lists-ordered (first .lists-ordered before more) e);
         }
 
     -- and where the first has too many
@@ -332,4 +340,5 @@ module _
                 too-many = λ e. rw length-append (omega (arith, first .lists old (stands-first u v s) known .too-many e));
               };
           lists-parsed = λ old trail s on before e. absurd (not-both over e);
+          lists-ordered = λ before e. absurd (not-both over e);
         }

@@ -3,19 +3,16 @@ use automaton::Side;
 use automaton::automaton_of;
 use books::Book;
 use paths::border;
+use paths::ends_of;
 use paths::first_loop;
 use paths::goes_left;
-use positions::Set;
 use table::Kind;
 use table::Table;
-ghost use Prim.Native.Nat.{_+_, _*_, _≤_, _<_};
+ghost use Prim.Native.Nat.{_+_, _≤_, _<_};
 ghost use lib.ListN.{length};
 ghost use Rattle.semantics.specs.Lens.{repeat, match, source};
 ghost use Rattle.semantics.specs.Table.{nodeCount, lens, trees, treeAt};
-ghost use Rattle.positions.specs.Positions.{Moved};
 ghost use Rattle.table.specs.Prepared.{OneLens};
-ghost use Rattle.automaton.specs.declared.Side.the-variants.{Source};
-ghost use Rattle.automaton.specs.Rows.{automatonAt};
 ghost use Rattle.lens.specs.Parsed.{Parsed};
 ghost use Rattle.books.specs.Listed.{Sized};
 ghost use Rattle.listing.specs.Listing.{ToList, Lists, ListsMatch, treeEntries, repeatEntries};
@@ -98,29 +95,6 @@ pub fn list(
     }
 }
 
-// Where the parts of a repeat may end and begin: at the last and the first positions of its child.
-struct PartEnds {
-    last: Set,
-    first: Set,
-}
-
-// Those of a child whose positions are numbered from `base` on.
-fn part_ends(prepared: &[u64], child: usize, base: usize) -> PartEnds
-    requires { ⌜ 16 * child + 16 ≤ length (now prepared) ⌝ }
-    ensures { λ r.
-        ⌜
-        Moved (automatonAt (now (prepared .entry)) child Source .last) base (r .last) × Moved (automatonAt (now (prepared .entry)) child Source .first) base (r .first)
-        ⌝ }
-{
-    let part = automaton_of(prepared, child, Side::Source);
-    let ends = part.last;
-    let begins = part.first;
-    PartEnds {
-        last: ends.moved(base),
-        first: begins.moved(base),
-    }
-}
-
 // The same for a repeat and its child: part by part.
 fn list_parts(
     bytes: &[u8],
@@ -158,7 +132,8 @@ fn list_parts(
             book,
         );
     }
-    let ends = part_ends(prepared, child, base);
+    let part = automaton_of(prepared, child, Side::Source);
+    let ends = ends_of(part, base);
     let last = ends.last;
     let first = ends.first;
     let mut o = 0;
@@ -198,7 +173,8 @@ fn list_matches(
         Lists (now (bytes .entry)) (repeatEntries (treeAt (trees (now (bytes .entry))) child) (now (text .entry))) (now (text .entry)) (now (path .entry)) at book r
         ⌝ }
 {
-    let ends = part_ends(prepared, child, base);
+    let part = automaton_of(prepared, child, Side::Source);
+    let ends = ends_of(part, base);
     let last = ends.last;
     let first = ends.first;
     let mut o = 0;

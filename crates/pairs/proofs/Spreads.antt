@@ -13,7 +13,7 @@ use Rattle.positions.specs.declared.Set.{Set}
 use Rattle.positions.specs.Positions.{holds, Empty, Added, Removed, Less, Met, FirstFrom}
 use Rattle.positions.proofs.Bits.{holds-past}
 use Rattle.automaton.specs.declared.Automaton.{Automaton}
-use Rattle.automaton.specs.Rows.{rowAt, followOf, shareIn, alikeIn}
+use Rattle.automaton.specs.Rows.{lowOf, highOf, followOf, shareIn, alikeIn}
 use Rattle.pairs.specs.Pairs.{
   Gathered,
   byFollow,
@@ -52,13 +52,10 @@ pub shares-alike :
     → Gathered count (bySharing prepared row′ start) r
 unfolding alikeIn shareIn
 shares-alike prepared row row′ start same gathered =
-    let first = getD prepared (rowAt row) 0 in
-    let first′ = getD prepared (rowAt row′) 0 in
-    let last = getD prepared (rowAt row + 1) 0 in
-    let last′ = getD prepared (rowAt row′ + 1) 0 in
-    let (low, high) = and-both (eqb first first′) (eqb last last′) same in
-    let low = eqb-true first first′ low in
-    let high = eqb-true last last′ high in
+    let (low, high) =
+    and-both (eqb (lowOf prepared row) (lowOf prepared row′)) (eqb (highOf prepared row) (highOf prepared row′)) same in
+    let low = eqb-true (lowOf prepared row) (lowOf prepared row′) low in
+    let high = eqb-true (highOf prepared row) (highOf prepared row′) high in
     record { holds-is = λ q. rw (low, high) at (gathered .holds-is q) }
 
 module _ {prepared : List ℕ} {start : ℕ} {b : Automaton} where

@@ -51,7 +51,7 @@ pub fn followers(prepared: &[u64], a: Automaton, set: Set) -> Set
 
 // The positions that share a byte with the position of a row.
 fn sharing(prepared: &[u64], row: usize, b: Automaton) -> Set
-    requires { ⌜ rowAt row + 4 ≤ length (now prepared) ⌝ }
+    requires { ⌜ rowAt (row + 1) ≤ length (now prepared) ⌝ }
     requires { ⌜ Room b (now prepared) ⌝ }
     ensures { λ r. ⌜ Gathered (b .count) (bySharing (now (prepared .entry)) row (b .start)) r ⌝ }
 {
@@ -130,7 +130,7 @@ fn gain(cells: &mut [u64], x: usize, set: Set) -> bool
 // The positions that share a byte with position x, once the rows before it are known. In a run of positions with the same bytes all have the same, so
 // that long runs, of which the slowest tables are made, are compared once.
 fn share_row(prepared: &[u64], start: usize, x: usize, b: Automaton, shares: &[u64]) -> Set
-    requires { ⌜ (x < 128) × (rowAt (start + x) + 4 ≤ length (now prepared)) ⌝ }
+    requires { ⌜ (x < 128) × (rowAt (start + x + 1) ≤ length (now prepared)) ⌝ }
     requires { ⌜ Room b (now prepared) ⌝ }
     requires { ⌜ Shares (now prepared) start b x (now shares) ⌝ }
     ensures { λ r. ⌜ Gathered (b .count) (bySharing (now (prepared .entry)) (start + x) (b .start)) r ⌝ }

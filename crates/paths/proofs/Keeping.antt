@@ -1,13 +1,13 @@
 -- Sets that are kept beside a text, byte by byte and block by block: what the loops backward cite. Assumes nothing.
 use mathlib.Core.Path.{_≡_, refl, subst, _∙_}
 use mathlib.Core.List.{List}
-use mathlib.Core.Logic.{_≢_, ⊎-elim}
+use mathlib.Core.Logic.{⊎-elim}
 use Prim.Native.Nat.{ℕ, suc, _+_, _-_, _*_, _≤_, _<_, min}
 use native.Mathlib.Omega.{arith}
 use borrow.Author.Tests.{eqb-true, eqb-false}
 use lib.Dec.{eqb}
-use lib.ListN.{length, getD, drop, set, length-set}
-use lib.Seq.{getD-set-same, getD-set-other, drop-cons, drop-length}
+use lib.ListN.{length, getD, drop}
+use lib.Seq.{drop-cons, drop-length}
 use Rattle.semantics.specs.Text.{Text}
 use Rattle.laws.specs.Basics.{bool-cases}
 use Rattle.positions.specs.declared.Set.{Set}
@@ -15,29 +15,8 @@ use Rattle.automaton.specs.declared.Automaton.{Automaton}
 use Rattle.automaton.specs.Rows.{Room}
 use Rattle.language.specs.Runs.{Behind, SteppedBack}
 use Rattle.language.proofs.Steps.{behind-begins}
-use Rattle.paths.specs.Walking.{Stored, Filled, BehindAt, blockEnd, Marked}
-
--- What stands at neither of two places stays when both are written.
-two-kept : (xs : List ℕ) (i x y k : ℕ) → k ≢ i → k ≢ i + 1 → getD (set (set xs i x) (i + 1) y) k 0 ≡ getD xs k 0
-two-kept xs i x y k ne ne′ = getD-set-other (set xs i x) (i + 1) k y 0 ne′ ∙ getD-set-other xs i k x 0 ne
-
--- A set is written as two numbers.
-pub stored-two : (sets : List ℕ) (i : ℕ) (s : Set) → 2 * i + 2 ≤ length sets → Stored sets i s (set (set sets (2 * i) (s .low)) (2 * i + 1) (s .high))
-stored-two sets i s h =
-    record {
-      same-length = length-set (set sets (2 * i) (s .low)) (2 * i + 1) (s .high) ∙ length-set sets (2 * i) (s .low);
-      stored =
-          rw (
-            getD-set-same (set sets (2 * i) (s .low)) (2 * i + 1) (s .high) 0 (rw length-set (omega arith)),
-            getD-set-other (set sets (2 * i) (s .low)) (2 * i + 1) (2 * i) (s .high) 0 (λ e. omega arith),
-            getD-set-same sets (2 * i) (s .low) 0 (omega arith),
-          );
-      kept = λ j ne.
-          rw (
-            two-kept sets (2 * i) (s .low) (s .high) (2 * j) (λ e. ne (omega arith)) (λ e. omega arith),
-            two-kept sets (2 * i) (s .low) (s .high) (2 * j + 1) (λ e. omega arith) (λ e. ne (omega arith)),
-          );
-    }
+use Rattle.language.specs.Sets.{Stored}
+use Rattle.paths.specs.Walking.{Filled, BehindAt, blockEnd, Marked}
 
 module _ {prepared : List ℕ} {a : Automaton} {text : Text} where
   -- Behind the whole text stands nothing.
@@ -80,20 +59,20 @@ module _ {prepared : List ℕ} {a : Automaton} {text : Text} where
   behind-same {s = s} e = subst (λ (k : ℕ). BehindAt prepared a text k s) e
 
   -- past the last block the text ends, and a block begins where the one before ends
-  pub behind-whole : (k : ℕ) {s : Set} → length text ≤ 64 * k → BehindAt prepared a text (length text) s → BehindAt prepared a text (min (64 * k) (length text)) s
+  pub behind-whole : (k : ℕ) {s : Set} → length text ≤ 256 * k → BehindAt prepared a text (length text) s → BehindAt prepared a text (min (256 * k) (length text)) s
   behind-whole k few = behind-same (omega arith)
 
-  pub behind-start : (k : ℕ) {s : Set} → 64 * k ≤ length text → BehindAt prepared a text (64 * k) s → BehindAt prepared a text (min (64 * k) (length text)) s
+  pub behind-start : (k : ℕ) {s : Set} → 256 * k ≤ length text → BehindAt prepared a text (256 * k) s → BehindAt prepared a text (min (256 * k) (length text)) s
   behind-start k inside = behind-same (omega arith)
 
-  pub behind-block : {k n e : ℕ} {s : Set} → n ≡ suc k → e ≡ blockEnd (length text) k → BehindAt prepared a text (min (64 * n) (length text)) s → BehindAt prepared a text e s
+  pub behind-block : {k n e : ℕ} {s : Set} → n ≡ suc k → e ≡ blockEnd (length text) k → BehindAt prepared a text (min (256 * n) (length text)) s → BehindAt prepared a text e s
   behind-block n-is e-is = behind-same (omega arith)
 
-  pub marked-none : {k : ℕ} {marks : List ℕ} → length text ≤ 64 * k → Marked prepared a text k marks
+  pub marked-none : {k : ℕ} {marks : List ℕ} → length text ≤ 256 * k → Marked prepared a text k marks
   marked-none few = record { behind = λ j l h. absurd (omega arith) }
 
   pub marked-more :
-      {k n : ℕ} {s : Set} {before after : List ℕ} → n ≡ suc k → Marked prepared a text n before → BehindAt prepared a text (min (64 * n) (length text)) s
+      {k n : ℕ} {s : Set} {before after : List ℕ} → n ≡ suc k → Marked prepared a text n before → BehindAt prepared a text (min (256 * n) (length text)) s
       → Stored before k s after → Marked prepared a text k after
   marked-more {k} e known here stored =
       record {

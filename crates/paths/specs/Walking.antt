@@ -43,12 +43,6 @@ pub record Past (prepared : List ℕ) (a : Automaton) (p at : ℕ) (walk : Walk)
 
 -- ---- Sets that are kept
 
--- set i of a slice is written, the others stay
-pub record Stored (before : List ℕ) (i : ℕ) (set : Set) (after : List ℕ) : Type 0 where
-  pub same-length : length after ≡ length before
-  pub stored : setAt after (2 * i) ≡ set
-  pub kept : (j : ℕ) → ¬ (j ≡ i) → setAt after (2 * j) ≡ setAt before (2 * j)
-
 -- The slice has, for each byte from i to before `end`, the set behind it: that of byte `start` comes first.
 pub record Filled (prepared : List ℕ) (a : Automaton) (text : Text) (start i end : ℕ) (sets : List ℕ) : Type 0 where
   pub behind : (r : Pattern) → Describes r a prepared → (j : ℕ) → i ≤ j → j < end → Behind r (drop (suc j) text) (setAt sets (2 * (j - start)))
@@ -59,16 +53,16 @@ pub record BehindAt (prepared : List ℕ) (a : Automaton) (text : Text) (n : ℕ
 
 -- where block k of a text of n bytes ends
 abbrev pub blockEnd : ℕ → ℕ → ℕ
-blockEnd n k = min (64 * k + 64) n
+blockEnd n k = min (256 * k + 256) n
 
--- The slice has, for each block of 64 bytes from block k on, the set behind it.
+-- The slice has, for each block of 256 bytes from block k on, the set behind it.
 pub record Marked (prepared : List ℕ) (a : Automaton) (text : Text) (k : ℕ) (marks : List ℕ) : Type 0 where
-  pub behind : (j : ℕ) → k ≤ j → 64 * j < length text → BehindAt prepared a text (blockEnd (length text) j) (setAt marks (2 * j))
+  pub behind : (j : ℕ) → k ≤ j → 256 * j < length text → BehindAt prepared a text (blockEnd (length text) j) (setAt marks (2 * j))
 
 -- Room for the sets behind a text's blocks, two numbers for each. A text of at most 4,096 bytes needs none: there is room of its own for it.
 pub record MarksRoom (text marks : List ℕ) : Type 0 where
   pub bounded : length text < 1048576
-  pub long-room : 4096 < length text → 2 * ((length text + 63) / 64) ≤ length marks
+  pub long-room : 4096 < length text → 2 * ((length text + 255) / 256) ≤ length marks
 
 -- so a short text always has room,
 pub short-marks : {text marks : List ℕ} → length text ≤ 4096 → MarksRoom text marks

@@ -1,16 +1,20 @@
 // The least path of a text through an automaton, and what is read off a path: where a join is cut, the arm of a union, the parts of a repeat.
 use automaton::Automaton;
 use automaton::set_at;
+use language::fill_leads;
+use language::keep;
+use language::no_leads;
 use language::step_back;
 use positions::Set;
 ghost use mathlib.Core.Path.{_≡_};
 ghost use mathlib.Core.Bool.{_&&_};
 ghost use Prim.Native.Nat.{_+_, _-_, _*_, _/_, _≤_, _<_};
-ghost use lib.ListN.{length};
+ghost use lib.ListN.{length, take};
 ghost use Rattle.laws.specs.Paths.{border, goesLeft, firstLoop};
-ghost use Rattle.positions.specs.Positions.{holds};
+ghost use Rattle.positions.specs.Positions.{holds, Moved};
 ghost use Rattle.automaton.specs.Rows.{Room};
-ghost use Rattle.paths.specs.Walking.{Lowest, Alone, Past, Stored, Filled, BehindAt, blockEnd, Marked, MarksRoom, Walked, WalkedTo, PathFound};
+ghost use Rattle.language.specs.Sets.{NoLeads, Leads};
+ghost use Rattle.paths.specs.Walking.{Lowest, Alone, Past, Filled, BehindAt, blockEnd, Marked, MarksRoom, Walked, WalkedTo, PathFound};
 
 // How far a path has come: so many bytes are read, whether the text may end here, and at which positions the next byte can stand.
 pub struct Walk {
@@ -97,19 +101,11 @@ fn walk_alone(prepared: &[u64], a: Automaton, text: &[u8], path: &mut [u8]) -> W
 
 // ---- Backward, block by block
 
-// A set is kept, in two numbers.
-fn keep(sets: &mut [u64], i: usize, set: Set)
-    requires { ⌜ 2 * i + 2 ≤ length (now sets) ⌝ }
-    ensures { λ _. ⌜ Stored (now (sets .entry)) i set (now (sets .exit)) ⌝ }
-{
-    sets[2 * i] = set.low;
-    sets[2 * i + 1] = set.high;
-}
-
 // The sets behind the bytes of a block are kept; the answer is the set behind what stands in front of it.
 fn fill_block(
     prepared: &[u64],
     a: Automaton,
+    leads: &[u64],
     text: &[u8],
     start: usize,
     end: usize,
@@ -117,6 +113,7 @@ fn fill_block(
     sets: &mut [u64],
 ) -> Set
     requires { ⌜ Room a (now prepared) ⌝ }
+    requires { ⌜ Leads (now prepared) a (now leads) ⌝ }
     requires { ⌜ (start ≤ end) × (end ≤ length (now text)) × (2 * (end - start) ≤ length (now sets)) ⌝ }
     requires { ⌜ BehindAt (now prepared) a (now text) end behind ⌝ }
     ensures { λ set. ⌜ BehindAt (now (prepared .entry)) a (now (text .entry)) start set × Filled (now (prepared .entry)) a (now (text .entry)) start start end (now (sets .exit)) ⌝ }
@@ -126,41 +123,43 @@ fn fill_block(
     while start < i {
         i -= 1;
         keep(sets, i - start, set);
-        set = step_back(prepared, a, set, text[i]);
+        set = step_back(prepared, a, leads, set, text[i]);
     }
     set
 }
 
 fn block_end(length: usize, k: usize) -> usize
-    requires { ⌜ 64 * k < length ⌝ }
+    requires { ⌜ 256 * k < length ⌝ }
     ensures { λ r. ⌜ r ≡ blockEnd length k ⌝ }
 {
-    if length - 64 * k < 64 {
+    if length - 256 * k < 256 {
         return length;
     }
-    64 * k + 64
+    256 * k + 256
 }
 
 // The set behind each block is kept, from block `first` on.
 fn mark_blocks(
     prepared: &[u64],
     a: Automaton,
+    leads: &[u64],
     text: &[u8],
     first: usize,
     sets: &mut [u64],
     marks: &mut [u64],
 )
     requires { ⌜ Room a (now prepared) ⌝ }
-    requires { ⌜ (128 ≤ length (now sets)) × (2 * ((length (now text) + 63) / 64) ≤ length (now marks)) × (length (now text) < 1048576) ⌝ }
+    requires { ⌜ Leads (now prepared) a (now leads) ⌝ }
+    requires { ⌜ (512 ≤ length (now sets)) × (2 * ((length (now text) + 255) / 256) ≤ length (now marks)) × (length (now text) < 1048576) ⌝ }
     ensures { λ _. ⌜ Marked (now (prepared .entry)) a (now (text .entry)) first (now (marks .exit)) ⌝ }
 {
     let mut behind = a.last;
-    let mut k = (text.len() + 63) / 64;
+    let mut k = (text.len() + 255) / 256;
     while first < k {
         k -= 1;
         keep(marks, k, behind);
         let end = block_end(text.len(), k);
-        behind = fill_block(prepared, a, text, 64 * k, end, behind, sets);
+        behind = fill_block(prepared, a, leads, text, 256 * k, end, behind, sets);
     }
 }
 
@@ -203,6 +202,7 @@ fn walk_block(
 fn walk_blocks(
     prepared: &[u64],
     a: Automaton,
+    leads: &[u64],
     text: &[u8],
     walk: Walk,
     sets: &mut [u64],
@@ -210,19 +210,20 @@ fn walk_blocks(
     path: &mut [u8],
 ) -> bool
     requires { ⌜ Room a (now prepared) ⌝ }
-    requires { ⌜ (128 ≤ length (now sets)) × (2 * ((length (now text) + 63) / 64) ≤ length (now marks)) × (length (now text) < 1048576) ⌝ }
+    requires { ⌜ Leads (now prepared) a (now leads) ⌝ }
+    requires { ⌜ (512 ≤ length (now sets)) × (2 * ((length (now text) + 255) / 256) ≤ length (now marks)) × (length (now text) < 1048576) ⌝ }
     requires { ⌜ length (now path) ≡ length (now text) ⌝ }
     requires { ⌜ Walked (now prepared) a (now text) (now path) walk ⌝ }
-    requires { ⌜ Marked (now prepared) a (now text) (walk .at / 64) (now marks) ⌝ }
+    requires { ⌜ Marked (now prepared) a (now text) (walk .at / 256) (now marks) ⌝ }
     ensures { λ found. ⌜ PathFound (now (prepared .entry)) a (now (text .entry)) (now (path .exit)) found ⌝ }
 {
     let mut walk = walk;
     while walk.at < text.len() {
-        let k = walk.at / 64;
+        let k = walk.at / 256;
         let end = block_end(text.len(), k);
         let behind = set_at(marks, 2 * k);
-        fill_block(prepared, a, text, 64 * k, end, behind, sets);
-        walk = walk_block(prepared, a, text, 64 * k, end, sets, walk, path);
+        fill_block(prepared, a, leads, text, 256 * k, end, behind, sets);
+        walk = walk_block(prepared, a, text, 256 * k, end, sets, walk, path);
         if walk.at < end {
             return false;
         }
@@ -230,15 +231,110 @@ fn walk_blocks(
     walk.here
 }
 
-// Room for the sets of a block, or of the blocks of a text of at most 4,096 bytes.
-fn no_sets() -> [u64; 128]
-    ensures { λ r. ⌜ 128 ≡ length r ⌝ }
+// ---- Room for the sets
+
+// Room for the sets behind the bytes of a block.
+fn no_sets() -> [u64; 512]
+    ensures { λ r. ⌜ 512 ≡ length r ⌝ }
 {
-    [0u64; 128]
+    [0u64; 512]
 }
 
-// The rest of a path, from the first choice on, with room for the sets that are kept.
+// Room for the sets behind the blocks of a text of at most 4,096 bytes.
+fn no_marks() -> [u64; 32]
+    ensures { λ r. ⌜ 32 ≡ length r ⌝ }
+{
+    [0u64; 32]
+}
+
+// The leads, where a text of so many bytes is long enough for them to be worth finding: they cost at most the square of the positions, and
+// without them each byte costs a question to every position, so it is from twice as many bytes as positions on. The answer is how many numbers
+// of the room hold them, none or all.
+fn find_leads(prepared: &[u64], a: Automaton, bytes: usize, leads: &mut [u64]) -> usize
+    requires { ⌜ Room a (now prepared) ⌝ }
+    requires { ⌜ NoLeads (now leads) ⌝ }
+    ensures { λ n. ⌜ (n ≤ length (now (leads .exit))) × Leads (now (prepared .entry)) a (take n (now (leads .exit))) ⌝ }
+{
+    if bytes < 2 * a.count {
+        return 0;
+    }
+    fill_leads(prepared, a, leads);
+    leads.len()
+}
+
+// ---- From the first choice on
+
+// The rest of a path.
 fn choose(
+    prepared: &[u64],
+    a: Automaton,
+    leads: &[u64],
+    text: &[u8],
+    walk: Walk,
+    sets: &mut [u64],
+    marks: &mut [u64],
+    path: &mut [u8],
+) -> bool
+    requires { ⌜ Room a (now prepared) ⌝ }
+    requires { ⌜ Leads (now prepared) a (now leads) ⌝ }
+    requires { ⌜ (512 ≤ length (now sets)) × (2 * ((length (now text) + 255) / 256) ≤ length (now marks)) × (length (now text) < 1048576) ⌝ }
+    requires { ⌜ length (now path) ≡ length (now text) ⌝ }
+    requires { ⌜ Walked (now prepared) a (now text) (now path) walk ⌝ }
+    ensures { λ found. ⌜ PathFound (now (prepared .entry)) a (now (text .entry)) (now (path .exit)) found ⌝ }
+{
+    mark_blocks(prepared, a, leads, text, walk.at / 256, sets, marks);
+    walk_blocks(prepared, a, leads, text, walk, sets, marks, path)
+}
+
+// The same for a text of at most 4,096 bytes, with marks of its own.
+fn choose_short(
+    prepared: &[u64],
+    a: Automaton,
+    leads: &[u64],
+    text: &[u8],
+    walk: Walk,
+    sets: &mut [u64],
+    path: &mut [u8],
+) -> bool
+    requires { ⌜ Room a (now prepared) ⌝ }
+    requires { ⌜ Leads (now prepared) a (now leads) ⌝ }
+    requires { ⌜ (512 ≤ length (now sets)) × (length (now text) ≤ 4096) × (length (now path) ≡ length (now text)) ⌝ }
+    requires { ⌜ Walked (now prepared) a (now text) (now path) walk ⌝ }
+    ensures { λ found. ⌜ PathFound (now (prepared .entry)) a (now (text .entry)) (now (path .exit)) found ⌝ }
+{
+    let mut marks = no_marks();
+    choose(prepared, a, leads, text, walk, sets, &mut marks, path)
+}
+
+// The same for a text of at most 256 bytes: what is left of it is one block, with no marks.
+fn choose_block(
+    prepared: &[u64],
+    a: Automaton,
+    leads: &[u64],
+    text: &[u8],
+    walk: Walk,
+    sets: &mut [u64],
+    path: &mut [u8],
+) -> bool
+    requires { ⌜ Room a (now prepared) ⌝ }
+    requires { ⌜ Leads (now prepared) a (now leads) ⌝ }
+    requires { ⌜ (512 ≤ length (now sets)) × (length (now text) ≤ 256) × (length (now path) ≡ length (now text)) ⌝ }
+    requires { ⌜ Walked (now prepared) a (now text) (now path) walk ⌝ }
+    ensures { λ found. ⌜ PathFound (now (prepared .entry)) a (now (text .entry)) (now (path .exit)) found ⌝ }
+{
+    let start = walk.at;
+    let end = text.len();
+    let behind = a.last;
+    fill_block(prepared, a, leads, text, start, end, behind, sets);
+    let done = walk_block(prepared, a, text, start, end, sets, walk, path);
+    if done.at < end {
+        return false;
+    }
+    done.here
+}
+
+// The rest of a path, by the length of the text. The rooms for sets and leads are cleared here, so that a text without a choice does not pay for it.
+fn choose_way(
     prepared: &[u64],
     a: Automaton,
     text: &[u8],
@@ -247,25 +343,22 @@ fn choose(
     path: &mut [u8],
 ) -> bool
     requires { ⌜ Room a (now prepared) ⌝ }
-    requires { ⌜ (2 * ((length (now text) + 63) / 64) ≤ length (now marks)) × (length (now text) < 1048576) ⌝ }
+    requires { ⌜ MarksRoom (now text) (now marks) ⌝ }
     requires { ⌜ length (now path) ≡ length (now text) ⌝ }
     requires { ⌜ Walked (now prepared) a (now text) (now path) walk ⌝ }
     ensures { λ found. ⌜ PathFound (now (prepared .entry)) a (now (text .entry)) (now (path .exit)) found ⌝ }
 {
     let mut sets = no_sets();
-    mark_blocks(prepared, a, text, walk.at / 64, &mut sets, marks);
-    walk_blocks(prepared, a, text, walk, &mut sets, marks, path)
-}
-
-// The same for a text of at most 4,096 bytes, with room of its own.
-fn choose_short(prepared: &[u64], a: Automaton, text: &[u8], walk: Walk, path: &mut [u8]) -> bool
-    requires { ⌜ Room a (now prepared) ⌝ }
-    requires { ⌜ (length (now text) ≤ 4096) × (length (now path) ≡ length (now text)) ⌝ }
-    requires { ⌜ Walked (now prepared) a (now text) (now path) walk ⌝ }
-    ensures { λ found. ⌜ PathFound (now (prepared .entry)) a (now (text .entry)) (now (path .exit)) found ⌝ }
-{
-    let mut marks = no_sets();
-    choose(prepared, a, text, walk, &mut marks, path)
+    let mut room = no_leads();
+    let n = find_leads(prepared, a, text.len(), &mut room);
+    let leads = &room[0..n];
+    if text.len() <= 256 {
+        return choose_block(prepared, a, leads, text, walk, &mut sets, path);
+    }
+    if text.len() <= 4096 {
+        return choose_short(prepared, a, leads, text, walk, &mut sets, path);
+    }
+    choose(prepared, a, leads, text, walk, &mut sets, marks, path)
 }
 
 // ---- The path of a text
@@ -287,10 +380,7 @@ pub fn find_path(
     if walk.at == text.len() {
         return walk.here;
     }
-    if text.len() <= 4096 {
-        return choose_short(prepared, a, text, walk, path);
-    }
-    choose(prepared, a, text, walk, marks, path)
+    choose_way(prepared, a, text, walk, marks, path)
 }
 
 // ---- What is read off a path
@@ -342,4 +432,22 @@ fn loops(last: Set, first: Set, from: u8, to: u8) -> bool
         return last.has(from as usize);
     }
     false
+}
+
+// The positions at which the parts of a repeat end, and those at which they begin.
+pub struct Ends {
+    pub last: Set,
+    pub first: Set,
+}
+
+// Those of the automaton of a repeat's child, whose positions are numbered from `base` on.
+pub fn ends_of(a: Automaton, base: usize) -> Ends
+    ensures { λ r. ⌜ Moved (a .last) base (r .last) × Moved (a .first) base (r .first) ⌝ }
+{
+    let ends = a.last;
+    let begins = a.first;
+    Ends {
+        last: ends.moved(base),
+        first: begins.moved(base),
+    }
 }

@@ -469,3 +469,106 @@ module _ (s : Set) (p : ℕ) where
   -- From 128 on none is held.
   pub first-past : 128 ≤ p → FirstFrom s p p
   first-past h = record { from = omega arith; skipped = λ q k l. absurd (omega arith); held = λ l. absurd (omega arith) }
+
+-- ---- A set without its first position
+
+-- Nothing is left of a false side.
+and-false : (x y : Bool) → y ≡ false → (x && y) ≡ false
+and-false true y e = e
+and-false false y e = refl
+
+-- A test twice is that test.
+and-same : (x : Bool) → (x && x) ≡ x
+and-same true = refl
+and-same false = refl
+
+-- Bit 0 says whether n is odd or even.
+odd : (n : ℕ) → bit 0 n ≡ true → n % 2 ≡ 1
+odd n e = eqb-true (n % 2) 1 (sym (bit-first n) ∙ e)
+
+even : (n : ℕ) → bit 0 n ≡ false → n % 2 ≡ 0
+even n e = let u = eqb-false (n % 2) 1 (sym (bit-first n) ∙ e) in omega (arith, u, mod-lt n (zero-lt-suc 1))
+
+-- One less than a number has no 1 at the number's lowest 1, and the same bits above it: what both have is the number without that 1.
+less-lowest : (t n j : ℕ) → ((i : ℕ) → i < t → bit i n ≡ false) → bit t n ≡ true → (bit j n && bit j (n - 1)) ≡ (not (eqb j t) && bit j n)
+less-lowest zero n zero low there =
+    let o = odd n there in
+    and-false (bit 0 n) (bit 0 (n - 1)) (bit-first (n - 1) ∙ ne-eqb ((n - 1) % 2) 1 (λ e. omega arith))
+less-lowest zero n (suc j) low there =
+    let o = odd n there in
+    let half : (n - 1) / 2 ≡ n / 2 = omega arith in
+    ap₂ _&&_ (bit-suc j n) (bit-suc j (n - 1) ∙ ap (bit j) half) ∙ and-same (bit j (n / 2)) ∙ sym (bit-suc j n)
+    ∙ rw (eqb·suc-zero j)
+less-lowest (suc t) n zero low there =
+    let none = low 0 (zero-lt-suc t) in
+    rw none (sym (and-false (not (eqb 0 (suc t))) false refl))
+less-lowest (suc t) n (suc j) low there =
+    let o = even n (low 0 (zero-lt-suc t)) in
+    let half : (n - 1) / 2 ≡ n / 2 - 1 = omega arith in
+    ap₂ _&&_ (bit-suc j n) (bit-suc j (n - 1) ∙ ap (bit j) half)
+    ∙ less-lowest t (n / 2) j (λ i h. sym (bit-suc i n) ∙ low (suc i) (suc-le-suc h)) (sym (bit-suc t n) ∙ there)
+    ∙ ap₂ (λ x y. not x && y) (sym (eqb·suc-suc j t)) (sym (bit-suc j n))
+
+-- So the `and` of the two loses that bit and no other.
+lowest-off :
+    (t n j : ℕ)
+    → ((i : ℕ) → i < t → bit i n ≡ false)
+    → bit t n ≡ true
+    → bit j (bitAnd n (n - 1)) ≡ (not (eqb j t) && bit j n)
+lowest-off t n j low there = bit-op bitAnd _&&_ and-shr and-mod and-digits n (n - 1) j ∙ less-lowest t n j low there
+
+module _ (s : Set) (p : ℕ) (first : FirstFrom s 0 p) where
+  -- The first position is at or before any that is held.
+  first-least : (q : ℕ) → holds s q ≡ true → p ≤ q
+  first-least q h = go (leb p q) refl
+    where
+      go : (x : Bool) → leb p q ≡ x → p ≤ q
+      go true e = leb-true p q e
+      go false e = absurd (true≢false (sym h ∙ first .skipped q (omega arith) (leb-false p q e)))
+
+  -- it is in `low`, if a bit is there
+  pub rest-low : s .low < 2 ^ 64 → s .low ≢ 0 → Removed s p (record { low = bitAnd (s .low) (s .low - 1); high = s .high })
+  rest-low fits some q =
+      let (i, k, b) = some-bit 64 (s .low) fits some in
+      let upto = first-least i (holds-low s i k ∙ b) in
+      holds-by (record { low = bitAnd (s .low) (s .low - 1); high = s .high }) q
+      (λ h.
+      lowest-off p (s .low) q
+      (λ j l. sym (holds-low s j (omega arith)) ∙ first .skipped j (omega arith) l)
+      (sym (holds-low s p (omega arith)) ∙ first .held (omega arith))
+      ∙ ap (λ x. not (eqb q p) && x) (sym (holds-low s q h)))
+      (λ h l. sym (holds-high s q h l) ∙ rw (ne-eqb q p (λ e. omega arith)))
+      (λ h. and-false (not (eqb q p)) (holds s q) (holds-past s q h))
+
+  -- otherwise in `high`, if a bit is there
+  pub rest-high : s .low ≡ 0 → s .high < 2 ^ 64 → s .high ≢ 0 → Removed s p (record { low = 0; high = bitAnd (s .high) (s .high - 1) })
+  rest-high none fits some q =
+      let (i, k, b) = some-bit 64 (s .high) fits some in
+      let back : 64 + i - 64 ≡ i = omega arith in
+      let upto = first-least (64 + i) (holds-high s (64 + i) (omega arith) (omega arith) ∙ rw back b) in
+      let here = first .held (omega arith) in
+      let behind = beyond here (ltb p 64) refl in
+      holds-by (record { low = 0; high = bitAnd (s .high) (s .high - 1) }) q
+      (λ h. bit-zero q ∙ sym (and-false (not (eqb q p)) (holds s q) (nothing q h)))
+      (λ h l.
+      lowest-off (p - 64) (s .high) (q - 64)
+      (λ j m.
+      let same : 64 + j - 64 ≡ j = omega arith in
+      ap (λ (n : ℕ). bit n (s .high)) (sym same) ∙ sym (holds-high s (64 + j) (omega arith) (omega arith)) ∙ first .skipped (64 + j) (omega arith) (omega arith))
+      (sym (holds-high s p behind (omega arith)) ∙ here)
+      ∙ ap₂ (λ x y. not x && y) (same-test (q - 64) (p - 64) q p (λ e. omega arith) (λ e. omega arith)) (sym (holds-high s q h l)))
+      (λ h. and-false (not (eqb q p)) (holds s q) (holds-past s q h))
+    where
+      nothing : (j : ℕ) → j < 64 → holds s j ≡ false
+      nothing j h = holds-low s j h ∙ ap (bit j) none ∙ bit-zero j
+
+      beyond : holds s p ≡ true → (x : Bool) → ltb p 64 ≡ x → 64 ≤ p
+      beyond here true e = absurd (true≢false (sym here ∙ nothing p (ltb-true p 64 e)))
+      beyond here false e = ltb-false p 64 e
+
+-- Where no bit is in either, there is nothing to lose.
+pub rest-none : (s : Set) (p : ℕ) → s .low ≡ 0 → s .high ≡ 0 → Removed s p s
+rest-none s p low high q = nothing ∙ sym (and-false (not (eqb q p)) (holds s q) nothing)
+  where
+    nothing : holds s q ≡ false
+    nothing = holds-by s q (λ h. ap (bit q) low ∙ bit-zero q) (λ h l. ap (bit (q - 64)) high ∙ bit-zero (q - 64)) (λ h. refl)

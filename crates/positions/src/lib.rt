@@ -2,7 +2,7 @@
 ghost use mathlib.Core.Path.{_≡_};
 ghost use mathlib.Core.Bool.{true};
 ghost use mathlib.Core.Logic.{_↔_};
-ghost use Prim.Native.Nat.{_≤_, _<_};
+ghost use Prim.Native.Nat.{ℕ, _≤_, _<_};
 ghost use lib.Count.{trailingZeros};
 ghost use Rattle.positions.specs.Positions.{holds, Empty, Only, Added, Removed, Less, Joined, Met, Shared, Moved, FirstFrom};
 
@@ -55,6 +55,25 @@ impl Set {
             return p + zeros(self.high >> (p - 64));
         }
         p
+    }
+
+    // The set without its first position: so a loop over a set goes from one to the next without a shift.
+    pub fn rest(self) -> Set
+        ensures { λ r. ⌜ ((p : ℕ) → FirstFrom self 0 p → Removed self p r) ⌝ }
+    {
+        if self.low != 0 {
+            return Set {
+                low: self.low & (self.low - 1),
+                high: self.high,
+            };
+        }
+        if self.high != 0 {
+            return Set {
+                low: 0,
+                high: self.high & (self.high - 1),
+            };
+        }
+        self
     }
 
     // The set of p alone.

@@ -18,6 +18,7 @@ use Rattle.table.specs.Prepared.{OneLens}
 use Rattle.positions.specs.Positions.{holds}
 use Rattle.automaton.specs.declared.Side.the-variants.{Source, Sheet}
 use Rattle.automaton.specs.Rows.{automatonAt}
+use Rattle.paths.specs.declared.Ends.{Ends}
 use Rattle.lens.specs.declared.Wrote.{Wrote}
 use Rattle.lens.specs.declared.Wrote.the-variants.{Count, Full}
 use Rattle.lens.specs.declared.Mode.the-variants.{Get, Key}
@@ -47,7 +48,6 @@ use Rattle.books.specs.declared.Old.the-variants.{At, Nothing}
 use Rattle.books.specs.Looking.{partAt, trailOf, oldText, OldParsed, OldFits}
 use Rattle.steps.specs.declared.Cut.{Cut}
 use Rattle.steps.specs.declared.Halves.{Halves}
-use Rattle.steps.specs.declared.Ends.{Ends}
 use Rattle.steps.specs.declared.Next.{Next}
 use Rattle.steps.specs.Steps.{
   PlaceInside,

@@ -16,6 +16,7 @@ use Rattle.positions.specs.Positions.{holds, Moved}
 use Rattle.automaton.specs.declared.Side.{Side}
 use Rattle.automaton.specs.declared.Side.the-variants.{Source, Sheet}
 use Rattle.automaton.specs.Rows.{automatonAt, Describes}
+use Rattle.paths.specs.declared.Ends.{Ends}
 use Rattle.lens.specs.declared.Wrote.{Wrote}
 use Rattle.lens.specs.declared.Wrote.the-variants.{Count, Full}
 use Rattle.lens.specs.Emitting.{LensNode}
@@ -27,7 +28,6 @@ use Rattle.books.specs.Looking.{partAt, trailOf, oldText, OldFits}
 use Rattle.steps.specs.declared.Cut.{Cut}
 use Rattle.steps.specs.declared.Halves.{Halves}
 use Rattle.steps.specs.declared.Choice.{Choice}
-use Rattle.steps.specs.declared.Ends.{Ends}
 use Rattle.steps.specs.declared.Next.{Next}
 
 -- The place is one of the old source, and its node's positions begin at one of a set.

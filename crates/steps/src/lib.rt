@@ -6,11 +6,11 @@ use books::Old;
 use books::Place;
 use language::belongs;
 use lens::Wrote;
+use paths::Ends;
 use paths::border;
 use paths::find_path;
 use paths::first_loop;
 use paths::goes_left;
-use positions::Set;
 ghost use mathlib.Core.Path.{_≡_};
 ghost use Prim.Native.Nat.{_+_, _*_, _≤_};
 ghost use lib.ListN.{length};
@@ -44,12 +44,6 @@ pub struct Halves {
 pub struct Choice {
     pub arm: Spot,
     pub old: Old,
-}
-
-// The positions by which a part may end, and those by which one may begin.
-pub struct Ends {
-    pub last: Set,
-    pub first: Set,
 }
 
 // The old part that is next, and what is left behind it.
@@ -238,12 +232,7 @@ pub fn ends_of(prepared: &[u64], child: usize, side: Side, base: usize) -> Ends
     ensures { λ r. ⌜ EndsAre (now (prepared .entry)) child side base r ⌝ }
 {
     let part = automaton_of(prepared, child, side);
-    let ends = part.last;
-    let begins = part.first;
-    Ends {
-        last: ends.moved(base),
-        first: begins.moved(base),
-    }
+    paths::ends_of(part, base)
 }
 
 // The positions of an old text's node begin there; at no place, if there is none.

@@ -1,7 +1,7 @@
 -- What was written so far, and what is written directly behind it.
 use mathlib.Core.Path.{_≡_, refl, sym, ap, subst, _∙_}
 use mathlib.Core.List.{[], _∷_, _++_, append-assoc, append-nil}
-use mathlib.Core.Option.{Option}
+use mathlib.Core.Option.{Option, none, some}
 use Prim.Native.Nat.{ℕ, _≤_, _<_}
 use native.Mathlib.Omega.{arith}
 use lib.ListN.{length, take, length-append, take-append-drop}
@@ -16,8 +16,11 @@ use Rattle.lens.specs.declared.Wrote.the-variants.{Count, Full}
 use Rattle.lens.specs.Overlay.{Writes, overlay-fits, overlay-over, wrote-fits, wrote-over, writes-within, writes-full}
 use Rattle.lens.specs.Nodes.{same-lens}
 use Rattle.books.specs.declared.Book.{Book}
+use Rattle.books.specs.declared.Old.{Old}
+use Rattle.books.specs.declared.Old.the-variants.{At, Nothing}
+use Rattle.books.specs.declared.Place.{Place}
 use Rattle.books.specs.Listed.{unused}
-use Rattle.books.specs.Looking.{BookOver, SameEntries, same-all, same-then}
+use Rattle.books.specs.Looking.{partAt, oldText, BookOver, SameEntries, same-all, same-then}
 use Rattle.writer.specs.declared.Done.{Done}
 use Rattle.writer.specs.Writing.{Fitted, WithinBuffer, Progress, LensBehind, WritesBehind, WritesNext}
 
@@ -131,6 +134,24 @@ module _ {bytes deck : Text} where
       → WritesBehind bytes node deck old new done mid after r
   at-node {old = old} {new = new} {mid = mid} {after = after} {done = done} {r = r} l e w =
       record { writes = λ m f. subst (λ k. LensBehind bytes deck k old new done mid after r) (same-lens l m (sym e ∙ f)) w }
+
+  -- what is put onto the text at a place is written where the old text is that one,
+  pub old-put :
+      {node : ℕ} {old : Old} {p : Place} {new mid after : Text} {done r : Done}
+      → old ≡ At p
+      → WritesBehind bytes node deck (some (partAt deck p)) new done mid after r
+      → WritesBehind bytes node deck (oldText deck old) new done mid after r
+  unfolding oldText
+  old-put e w = rw e w
+
+  -- and what is created, where there is none
+  pub old-created :
+      {node : ℕ} {old : Old} {new mid after : Text} {done r : Done}
+      → old ≡ Nothing
+      → WritesBehind bytes node deck none new done mid after r
+      → WritesBehind bytes node deck (oldText deck old) new done mid after r
+  unfolding oldText
+  old-created e w = rw e w
 
   -- a lens that writes the same with every book
   pub behind-same :

@@ -1,20 +1,32 @@
 -- What the nodes below a node are given, of what it was given.
+use mathlib.Core.Path.{_≡_}
 use mathlib.Core.List.{List}
-use Prim.Native.Nat.{ℕ, _+_, _*_, _≤_}
+use Prim.Native.Nat.{ℕ, _+_, _-_, _*_, _≤_, _<_}
+use native.Mathlib.Nat.{sub-zero}
 use native.Mathlib.Omega.{arith}
-use lib.ListN.{length}
+use lib.ListN.{length, take}
 use Rattle.semantics.specs.Text.{Text}
-use Rattle.semantics.specs.Lens.{match, sheet}
+use Rattle.semantics.specs.Lens.{union, match, sheet, keyOf}
 use Rattle.semantics.specs.Table.{trees, lens}
-use Rattle.table.specs.Prepared.{OneLens}
+use Rattle.table.specs.Prepared.{OneLens, TwoLenses}
 use Rattle.lens.specs.Emitting.{LensNode}
+use Rattle.lens.specs.Nodes.{sizes-are, lens-below, left-below, right-below}
 use Rattle.lens.specs.Parsed.{Parsed, parsed-match}
 use Rattle.books.specs.declared.Book.{Book}
 use Rattle.books.specs.declared.Lookup.{Lookup}
-use Rattle.books.specs.Looking.{BookOver, SameEntries, OldFits, LookedUp, cards-fit-same}
+use Rattle.books.specs.declared.Old.{Old}
+use Rattle.books.specs.declared.Old.the-variants.{At, Nothing}
+use Rattle.books.specs.declared.Place.{Place}
+use Rattle.books.specs.Cards.{cardOf, printByte, key-short}
+use Rattle.books.specs.Looking.{BookOver, SameEntries, CardsFit, OldFits, LookedUp, cards-fit-same}
+use Rattle.decks.specs.declared.cards.Card.{Card}
+use Rattle.decks.specs.Dealing.{KeyCard}
+use Rattle.steps.specs.declared.Choice.{Choice}
 use Rattle.steps.specs.declared.Spot.{Spot}
-use Rattle.bookless.specs.Bookless.{NewGiven}
-use Rattle.writer.specs.Writing.{LooksIn, Ready}
+use Rattle.steps.specs.Steps.{ArmIs, Chosen}
+use Rattle.steps.specs.Stepping.{old-none, old-at}
+use Rattle.bookless.specs.Bookless.{NewGiven, Given, GivenOld}
+use Rattle.writer.specs.Writing.{LooksIn, Ready, EntryFound}
 
 -- ---- The book
 
@@ -40,6 +52,30 @@ found-fits {bytes} {deck} {child = child} looks looked =
           rw (place-is, ← child-is) (looks .entries-parsed i h);
     }
 
+-- a lookup at a node may be made,
+pub may-take : {bytes deck : Text} {prepared : List ℕ} {child : ℕ} {b : Book} → LensNode bytes prepared child → LooksIn bytes deck b → (BookOver 4096 b × (child < 128)) × (9216 ≤ length deck)
+may-take known looks = ((looks .over, omega (arith, known .inside, sizes-are (known .built .sized) .few-nodes)), looks .deck-room)
+
+-- and by the card of a sheet text's key it finds the entry
+pub entry-found :
+    {bytes deck new card : Text} {child : ℕ} {b : Book} {made : Card} {r : Lookup}
+    → length new ≤ 4096
+    → LooksIn bytes deck b
+    → KeyCard bytes child new card made
+    → ((bytes key : Text) → take (made .len - 0) card ≡ cardOf key → made .print ≡ printByte key → length key ≤ 4096 → CardsFit bytes deck b → LookedUp bytes deck child key b r)
+    → EntryFound bytes child deck new b r
+entry-found {new = new} short looks made finds =
+    record {
+      found = λ l e.
+          finds
+          _
+          (keyOf l new)
+          (rw sub-zero (made .card-is l e))
+          (made .print-is l e)
+          (omega (arith, short, key-short l new))
+          (looks .cards-fit);
+    }
+
 module _ {bytes : Text} {prepared : List ℕ} {node : ℕ} {deck : Text} {below : List ℕ} {b : Book} (ready : Ready bytes prepared node deck below b) where
   -- a node below, and the same book
   pub ready-below : {child : ℕ} → LensNode bytes prepared child → Ready bytes prepared child deck below b
@@ -56,7 +92,7 @@ module _ {bytes : Text} {prepared : List ℕ} {node : ℕ} {deck : Text} {below 
 -- ---- The sheet
 
 -- the whole sheet, at another node
-pub given-whole :
+given-whole :
     {bytes : Text} {spot spot′ : Spot} {new path path′ deck : Text}
     → NewGiven bytes spot new path deck
     → Parsed bytes (spot′ .node) sheet (spot′ .base) path′ new
@@ -70,3 +106,73 @@ pub given-match :
     → OneLens (trees bytes) (spot .node) child (λ l. lens (match n l))
     → NewGiven bytes (record { node = child; base = spot .base }) new path deck
 given-match given s = given-whole given (parsed-match (given .parsed) s)
+
+-- ---- The old text
+
+-- there is none,
+pub given-none : {bytes : Text} {spot : Spot} {new path deck : Text} → NewGiven bytes spot new path deck → GivenOld bytes spot new path Nothing deck
+given-none given = record { sheet-given = given; old-fits = old-none }
+
+-- or it stands at a place
+pub given-onto :
+    {bytes : Text} {spot : Spot} {new path deck : Text} {p : Place} → Given bytes spot new path p deck → GivenOld bytes spot new path (At p) deck
+given-onto given = record { sheet-given = given .sheet-given; old-fits = old-at (given .old-parsed) }
+
+pub given-at :
+    {bytes : Text} {spot : Spot} {new path deck : Text} {old : Old} {p : Place}
+    → GivenOld bytes spot new path old deck
+    → old ≡ At p
+    → Given bytes spot new path p deck
+given-at {p = p} given e = record { sheet-given = given .sheet-given; old-parsed = given .old-fits .fits p e }
+
+-- the child of a match has the entry that its key finds, and the book without it
+module _
+    {bytes : Text}
+    {prepared : List ℕ}
+    {child : ℕ}
+    {deck : Text}
+    {below : List ℕ}
+    {b : Book}
+    {new : Text}
+    {r : Lookup}
+    (ready : Ready bytes prepared child deck below b)
+    (entry : EntryFound bytes child deck new b r) where
+  pub found-ready : Ready bytes prepared child deck below (r .book)
+  found-ready =
+      let looked = entry .found (ready .lens-node .tree) (ready .lens-node .tree-is) in
+      ready-left ready (ready .lens-node) (looked .over) (looked .same-entries)
+
+  pub found-given : {base : ℕ} {path : Text} → NewGiven bytes (record { node = child; base = base }) new path deck → GivenOld bytes (record { node = child; base = base }) new path (r .old) deck
+  found-given given =
+      let looked = entry .found (ready .lens-node .tree) (ready .lens-node .tree-is) in
+      record { sheet-given = given; old-fits = found-fits (ready .looks-in) looked }
+
+-- the arm of a union has the union's sheet, and the old text if that is of the arm
+module _
+    {bytes : Text}
+    {prepared : List ℕ}
+    {spot : Spot}
+    {deck : Text}
+    {below : List ℕ}
+    {b : Book}
+    {left right : ℕ}
+    {new before after : Text}
+    {old : Old}
+    {r : Choice}
+    (ready : Ready bytes prepared (spot .node) deck below b)
+    (s : TwoLenses (trees bytes) (spot .node) left right (λ l m. lens (union l m)))
+    (given : GivenOld bytes spot new before old deck)
+    (chosen : Chosen prepared left right (spot .base) new before after old deck r) where
+  pub arm-is : ArmIs bytes (spot .node) (s .left) (s .right) new after old deck r
+  arm-is =
+      let known = ready .lens-node in
+      chosen .arm-is bytes (spot .node) (left-below known s) (right-below known s) s (given .sheet-given .parsed) (given .old-fits)
+
+  pub arm-lower : r .arm .node < spot .node
+  arm-lower = arm-is .lower
+
+  pub arm-ready : Ready bytes prepared (r .arm .node) deck below b
+  arm-ready = ready-below ready (lens-below (ready .lens-node) (arm-is .arm) (arm-is .lower) (arm-is .arm-is))
+
+  pub arm-given : GivenOld bytes (r .arm) new after (r .old) deck
+  arm-given = record { sheet-given = given-whole (given .sheet-given) (arm-is .sheet-parsed); old-fits = arm-is .old-parsed }

@@ -15,8 +15,9 @@ use Rattle.positions.specs.declared.Set.{Set}
 use Rattle.positions.specs.Positions.{holds}
 use Rattle.table.specs.Prepared.{OneLens}
 use Rattle.automaton.specs.declared.Side.the-variants.{Sheet}
+use Rattle.paths.specs.declared.Ends.{Ends}
 use Rattle.lens.specs.Reading.{firstPart, parts-none, parts-next}
-use Rattle.lens.specs.Cutting.{rest-lent}
+use Rattle.lens.specs.Cutting.{rest-lent, part-length}
 use Rattle.lens.specs.Emitting.{LensNode}
 use Rattle.lens.specs.Nodes.{same-lens, child-below}
 use Rattle.lens.specs.Parsed.{Parsed, ParsedFrom, Ends as EndsOf, parsed-length, parsed-begin, loop-inside-from, loop-moves-from, loop-part-from, loop-rest-from, loop-is-part-from}
@@ -24,7 +25,6 @@ use Rattle.books.specs.declared.Book.{Book}
 use Rattle.books.specs.declared.Old.{Old}
 use Rattle.books.specs.declared.Old.the-variants.{Nothing}
 use Rattle.books.specs.Looking.{oldText, OldFits, BookOver, same-all, same-then}
-use Rattle.steps.specs.declared.Ends.{Ends}
 use Rattle.steps.specs.declared.Next.{Next}
 use Rattle.steps.specs.declared.Spot.{Spot}
 use Rattle.steps.specs.Steps.{EndsAre, nextOf, oldParts, firstOf, othersOf}
@@ -193,6 +193,13 @@ module _
           inside,
           omega (arith, inside, more, parsed-length (parting .parsed .rest), length-drop o path, length-drop o new),
         )
+
+    -- the path is as long when its part was lent and came back
+    pub part-back :
+        (part : List ℕ)
+        → length part ≡ length (take (o + i - o) (drop o path))
+        → length (take o path ++ (part ++ drop (o + i - o) (drop o path))) ≡ length path
+    part-back part as-long = part-length path part o (o + i) (omega arith) (part-inside .2) as-long
 
     pub part-given :
         {spot : Spot} {whole : List ℕ}

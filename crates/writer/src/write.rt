@@ -1,5 +1,7 @@
 // A lens writes the source of a sheet behind what was written: `put` onto an old text, `create` without one. The two call each other, and the node falls at each call. The book
 // goes from left to right; a node none of whose matches can find an entry writes without it. Cuts, arms and parts are read off the paths of the sheet and of the old source.
+// Each function on the way down holds the book twice, as it came and as it comes back: so `done` is written over where two calls follow each other, and what every node does with an old
+// text or none is no function of its own.
 use crate::Done;
 use automaton::Side;
 use bookless::write;
@@ -10,8 +12,8 @@ use books::Place;
 use decks::below::asks_none;
 use decks::cards::card_of;
 use lens::Wrote;
+use paths::Ends;
 use paths::first_loop;
-use steps::Ends;
 use steps::Spot;
 use steps::behind;
 use steps::choose;
@@ -86,7 +88,7 @@ fn plain_behind(
 
 // A sheet is put onto an old text. A node with no lens below it looks nothing up, so it writes without the book.
 pub fn put(
-    done: Done,
+    mut done: Done,
     bytes: &[u8],
     prepared: &[u64],
     spot: Spot,
@@ -116,26 +118,25 @@ pub fn put(
         Kind::LensJoin { left, right } => {
             let cut = cut_sheet(prepared, left, right, base, path);
             let i = cut.at;
-            let near = cut.left;
-            let far = cut.right;
             let halves = halves_of(prepared, left, place, deck);
-            let first = halves.first;
-            let second = halves.second;
             let front = &new[0..i];
             let track = &mut path[0..i];
-            let begun = put(done, bytes, prepared, near, front, track, first, deck, below, card, out);
+            done = put(done, bytes, prepared, cut.left, front, track, halves.first, deck, below, card, out);
             let back = &new[i..];
             let track = &mut path[i..];
-            put(begun, bytes, prepared, far, back, track, second, deck, below, card, out)
+            put(done, bytes, prepared, cut.right, back, track, halves.second, deck, below, card, out)
         }
         Kind::LensUnion { left, right } => {
             let choice = choose(prepared, left, right, base, new, path, old, deck);
             let arm = choice.arm;
             let kept = choice.old;
-            put_or_create(done, bytes, prepared, arm, new, path, kept, deck, below, card, out)
+            match kept {
+                Old::At(place) => put(done, bytes, prepared, arm, new, path, place, deck, below, card, out),
+                Old::Nothing => create(done, bytes, prepared, arm, new, path, deck, below, card, out),
+            }
         }
         Kind::LensRepeat { child } => {
-            write_parts(done, bytes, prepared, spot, child, new, path, old, deck, below, card, out)
+            write_repeat(done, bytes, prepared, spot, child, new, path, old, deck, below, card, out)
         }
         Kind::Match { child } => {
             let inner = Spot { node: child, base };
@@ -147,7 +148,7 @@ pub fn put(
 
 // A sheet, and no old text.
 pub fn create(
-    done: Done,
+    mut done: Done,
     bytes: &[u8],
     prepared: &[u64],
     spot: Spot,
@@ -176,23 +177,25 @@ pub fn create(
         Kind::LensJoin { left, right } => {
             let cut = cut_sheet(prepared, left, right, base, path);
             let i = cut.at;
-            let near = cut.left;
-            let far = cut.right;
             let front = &new[0..i];
             let track = &mut path[0..i];
-            let half = create(done, bytes, prepared, near, front, track, deck, below, card, out);
+            done = create(done, bytes, prepared, cut.left, front, track, deck, below, card, out);
             let back = &new[i..];
             let track = &mut path[i..];
-            create(half, bytes, prepared, far, back, track, deck, below, card, out)
+            create(done, bytes, prepared, cut.right, back, track, deck, below, card, out)
         }
         Kind::LensUnion { left, right } => {
+            // Without an old text none is left for the arm, but the contract of `choose` does not say so.
             let choice = choose(prepared, left, right, base, new, path, old, deck);
             let arm = choice.arm;
             let kept = choice.old;
-            put_or_create(done, bytes, prepared, arm, new, path, kept, deck, below, card, out)
+            match kept {
+                Old::At(place) => put(done, bytes, prepared, arm, new, path, place, deck, below, card, out),
+                Old::Nothing => create(done, bytes, prepared, arm, new, path, deck, below, card, out),
+            }
         }
         Kind::LensRepeat { child } => {
-            write_parts(done, bytes, prepared, spot, child, new, path, old, deck, below, card, out)
+            write_repeat(done, bytes, prepared, spot, child, new, path, old, deck, below, card, out)
         }
         Kind::Match { child } => {
             let inner = Spot { node: child, base };
@@ -202,12 +205,14 @@ pub fn create(
     }
 }
 
-// Put where there is an old text, create where there is none.
-fn put_or_create(
-    done: Done,
+// The parts of a repeat: part n of the sheet onto part n of the old text; parts left over are created.
+fn write_parts(
+    mut done: Done,
     bytes: &[u8],
     prepared: &[u64],
     spot: Spot,
+    child: usize,
+    ends: Ends,
     new: &[u8],
     path: &mut [u8],
     old: Old,
@@ -217,20 +222,41 @@ fn put_or_create(
     out: &mut [u8],
 ) -> Done
     requires { ⌜ Ready (now bytes) (now prepared) (spot .node) (now deck) (now below) (done .book) ⌝ }
+    requires { ⌜ OneLens (trees (now bytes)) (spot .node) child (λ l. lens (repeat l)) ⌝ }
+    requires { ⌜ EndsAre (now prepared) child Sheet (spot .base) ends ⌝ }
     requires { ⌜ GivenOld (now bytes) spot (now new) (now path) old (now deck) ⌝ }
     requires { ⌜ WithinBuffer done (now out) × (length (now card) ≡ 4098) ⌝ }
     ensures { λ r. ⌜ WritesBehind (now (bytes .entry)) (spot .node) (now (deck .entry)) (oldText (now (deck .entry)) old) (now (new .entry)) done (now (out .entry)) (now (out .exit)) r ⌝ }
 {
-    match old {
-        Old::At(place) => {
-            put(done, bytes, prepared, spot, new, path, place, deck, below, card, out)
+    let base = spot.base;
+    let part = Spot { node: child, base };
+    let last = ends.last;
+    let first = ends.first;
+    let olds = ends_of(prepared, child, Side::Source, old_base(old));
+    let mut left = old;
+    let mut o = 0;
+    while o < new.len() {
+        let e = o + first_loop(&path[o..], last, first);
+        let next = next_old(left, olds, deck);
+        let kept = next.part;
+        left = next.rest;
+        let piece = &new[o..e];
+        let track = &mut path[o..e];
+        match kept {
+            Old::At(place) => {
+                done = put(done, bytes, prepared, part, piece, track, place, deck, below, card, out);
+            }
+            Old::Nothing => {
+                done = create(done, bytes, prepared, part, piece, track, deck, below, card, out);
+            }
         }
-        Old::Nothing => create(done, bytes, prepared, spot, new, path, deck, below, card, out),
+        o = e;
     }
+    done
 }
 
-// A repeat: part n of the sheet onto part n of the old text; parts left over are created. A match does not look at the old text at its own place, so a repeat of one cuts none.
-fn write_parts(
+// A repeat. A match does not look at the old text at its own place, so a repeat of one cuts none.
+fn write_repeat(
     done: Done,
     bytes: &[u8],
     prepared: &[u64],
@@ -258,24 +284,7 @@ fn write_parts(
         let part = Spot { node: inner, base };
         return write_matches(done, bytes, prepared, spot, child, part, ends, new, path, deck, below, card, out);
     }
-    let part = Spot { node: child, base };
-    let last = ends.last;
-    let first = ends.first;
-    let olds = ends_of(prepared, child, Side::Source, old_base(old));
-    let mut done = done;
-    let mut left = old;
-    let mut o = 0;
-    while o < new.len() {
-        let e = o + first_loop(&path[o..], last, first);
-        let next = next_old(left, olds, deck);
-        let kept = next.part;
-        left = next.rest;
-        let piece = &new[o..e];
-        let track = &mut path[o..e];
-        done = put_or_create(done, bytes, prepared, part, piece, track, kept, deck, below, card, out);
-        o = e;
-    }
-    done
+    write_parts(done, bytes, prepared, spot, child, ends, new, path, old, deck, below, card, out)
 }
 
 // The entry that the key of a sheet text finds, and the book without it.
@@ -326,7 +335,10 @@ fn write_match(
     let rest = lookup.book;
     let found = lookup.old;
     let left = Done { wrote, book: rest };
-    put_or_create(left, bytes, prepared, spot, new, path, found, deck, below, card, out)
+    match found {
+        Old::At(place) => put(left, bytes, prepared, spot, new, path, place, deck, below, card, out),
+        Old::Nothing => create(left, bytes, prepared, spot, new, path, deck, below, card, out),
+    }
 }
 
 // A repeat of a match: each part onto the entry that its key finds. There is no match inside a match, so its child writes with no book.
@@ -362,7 +374,10 @@ fn write_matches(
         let e = o + first_loop(&path[o..], last, first);
         let piece = &new[o..e];
         let track = &mut path[o..e];
-        let lookup = find_entry(bytes, prepared, part, piece, track, deck, card, book);
+        // Looked up here and not by `find_entry`: so the book is not copied in and out for each part.
+        let made = card_of(bytes, prepared, part.node, part.base, piece, track, card);
+        let n = made.len;
+        let lookup = book.take(part.node, made.print, &card[0..n], deck);
         book = lookup.book;
         let found = lookup.old;
         wrote = next_plain(wrote, bytes, prepared, part, piece, track, found, deck, out);

@@ -4,77 +4,68 @@ use lib.Dec.{leb}
 use Rattle.automaton.specs.Rows.{shareIn}
 use Rattle.automaton.proofs.share.Statement.{statement}
 use Rattle.automaton.proofs.share.Tie as tie
+use Rattle.automaton.proofs.share.Reads as reads
+use Rattle.automaton.proofs.share.Lts as lts
+use Rattle.automaton.proofs.larger.Reads as larger-reads
+use Rattle.automaton.proofs.smaller.Reads as smaller-reads
 
-mul-i : tie.Need-mul-i
-mul-i c = search needs
+-- src/lib.rt:83:29
+mul-a : tie.Need-mul-a
+mul-a c = search needs
 
-add-i : tie.Need-add-i
-add-i c = search needs
+-- src/lib.rt:83:22
+add-a : tie.Need-add-a
+add-a c = search needs
 
-mul-j : tie.Need-mul-j
-mul-j c = search needs
+-- src/lib.rt:83:13
+mul-a-2 : tie.Need-mul-a-2
+mul-a-2 c = search needs
 
-add-j : tie.Need-add-j
-add-j c = search needs
+-- src/lib.rt:83:13
+shared-slice-read-a : tie.Need-shared-slice-read-a
+shared-slice-read-a c = search needs
 
-mul-larger : tie.Need-mul-larger
-mul-larger c = search needs
+-- src/lib.rt:84:29
+mul-b : tie.Need-mul-b
+mul-b c = search needs
 
-shared-slice-read-larger : tie.Need-shared-slice-read-larger
-shared-slice-read-larger c = search needs
+-- src/lib.rt:84:22
+add-b : tie.Need-add-b
+add-b c = search needs
 
-mul-larger-2 : tie.Need-mul-larger-2
-mul-larger-2 c = search needs
+-- src/lib.rt:84:13
+mul-b-2 : tie.Need-mul-b-2
+mul-b-2 c = search needs
 
-shared-slice-read-larger-2 : tie.Need-shared-slice-read-larger-2
-shared-slice-read-larger-2 c = search needs
+-- src/lib.rt:84:13
+shared-slice-read-b : tie.Need-shared-slice-read-b
+shared-slice-read-b c = search needs
 
+-- src/lib.rt:85:5
 larger-requires : tie.Need-larger-requires
 larger-requires c κs = search needs
 
-add-smaller : tie.Need-add-smaller
-add-smaller c = search needs
-
-mul-smaller : tie.Need-mul-smaller
-mul-smaller c = search needs
-
-shared-slice-read-smaller : tie.Need-shared-slice-read-smaller
-shared-slice-read-smaller c = search needs
-
-add-smaller-2 : tie.Need-add-smaller-2
-add-smaller-2 c = search needs
-
-mul-smaller-2 : tie.Need-mul-smaller-2
-mul-smaller-2 c = search needs
-
-shared-slice-read-smaller-2 : tie.Need-shared-slice-read-smaller-2
-shared-slice-read-smaller-2 c = search needs
-
+-- src/lib.rt:85:33
 smaller-requires : tie.Need-smaller-requires
 smaller-requires c κs = search needs
 
+-- src/lib.rt:78:1
 returns : tie.Need-returns
 unfolding shareIn
-returns c = ap₂ leb (c .before .before .before .larger .ensures) (c .smaller .ensures)
+returns c = ap₂ leb (c .before .larger .ensures) (c .smaller .ensures)
 
 pub share-spec : {M : Type 1} → statement M
 share-spec =
     tie.close
     (tie.spec
-    mul-i
-    add-i
-    mul-j
-    add-j
-    mul-larger
-    shared-slice-read-larger
-    mul-larger-2
-    shared-slice-read-larger-2
+    mul-a
+    add-a
+    mul-a-2
+    shared-slice-read-a
+    mul-b
+    add-b
+    mul-b-2
+    shared-slice-read-b
     larger-requires
-    add-smaller
-    mul-smaller
-    shared-slice-read-smaller
-    add-smaller-2
-    mul-smaller-2
-    shared-slice-read-smaller-2
     smaller-requires
     returns)

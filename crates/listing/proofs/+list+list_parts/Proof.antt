@@ -25,8 +25,8 @@ use Rattle.listing.proofs.+list+list_parts.Lts-list_parts as list-parts
 use Rattle.automaton.proofs.automaton_of.Reads as automaton-of-reads
 use Rattle.listing.proofs.list_match.Reads as list-match-reads
 use Rattle.listing.proofs.list_matches.Reads as list-matches-reads
-use Rattle.listing.proofs.part_ends.Reads as part-ends-reads
 use Rattle.paths.proofs.border.Reads as border-reads
+use Rattle.paths.proofs.ends_of.Reads as ends-of-reads
 use Rattle.paths.proofs.first_loop.Reads as first-loop-reads
 use Rattle.paths.proofs.goes_left.Reads as goes-left-reads
 use Rattle.table.proofs.Table.node.Reads as node-reads
@@ -57,7 +57,7 @@ abbrev list-calls : ℕ → list-lts.Claims
 list-calls t = (node-reads.Asked, node-reads.Learnt, list-match-reads.Asked, list-match-reads.Learnt, automaton-of-reads.Asked, automaton-of-reads.Learnt, goes-left-reads.Asked, goes-left-reads.Learnt, list-below t, list.Post, border-reads.Asked, border-reads.Learnt, list-parts-below t, list-parts.Post)
 
 abbrev list-parts-calls : ℕ → list-parts-lts.Claims
-list-parts-calls t = (node-reads.Asked, node-reads.Learnt, list-matches-reads.Asked, list-matches-reads.Learnt, part-ends-reads.Asked, part-ends-reads.Learnt, first-loop-reads.Asked, first-loop-reads.Learnt, list-below t, list.Post)
+list-parts-calls t = (node-reads.Asked, node-reads.Learnt, list-matches-reads.Asked, list-matches-reads.Learnt, automaton-of-reads.Asked, automaton-of-reads.Learnt, ends-of-reads.Asked, ends-of-reads.Learnt, first-loop-reads.Asked, first-loop-reads.Learnt, list-below t, list.Post)
 
 list-node-requires : (t : ℕ) → list-lts.Need-node-requires (list-calls t) (list-at t) list.Post
 list-node-requires t c κs = search needs
@@ -265,15 +265,18 @@ list-parts-list-matches-requires t c κs =
 list-parts-returns : (t : ℕ) → list-parts-lts.Need-returns (list-parts-calls t) (list-parts-at t) list-parts.Post list-parts-Inv-loop list-parts-μ-loop
 list-parts-returns t c = c .list-matches .ensures
 
-list-parts-part-ends-requires : (t : ℕ) → list-parts-lts.Need-part-ends-requires (list-parts-calls t) (list-parts-at t) list-parts.Post list-parts-Inv-loop list-parts-μ-loop
-list-parts-part-ends-requires t c κs =
+list-parts-automaton-of-requires : (t : ℕ) → list-parts-lts.Need-automaton-of-requires (list-parts-calls t) (list-parts-at t) list-parts.Post list-parts-Inv-loop list-parts-μ-loop
+list-parts-automaton-of-requires t c κs =
     let s = c .before .before .before .before .before .before in
     node-words (s .pre .1 .0 .built) (lt-trans (s .pre .1 .1 .0 .0) (s .pre .1 .1 .0 .1))
 
+list-parts-ends-of-requires : (t : ℕ) → list-parts-lts.Need-ends-of-requires (list-parts-calls t) (list-parts-at t) list-parts.Post list-parts-Inv-loop list-parts-μ-loop
+list-parts-ends-of-requires t c κs = search needs
+
 list-parts-loop-holds : (t : ℕ) → list-parts-lts.Need-loop-holds (list-parts-calls t) (list-parts-at t) list-parts.Post list-parts-Inv-loop list-parts-μ-loop
 list-parts-loop-holds t c =
-    let s = c .before .before .before .before .before .before .before .before .before in
-    repeated-begin (s .pre .1 .0) (s .pre .1 .1 .0 .1) (s .pre .1 .1 .1 .1) (s .pre .1 .1 .1 .0) (c .before .before .part-ends .ensures)
+    let s = c .before .before .before .before .before .before .before .before .before .before in
+    repeated-begin (s .pre .1 .0) (s .pre .1 .1 .0 .1) (s .pre .1 .1 .1 .1) (s .pre .1 .1 .1 .0) (c .before .before .before .automaton-of .ensures) (c .before .before .ends-of .ensures)
 
 list-parts-sub-first-loop : (t : ℕ) → list-parts-lts.Need-sub-first-loop (list-parts-calls t) (list-parts-at t) list-parts.Post list-parts-Inv-loop list-parts-μ-loop
 list-parts-sub-first-loop t c = path-reaches (c .before .loop .inv)
@@ -291,16 +294,16 @@ list-parts-first-loop-requires t c κs = path-left (c .before .before .loop .inv
 list-parts-turn :
     (t : ℕ)
     (c : list-parts-lts.After-first-loop (list-parts-calls t) (list-parts-at t) list-parts.Post list-parts-Inv-loop list-parts-μ-loop)
-    → let s = c .before .before .before .before .before .before .before .before .before .before .before .before .before in
+    → let s = c .before .before .before .before .before .before .before .before .before .before .before .before .before .before in
     let o = c .before .before .before .loop .o in
     Turn (s .args .bytes .now) (s .args .child) (s .args .base) (s .args .path .now) (s .args .text .now) o (c .first-loop .result)
 list-parts-turn t c =
-    let s = c .before .before .before .before .before .before .before .before .before .before .before .before .before in
+    let s = c .before .before .before .before .before .before .before .before .before .before .before .before .before .before in
     turn (c .before .before .before .loop .inv) (s .pre .1 .1 .1 .0) (c .before .before .loop-test .taken) (c .first-loop .ensures)
 
 list-parts-add-e : (t : ℕ) → list-parts-lts.Need-add-e (list-parts-calls t) (list-parts-at t) list-parts.Post list-parts-Inv-loop list-parts-μ-loop
 list-parts-add-e t c =
-    let s = c .before .before .before .before .before .before .before .before .before .before .before .before .before in
+    let s = c .before .before .before .before .before .before .before .before .before .before .before .before .before .before in
     omega (arith, list-parts-turn t c .within, s .pre .1 .0 .place-small)
 
 list-parts-sub-cut : (t : ℕ) → list-parts-lts.Need-sub-cut (list-parts-calls t) (list-parts-at t) list-parts.Post list-parts-Inv-loop list-parts-μ-loop
@@ -323,12 +326,12 @@ list-parts-part-list-end t c = list-parts-turn t (c .before) .on-path
 
 list-parts-add-list : (t : ℕ) → list-parts-lts.Need-add-list (list-parts-calls t) (list-parts-at t) list-parts.Post list-parts-Inv-loop list-parts-μ-loop
 list-parts-add-list t c =
-    let s = c .before .before .before .before .before .before .before .before .before .before .before .before .before .before .before in
+    let s = c .before .before .before .before .before .before .before .before .before .before .before .before .before .before .before .before in
     omega (arith, s .pre .1 .0 .place-small, list-parts-turn t (c .before .before) .within)
 
 list-parts-list-requires : (t : ℕ) → list-parts-lts.Need-list-requires (list-parts-calls t) (list-parts-at t) list-parts.Post list-parts-Inv-loop list-parts-μ-loop
 list-parts-list-requires t c κs =
-    let s = c .before .before .before .before .before .before .before .before .before .before .before .before .before .before .before in
+    let s = c .before .before .before .before .before .before .before .before .before .before .before .before .before .before .before .before in
     let found = list-parts-turn t (c .before .before) in
     let known = c .before .before .before .before .before .loop .inv .lists-done in
     let end = c .before .before .before .before .before .loop .o + c .before .before .first-loop .result in
@@ -338,7 +341,7 @@ list-parts-list-requires t c κs =
 
 list-parts-returns-2 : (t : ℕ) → list-parts-lts.Need-returns-2 (list-parts-calls t) (list-parts-at t) list-parts.Post list-parts-Inv-loop list-parts-μ-loop
 list-parts-returns-2 t c =
-    let s = c .before .before .before .before .before .before .before .before .before .before .before .before .before .before .before .before .before in
+    let s = c .before .before .before .before .before .before .before .before .before .before .before .before .before .before .before .before .before .before in
     repeated-over (c .before .before .before .before .before .before .before .loop .inv) (s .pre .1 .1 .1 .0) (c .before .before .before .before .before .before .loop-test .taken) (c .before .before .before .before .first-loop .ensures) (c .before .list .ensures) (c .if1 .taken)
 
 list-parts-loop-less : (t : ℕ) → list-parts-lts.Need-loop-less (list-parts-calls t) (list-parts-at t) list-parts.Post list-parts-Inv-loop list-parts-μ-loop
@@ -348,7 +351,7 @@ list-parts-loop-less t c =
 
 list-parts-loop-again : (t : ℕ) → list-parts-lts.Need-loop-again (list-parts-calls t) (list-parts-at t) list-parts.Post list-parts-Inv-loop list-parts-μ-loop
 list-parts-loop-again t c =
-    let s = c .before .before .before .before .before .before .before .before .before .before .before .before .before .before .before .before .before .before in
+    let s = c .before .before .before .before .before .before .before .before .before .before .before .before .before .before .before .before .before .before .before in
     repeated-next (c .before .before .before .before .before .before .before .before .loop .inv) (s .pre .1 .1 .1 .0) (c .before .before .before .before .before .before .before .loop-test .taken) (c .before .before .before .before .before .first-loop .ensures) (c .before .before .list .ensures) (c .before .if1 .left)
 
 list-parts-returns-3 : (t : ℕ) → list-parts-lts.Need-returns-3 (list-parts-calls t) (list-parts-at t) list-parts.Post list-parts-Inv-loop list-parts-μ-loop
@@ -405,7 +408,8 @@ pub +list+list-parts-spec : {M : Type 1} → statement M
     (list-parts-enum-known-kind t)
     (list-parts-list-matches-requires t)
     (list-parts-returns t)
-    (list-parts-part-ends-requires t)
+    (list-parts-automaton-of-requires t)
+    (list-parts-ends-of-requires t)
     (list-parts-loop-holds t)
     (list-parts-sub-first-loop t)
     (list-parts-part-first-loop-start t)

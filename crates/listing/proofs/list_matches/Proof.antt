@@ -16,15 +16,18 @@ Inv-loop bytes prepared node child inner base text path at book₀ last first o�
 abbrev μ-loop : tie.MeasureT-loop
 μ-loop bytes prepared node child inner base text path at book₀ last first o₀ book o = length text - o
 
-part-ends-requires : tie.Need-part-ends-requires Inv-loop μ-loop
-part-ends-requires c κs =
+automaton-of-requires : tie.Need-automaton-of-requires Inv-loop μ-loop
+automaton-of-requires c κs =
     let s = c .before .before .before .before in
     node-words (s .pre .0 .built) (lt-trans (s .pre .1 .0 .0) (s .pre .1 .0 .1))
 
+ends-of-requires : tie.Need-ends-of-requires Inv-loop μ-loop
+ends-of-requires c κs = search needs
+
 loop-holds : tie.Need-loop-holds Inv-loop μ-loop
 loop-holds c =
-    let s = c .before .before .before .before .before .before .before in
-    repeated-begin (s .pre .0) (s .pre .1 .0 .1) (s .pre .1 .1 .1 .1) (s .pre .1 .1 .0) (c .before .before .part-ends .ensures)
+    let s = c .before .before .before .before .before .before .before .before in
+    repeated-begin (s .pre .0) (s .pre .1 .0 .1) (s .pre .1 .1 .1 .1) (s .pre .1 .1 .0) (c .before .before .before .automaton-of .ensures) (c .before .before .ends-of .ensures)
 
 sub-first-loop : tie.Need-sub-first-loop Inv-loop μ-loop
 sub-first-loop c = path-reaches (c .before .loop .inv)
@@ -40,14 +43,14 @@ first-loop-requires c κs = path-left (c .before .before .loop .inv) (c .before 
 
 add-e : tie.Need-add-e Inv-loop μ-loop
 add-e c =
-    let s = c .before .before .before .before .before .before .before .before .before .before .before in
+    let s = c .before .before .before .before .before .before .before .before .before .before .before .before in
     let known = c .before .before .before .loop .inv in
     let found = turn known (s .pre .1 .1 .0) (c .before .before .loop-test .taken) (c .first-loop .ensures) in
     omega (arith, found .within, s .pre .0 .place-small)
 
 returns : tie.Need-returns Inv-loop μ-loop
 returns c =
-    let s = c .before .before .before .before .before .before .before .before .before .before .before .before in
+    let s = c .before .before .before .before .before .before .before .before .before .before .before .before .before in
     let known = c .before .before .before .before .loop .inv in
     let found = turn known (s .pre .1 .1 .0) (c .before .before .before .loop-test .taken) (c .before .first-loop .ensures) in
     let full = part-full (s .pre .1 .1 .1 .0) found (known .lists-done .sized) (s .args .at) (c .if1 .taken) in
@@ -55,14 +58,14 @@ returns c =
 
 add-book : tie.Need-add-book Inv-loop μ-loop
 add-book c =
-    let s = c .before .before .before .before .before .before .before .before .before .before .before .before in
+    let s = c .before .before .before .before .before .before .before .before .before .before .before .before .before in
     let known = c .before .before .before .before .loop .inv in
     let found = turn known (s .pre .1 .1 .0) (c .before .before .before .loop-test .taken) (c .before .first-loop .ensures) in
     omega (arith, found .within, s .pre .0 .place-small)
 
 cast-book : tie.Need-cast-book Inv-loop μ-loop
 cast-book c =
-    let s = c .before .before .before .before .before .before .before .before .before .before .before .before in
+    let s = c .before .before .before .before .before .before .before .before .before .before .before .before .before in
     let known = c .before .before .before .before .loop .inv in
     let found = turn known (s .pre .1 .1 .0) (c .before .before .before .loop-test .taken) (c .before .first-loop .ensures) in
     omega (arith, found .within, s .pre .0 .place-small)
@@ -78,7 +81,7 @@ sub-book c = search needs
 
 cast-book-2 : tie.Need-cast-book-2 Inv-loop μ-loop
 cast-book-2 c =
-    let s = c .before .before .before .before .before .before .before .before .before .before .before .before in
+    let s = c .before .before .before .before .before .before .before .before .before .before .before .before .before in
     let known = c .before .before .before .before .loop .inv in
     let found = turn known (s .pre .1 .1 .0) (c .before .before .before .loop-test .taken) (c .before .first-loop .ensures) in
     omega (arith, found .within, s .pre .0 .place-small)
@@ -90,14 +93,14 @@ element-write-book-2 : tie.Need-element-write-book-2 Inv-loop μ-loop
 element-write-book-2 c = omega (arith, c .before .before .before .before .loop .inv .lists-done .few, c .if1 .left)
 
 cast-book-3 : tie.Need-cast-book-3 Inv-loop μ-loop
-cast-book-3 c = omega (arith, c .before .before .before .before .before .before .before .before .before .before .before .before .pre .1 .1 .1 .1 .few)
+cast-book-3 c = omega (arith, c .before .before .before .before .before .before .before .before .before .before .before .before .before .pre .1 .1 .1 .1 .few)
 
 element-write-book-3 : tie.Need-element-write-book-3 Inv-loop μ-loop
 element-write-book-3 c = omega (arith, c .before .before .before .before .loop .inv .lists-done .few, c .if1 .left)
 
 cast-book-4 : tie.Need-cast-book-4 Inv-loop μ-loop
 cast-book-4 c =
-    let s = c .before .before .before .before .before .before .before .before .before .before .before .before in
+    let s = c .before .before .before .before .before .before .before .before .before .before .before .before .before in
     let small = node-small (s .pre .0 .built) (s .pre .1 .0 .1) in
     omega (arith, s .pre .1 .1 .1 .0 .lower, s .pre .1 .0 .0, small)
 
@@ -109,7 +112,7 @@ element-write-book-5 c = omega (arith, c .before .before .before .before .loop .
 
 with-requires : tie.Need-with-requires Inv-loop μ-loop
 with-requires c κs =
-    let s = c .before .before .before .before .before .before .before .before .before .before .before .before .before in
+    let s = c .before .before .before .before .before .before .before .before .before .before .before .before .before .before in
     let small = node-small (s .pre .0 .built) (s .pre .1 .0 .1) in
     omega (arith, s .pre .1 .1 .1 .0 .lower, s .pre .1 .0 .0, small)
 
@@ -118,14 +121,14 @@ add-book-2 c = omega (arith, c .before .before .before .before .before .before .
 
 loop-less : tie.Need-loop-less Inv-loop μ-loop
 loop-less c =
-    let s = c .before .before .before .before .before .before .before .before .before .before .before .before .before .before in
+    let s = c .before .before .before .before .before .before .before .before .before .before .before .before .before .before .before in
     let known = c .before .before .before .before .before .before .loop .inv in
     let found = turn known (s .pre .1 .1 .0) (c .before .before .before .before .before .loop-test .taken) (c .before .before .before .first-loop .ensures) in
     omega (arith, found .moves, found .within)
 
 loop-again : tie.Need-loop-again Inv-loop μ-loop
 loop-again c =
-    let s = c .before .before .before .before .before .before .before .before .before .before .before .before .before .before in
+    let s = c .before .before .before .before .before .before .before .before .before .before .before .before .before .before .before in
     let known = c .before .before .before .before .before .before .loop .inv in
     let found = turn known (s .pre .1 .1 .0) (c .before .before .before .before .before .loop-test .taken) (c .before .before .before .first-loop .ensures) in
     let few : c .before .before .before .before .before .before .loop .book .count < 256 = omega (arith, known .lists-done .few, c .before .before .if1 .left) in
@@ -141,7 +144,8 @@ list-matches-spec =
     (tie.spec
     Inv-loop
     μ-loop
-    part-ends-requires
+    automaton-of-requires
+    ends-of-requires
     loop-holds
     sub-first-loop
     part-first-loop-start

@@ -2,7 +2,6 @@
 use native.Mathlib.Omega.{arith}
 use borrow.Author.Needs.{needs}
 use Rattle.paths.proofs.Stepping.{alone-lowest}
-use borrow.Author.Needs.{needs}
 use Rattle.paths.proofs.alone.Statement.{statement}
 use Rattle.paths.proofs.alone.Tie as tie
 

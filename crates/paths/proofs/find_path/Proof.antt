@@ -14,26 +14,17 @@ same-length c = search needs
 returns : tie.Need-returns
 returns c = walked-all (c .before .before .before .before .walk-alone .ensures) (c .if1 .taken) (c .before .before .before .before .walk-alone .kept .1 .1 .1 .0 ∙ c .before .before .before .before .before .before .before .before .before .before .pre .1 .1)
 
-choose-short-requires : tie.Need-choose-short-requires
-choose-short-requires c κs = (c .before .before .before .before .before .before .before .before .before .before .before .before .pre .0, ((c .before .if2 .taken, c .before .before .before .before .before .before .walk-alone .kept .1 .1 .1 .0 ∙ c .before .before .before .before .before .before .before .before .before .before .before .before .pre .1 .1), c .before .before .before .before .before .before .walk-alone .ensures))
+choose-way-requires : tie.Need-choose-way-requires
+choose-way-requires c κs = (c .before .before .before .before .before .before .before .before .before .before .before .before .pre .0, (c .before .before .before .before .before .before .before .before .before .before .before .before .pre .1 .0, (c .before .before .before .before .before .before .walk-alone .kept .1 .1 .1 .0 ∙ c .before .before .before .before .before .before .before .before .before .before .before .before .pre .1 .1, c .before .before .before .before .before .before .walk-alone .ensures)))
 
 same-length-2 : tie.Need-same-length-2
 same-length-2 c = search needs
 
-returns-2 : tie.Need-returns-2
-returns-2 c = search needs
-
-choose-requires : tie.Need-choose-requires
-choose-requires c κs = (c .before .before .before .before .before .before .before .before .before .before .before .before .before .pre .0, ((c .before .before .before .before .before .before .before .before .before .before .before .before .before .pre .1 .0 .long-room (c .before .before .if2 .left), c .before .before .before .before .before .before .before .before .before .before .before .before .before .pre .1 .0 .bounded), (c .before .before .before .before .before .before .before .walk-alone .kept .1 .1 .1 .0 ∙ c .before .before .before .before .before .before .before .before .before .before .before .before .before .pre .1 .1, c .before .before .before .before .before .before .before .walk-alone .ensures)))
-
 same-length-3 : tie.Need-same-length-3
 same-length-3 c = search needs
 
-same-length-4 : tie.Need-same-length-4
-same-length-4 c = search needs
-
-returns-3 : tie.Need-returns-3
-returns-3 c = search needs
+returns-2 : tie.Need-returns-2
+returns-2 c = search needs
 
 pub find-path-spec : {M : Type 1} → statement M
 find-path-spec =
@@ -42,10 +33,7 @@ find-path-spec =
     walk-alone-requires
     same-length
     returns
-    choose-short-requires
+    choose-way-requires
     same-length-2
-    returns-2
-    choose-requires
     same-length-3
-    same-length-4
-    returns-3)
+    returns-2)

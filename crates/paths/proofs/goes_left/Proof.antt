@@ -2,7 +2,6 @@
 use native.Mathlib.Omega.{arith}
 use borrow.Author.Needs.{needs}
 use Rattle.paths.proofs.Readings.{goes-first, goes-empty}
-use borrow.Author.Needs.{needs}
 use Rattle.paths.proofs.goes_left.Statement.{statement}
 use Rattle.paths.proofs.goes_left.Tie as tie
 

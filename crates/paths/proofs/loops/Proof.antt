@@ -3,7 +3,6 @@ use mathlib.Core.Path.{sym, _∙_}
 use Rattle.positions.specs.Positions.{holds}
 use borrow.Author.Needs.{needs}
 use Rattle.paths.proofs.Readings.{both-tests, second-fails}
-use borrow.Author.Needs.{needs}
 use Rattle.paths.proofs.loops.Statement.{statement}
 use Rattle.paths.proofs.loops.Tie as tie
 

@@ -2,7 +2,6 @@
 use mathlib.Core.Path.{refl, _∙_}
 use borrow.Author.Needs.{needs}
 use Rattle.language.proofs.Steps.{counted}
-use borrow.Author.Needs.{needs}
 use Rattle.paths.proofs.past.Statement.{statement}
 use Rattle.paths.proofs.past.Tie as tie
 

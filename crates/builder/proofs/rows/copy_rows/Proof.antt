@@ -11,13 +11,13 @@ use Rattle.builder.proofs.rows.copy_rows.Statement.{statement}
 use Rattle.builder.proofs.rows.copy_rows.Tie as tie
 
 abbrev Inv-loop : tie.InvT-loop
-Inv-loop prepared₀ from to count up last more first earlier p₀ prepared p = (p ≤ count) × Copied from to p up last more first earlier prepared₀ prepared
+Inv-loop prepared₀ from to count up last more p₀ prepared p = (p ≤ count) × Copied from to p up last more prepared₀ prepared
 
 abbrev μ-loop : tie.MeasureT-loop
-μ-loop prepared₀ from to count up last more first earlier p₀ prepared p = count - p
+μ-loop prepared₀ from to count up last more p₀ prepared p = count - p
 
 loop-holds : tie.Need-loop-holds Inv-loop μ-loop
-loop-holds c = (omega arith, copied-none (c .before .args .from) (c .before .args .to) (c .before .args .up) (c .before .args .last) (c .before .args .more) (c .before .args .first) (c .before .args .earlier) _)
+loop-holds c = (omega arith, copied-none (c .before .args .from) (c .before .args .to) (c .before .args .up) (c .before .args .last) (c .before .args .more) _)
 
 has-requires : tie.Need-has-requires Inv-loop μ-loop
 has-requires c κs = search needs
@@ -25,20 +25,14 @@ has-requires c κs = search needs
 only-if-requires : tie.Need-only-if-requires Inv-loop μ-loop
 only-if-requires c κs = search needs
 
-has-requires-2 : tie.Need-has-requires-2 Inv-loop μ-loop
-has-requires-2 c κs = search needs
-
-only-if-requires-2 : tie.Need-only-if-requires-2 Inv-loop μ-loop
-only-if-requires-2 c κs = search needs
-
 add-copy-row : tie.Need-add-copy-row Inv-loop μ-loop
-add-copy-row c = omega (arith, c .before .before .before .before .before .before .loop .inv .1 .rest .same-length)
+add-copy-row c = omega (arith, c .before .before .before .before .loop .inv .1 .rest .same-length)
 
 add-copy-row-2 : tie.Need-add-copy-row-2 Inv-loop μ-loop
-add-copy-row-2 c = omega (arith, c .before .before .before .before .before .before .loop .inv .1 .rest .same-length)
+add-copy-row-2 c = omega (arith, c .before .before .before .before .loop .inv .1 .rest .same-length)
 
 copy-row-requires : tie.Need-copy-row-requires Inv-loop μ-loop
-copy-row-requires c κs = omega (arith, c .before .before .before .before .before .before .loop .inv .1 .rest .same-length)
+copy-row-requires c κs = omega (arith, c .before .before .before .before .loop .inv .1 .rest .same-length)
 
 add-p : tie.Need-add-p Inv-loop μ-loop
 add-p c = search needs
@@ -49,10 +43,9 @@ loop-less c = search needs
 loop-again : tie.Need-loop-again Inv-loop μ-loop
 loop-again c = (
   omega arith,
-  copied-more (c .before .before .before .before .before .before .before .before .before .before .before .args .from) (c .before .before .before .before .before .before .before .before .before .before .before .args .to) (c .before .before .before .before .before .before .before .before .before .before .before .args .up) (c .before .before .before .before .before .before .before .before .before .before .before .args .last) (c .before .before .before .before .before .before .before .before .before .before .before .args .more) (c .before .before .before .before .before .before .before .before .before .before .before .args .first) (c .before .before .before .before .before .before .before .before .before .before .before .args .earlier) (c .before .before .before .before .before .before .before .before .before .loop .p) _ _ _ (c .before .before .before .before .before .before .only-if .result) (c .before .before .before .before .only-if2 .result) (omega arith)
-      (λ q. c .before .before .before .before .before .before .only-if .ensures q ∙ ap (λ (b : Bool). b && holds (c .before .before .before .before .before .before .before .before .before .before .before .args .more) q) (c .before .before .before .before .before .before .before .has .ensures))
-      (λ q. c .before .before .before .before .only-if2 .ensures q ∙ ap (λ (b : Bool). b && holds (c .before .before .before .before .before .before .before .before .before .before .before .args .earlier) q) (c .before .before .before .before .before .has2 .ensures))
-      (c .before .before .before .before .before .before .before .before .before .loop .inv .1)
+  copied-more (c .before .before .before .before .before .before .before .before .before .args .from) (c .before .before .before .before .before .before .before .before .before .args .to) (c .before .before .before .before .before .before .before .before .before .args .up) (c .before .before .before .before .before .before .before .before .before .args .last) (c .before .before .before .before .before .before .before .before .before .args .more) (c .before .before .before .before .before .before .before .loop .p) _ _ _ (c .before .before .before .before .only-if .result) (omega arith)
+      (λ q. c .before .before .before .before .only-if .ensures q ∙ ap (λ (b : Bool). b && holds (c .before .before .before .before .before .before .before .before .before .args .more) q) (c .before .before .before .before .before .has .ensures))
+      (c .before .before .before .before .before .before .before .loop .inv .1)
       (c .before .before .copy-row .ensures .0)
       (c .before .before .copy-row .ensures .1),
 )
@@ -74,8 +67,6 @@ copy-rows-spec =
     loop-holds
     has-requires
     only-if-requires
-    has-requires-2
-    only-if-requires-2
     add-copy-row
     add-copy-row-2
     copy-row-requires

@@ -1,5 +1,8 @@
 -- `builder::rows::put_row` meets its contract. Assumes nothing.
 use Rattle.builder.proofs.Steps.{row-put}
+use mathlib.Core.Path.{_∙_}
+use native.Mathlib.Omega.{arith}
+use lib.ListN.{length-set}
 use borrow.Author.Needs.{needs}
 use Rattle.builder.proofs.rows.put_row.Statement.{statement}
 use Rattle.builder.proofs.rows.put_row.Tie as tie
@@ -10,26 +13,23 @@ mul-i c = search needs
 add-i : tie.Need-add-i
 add-i c = search needs
 
-put-two-requires : tie.Need-put-two-requires
-put-two-requires c κs = search needs
+mul-prepared : tie.Need-mul-prepared
+mul-prepared c = search needs
+
+slice-write-prepared : tie.Need-slice-write-prepared
+slice-write-prepared c = search needs
 
 add-put-two : tie.Need-add-put-two
 add-put-two c = search needs
 
-put-two-requires-2 : tie.Need-put-two-requires-2
-put-two-requires-2 c κs = search needs
-
-add-put-two-2 : tie.Need-add-put-two-2
-add-put-two-2 c = search needs
-
-put-two-requires-3 : tie.Need-put-two-requires-3
-put-two-requires-3 c κs = search needs
+put-two-requires : tie.Need-put-two-requires
+put-two-requires c κs = simp length-set (omega arith)
 
 same-length : tie.Need-same-length
-same-length c = search needs
+same-length c = c .before .before .put-two .ensures .rest .same-length ∙ length-set (c .before .before .before .before .before .args .prepared .now) _ (c .before .before .before .before .before .args .range)
 
 returns : tie.Need-returns
-returns c = row-put _ _ _ _ (c .before .before .before .before .before .before .before .before .before .before .before .before .before .args .row) (c .before .before .before .before .before .before .before .before .before .before .before .before .before .args .low) (c .before .before .before .before .before .before .before .before .before .before .before .before .before .args .high) (c .before .before .before .before .before .before .before .before .before .before .before .before .before .args .follow) (c .before .before .before .before .before .before .before .before .before .before .before .before .before .args .earlier) (c .before .before .before .before .before .before .before .before .before .before .put-two .ensures) (c .before .before .before .before .before .before .put-two2 .ensures) (c .before .before .put-two3 .ensures)
+returns c = row-put (c .before .before .before .before .before .args .prepared .now) _ (c .before .before .before .before .before .args .row) (c .before .before .before .before .before .args .range) (c .before .before .before .before .before .args .follow) (omega arith) (c .before .before .put-two .ensures)
 
 pub put-row-spec : {M : Type 1} → statement M
 put-row-spec =
@@ -37,10 +37,9 @@ put-row-spec =
     (tie.spec
     mul-i
     add-i
-    put-two-requires
+    mul-prepared
+    slice-write-prepared
     add-put-two
-    put-two-requires-2
-    add-put-two-2
-    put-two-requires-3
+    put-two-requires
     same-length
     returns)

@@ -1,8 +1,9 @@
 -- `calls::put::write_source` meets its contract. Assumes nothing.
 use native.Mathlib.Omega.{arith}
-use borrow.Author.Needs.{needs}
 use Rattle.answers.proofs.Giving.{root-inside}
 use Rattle.answers.proofs.Verdicts.{accepted-sizes}
+use borrow.Author.Needs.{needs}
+use Rattle.calls.proofs.Sourcing.{small-begins}
 use Rattle.calls.proofs.put.write_source.Statement.{statement}
 use Rattle.calls.proofs.put.write_source.Tie as tie
 
@@ -22,13 +23,13 @@ fill-below-requires : tie.Need-fill-below-requires
 fill-below-requires c κs = ((c .before .before .before .before .before .before .before .before .before .before .pre .0 .built .sized, omega (arith, c .before .root-of .ensures, root-inside (c .before .before .before .before .before .before .before .before .before .before .pre .0) (c .before .root-of .ensures))), omega (arith, c .before .before .no-below .ensures))
 
 first-desk-requires : tie.Need-first-desk-requires
-first-desk-requires c κs = search needs
+first-desk-requires c κs = c .before .before .before .before .before .before .before .before .before .before .before .before .pre .1 .1 .over .fits .few
 
 slice-aggregate-write-at : tie.Need-slice-aggregate-write-at
 slice-aggregate-write-at c = search needs
 
 write-at-requires : tie.Need-write-at-requires
-write-at-requires c κs = (c .before .before .before .before .before .before .before .before .before .before .before .before .before .before .before .before .pre .0, (c .before .before .before .before .before .before .before .before .before .before .before .before .before .before .before .before .pre .1 .0, (c .before .before .before .before .before .before .before .before .before .before .before .before .before .before .before .before .pre .1 .1, c .before .before .before .before .before .fill-below .ensures)))
+write-at-requires c κs = let known = c .before .before .before .before .before .before .before .before .before .before .before .before .before .before .before .before .pre in ((known .0, c .before .before .before .before .before .fill-below .ensures), (known .1 .0, (known .1 .1, small-begins (c .before .before .before .first-desk .ensures))))
 
 same-length : tie.Need-same-length
 same-length c = search needs

@@ -6,7 +6,7 @@ use Rattle.engine.proofs.rooms.full_room.Statement.{statement}
 use Rattle.engine.proofs.rooms.full_room.Tie as tie
 
 returns : tie.Need-returns
-returns c = sym (length-replicate {A = ℕ} 148992 0)
+returns c = sym (length-replicate {A = ℕ} 75264 0)
 
 pub full-room-spec : {M : Type 1} → statement M
 full-room-spec = tie.close (tie.spec returns)

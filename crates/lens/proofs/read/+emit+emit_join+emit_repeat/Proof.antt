@@ -74,9 +74,9 @@ use Rattle.lens.proofs.read.given_word.Reads as given-word-reads
 use Rattle.lens.proofs.read.word_of.Reads as word-of-reads
 use Rattle.lens.proofs.texts.write_text.Reads as write-text-reads
 use Rattle.paths.proofs.border.Reads as border-reads
+use Rattle.paths.proofs.ends_of.Reads as ends-of-reads
 use Rattle.paths.proofs.first_loop.Reads as first-loop-reads
 use Rattle.paths.proofs.goes_left.Reads as goes-left-reads
-use Rattle.positions.proofs.Set.moved.Reads as moved-reads
 use Rattle.table.proofs.Table.node.Reads as node-reads
 use Rattle.lens.proofs.read.+emit+emit_join+emit_repeat.{statement}
 use Rattle.lens.proofs.read.+emit+emit_join+emit_repeat.Tie.{close}
@@ -152,8 +152,8 @@ abbrev emit-repeat-calls : ℕ → emit-repeat-lts.Claims
 emit-repeat-calls t = (
   automaton-for-reads.Asked,
   automaton-for-reads.Learnt,
-  moved-reads.Asked,
-  moved-reads.Learnt,
+  ends-of-reads.Asked,
+  ends-of-reads.Learnt,
   first-loop-reads.Asked,
   first-loop-reads.Learnt,
   emit-below t,
@@ -627,18 +627,17 @@ emit-repeat-automaton-for-requires t c κs =
     let start = c .before .before .before .before .before in
     node-prepared (child-below (start .pre .1 .0) (start .pre .1 .1 .0)) _
 
-emit-repeat-moved-requires : (t : ℕ) → emit-repeat-lts.Need-moved-requires (emit-repeat-calls t) (emit-repeat-at t) emit-repeat.Post emit-repeat-Inv-loop emit-repeat-μ-loop
-emit-repeat-moved-requires t c κs = search needs
-
-emit-repeat-moved-requires-2 : (t : ℕ) → emit-repeat-lts.Need-moved-requires-2 (emit-repeat-calls t) (emit-repeat-at t) emit-repeat.Post emit-repeat-Inv-loop emit-repeat-μ-loop
-emit-repeat-moved-requires-2 t c κs = search needs
+emit-repeat-ends-of-requires : (t : ℕ) → emit-repeat-lts.Need-ends-of-requires (emit-repeat-calls t) (emit-repeat-at t) emit-repeat.Post emit-repeat-Inv-loop emit-repeat-μ-loop
+emit-repeat-ends-of-requires t c κs = search needs
 
 emit-repeat-loop-holds : (t : ℕ) → emit-repeat-lts.Need-loop-holds (emit-repeat-calls t) (emit-repeat-at t) emit-repeat.Post emit-repeat-Inv-loop emit-repeat-μ-loop
 emit-repeat-loop-holds t c =
-    let at-automaton-for = c .before .before .before .before in
+    let at-ends-of = c .before .before in
+    let at-automaton-for = at-ends-of .before in
     let start = at-automaton-for .before .before .before .before .before .before in
     let (known, more) = start .pre .1 in
-    repeat-begins known (more .0) (more .1) (at-automaton-for .automaton-for .ensures) (c .before .moved .ensures) (c .moved2 .ensures)
+    let ends = at-ends-of .ends-of .ensures in
+    repeat-begins known (more .0) (more .1) (at-automaton-for .automaton-for .ensures) (ends .0) (ends .1)
 
 emit-repeat-sub-first-loop : (t : ℕ) → emit-repeat-lts.Need-sub-first-loop (emit-repeat-calls t) (emit-repeat-at t) emit-repeat.Post emit-repeat-Inv-loop emit-repeat-μ-loop
 emit-repeat-sub-first-loop t c = path-within (c .before .loop .inv)
@@ -656,7 +655,7 @@ emit-repeat-add-end : (t : ℕ) → emit-repeat-lts.Need-add-end (emit-repeat-ca
 emit-repeat-add-end t c =
     let at-loop-test = c .before .before in
     let at-loop = at-loop-test .before in
-    let start = at-loop .before .before .before .before .before .before .before .before .before .before .before in
+    let start = at-loop .before .before .before .before .before .before .before .before .before .before in
     omega (arith, part-within (at-loop .loop .inv) (at-loop-test .loop-test .taken) (c .first-loop .ensures), start .good)
 
 emit-repeat-sub-emit : (t : ℕ) → emit-repeat-lts.Need-sub-emit (emit-repeat-calls t) (emit-repeat-at t) emit-repeat.Post emit-repeat-Inv-loop emit-repeat-μ-loop
@@ -694,7 +693,7 @@ emit-repeat-emit-requires t c κs =
     let at-first-loop = c .before .before .before in
     let at-loop-test = at-first-loop .before .before in
     let at-loop = at-loop-test .before in
-    let start = at-loop .before .before .before .before .before .before .before .before .before .before .before in
+    let start = at-loop .before .before .before .before .before .before .before .before .before .before in
     let s = start .pre .1 .1 .0 in
     let inv = at-loop .loop .inv in
     let more = at-loop-test .loop-test .taken in
@@ -713,7 +712,7 @@ emit-repeat-same-length t c =
     let at-first-loop = at-emit .before .before .before .before in
     let at-loop-test = at-first-loop .before .before in
     let at-loop = at-loop-test .before in
-    let start = at-loop .before .before .before .before .before .before .before .before .before .before .before in
+    let start = at-loop .before .before .before .before .before .before .before .before .before .before in
     let inv = at-loop .loop .inv in
     let more = at-loop-test .loop-test .taken in
     let found = at-first-loop .first-loop .ensures in
@@ -734,7 +733,7 @@ emit-repeat-add-n : (t : ℕ) → emit-repeat-lts.Need-add-n (emit-repeat-calls 
 emit-repeat-add-n t c =
     let at-emit = c .before .before .before .before .before in
     let at-loop = at-emit .before .before .before .before .before .before .before in
-    let start = at-loop .before .before .before .before .before .before .before .before .before .before .before in
+    let start = at-loop .before .before .before .before .before .before .before .before .before .before in
     let inv = at-loop .loop .inv in
     let part = emitted-within (child-below (start .pre .1 .0) (start .pre .1 .1 .0)) (at-emit .emit .ensures) (c .before .m .given .1) in
     let rest = at-emit .emit .last .1 .1 .1 .1 .1 .1 .1 .0 in
@@ -857,8 +856,7 @@ pub +emit+emit-join+emit-repeat-spec : {M : Type 1} → statement M
     emit-repeat-Inv-loop
     emit-repeat-μ-loop
     (emit-repeat-automaton-for-requires t)
-    (emit-repeat-moved-requires t)
-    (emit-repeat-moved-requires-2 t)
+    (emit-repeat-ends-of-requires t)
     (emit-repeat-loop-holds t)
     (emit-repeat-sub-first-loop t)
     (emit-repeat-part-first-loop-start t)

@@ -1,6 +1,5 @@
-use Rattle.lens.specs.Cutting.{part-length}
-use Rattle.writer.proofs.Given.{looks-left, found-fits, given-match}
-use Rattle.writer.proofs.Parts.{Parting, none-ends, parting-begins, more-path, more-lent, part-inside, part-given, parting-next, parting-ends, matches-written}
+use Rattle.writer.proofs.Given.{looks-left, found-fits, may-take, entry-found, given-match}
+use Rattle.writer.proofs.Parts.{Parting, none-ends, parting-begins, more-path, more-lent, part-inside, part-given, part-back, parting-next, parting-ends, matches-written}
 use Rattle.writer.proofs.ByKind.{match-plain}
 use Rattle.writer.proofs.Unasked.{inner-unasked}
 use Rattle.writer.proofs.Behind.{at-node}
@@ -10,14 +9,15 @@ use Rattle.lens.specs.Nodes.{child-below}
 use Rattle.semantics.specs.Lens.{match}
 use lib.ListN.{length}
 use native.Mathlib.Omega.{arith}
-use Prim.Native.Nat.{_+_, _-_}
+use Prim.Native.Nat.{_-_}
 use mathlib.Core.Path.{_≡_, refl, _∙_}
 use Rattle.writer.proofs.write.write_matches.Statement.{statement}
 use Rattle.writer.proofs.write.write_matches.Tie as tie
 use Rattle.writer.proofs.write.write_matches.Reads as reads
 use Rattle.writer.proofs.write.write_matches.Lts as lts
+use Rattle.books.proofs.Book.take.Reads as take-reads
+use Rattle.decks.proofs.cards.card_of.Reads as card-of-reads
 use Rattle.paths.proofs.first_loop.Reads as first-loop-reads
-use Rattle.writer.proofs.write.find_entry.Reads as find-entry-reads
 use Rattle.writer.proofs.write.next_plain.Reads as next-plain-reads
 
 abbrev Inv-loop : tie.InvT-loop
@@ -47,7 +47,7 @@ Inv-loop bytes prepared child part new path₀ deck below card₀ out₀ last fi
 abbrev μ-loop : tie.MeasureT-loop
 μ-loop bytes prepared child part new path₀ deck below card₀ out₀ last first book₀ wrote₀ o₀ path card out book wrote o = length new - o
 
--- src/write.rt:364:5
+-- src/write.rt:373:5
 loop-holds : tie.Need-loop-holds Inv-loop μ-loop
 loop-holds c =
     let ready = c .before .before .before .before .before .before .before .before .before .before .before .pre .0 in
@@ -58,112 +58,130 @@ loop-holds c =
       refl,
     )
 
--- src/write.rt:365:32
+-- src/write.rt:374:32
 sub-first-loop : tie.Need-sub-first-loop Inv-loop μ-loop
 sub-first-loop c = omega (arith, more-path (c .before .loop .inv .0) (c .loop-test .taken))
 
--- src/write.rt:365:32
+-- src/write.rt:374:32
 part-first-loop-start : tie.Need-part-first-loop-start Inv-loop μ-loop
 part-first-loop-start c = omega (arith, more-path (c .before .before .loop .inv .0) (c .before .loop-test .taken))
 
--- src/write.rt:365:32
+-- src/write.rt:374:32
 part-first-loop-end : tie.Need-part-first-loop-end Inv-loop μ-loop
 part-first-loop-end c = omega (arith, more-path (c .before .before .loop .inv .0) (c .before .loop-test .taken))
 
--- src/write.rt:365:21
+-- src/write.rt:374:21
 first-loop-requires : tie.Need-first-loop-requires Inv-loop μ-loop
 first-loop-requires c κs = more-lent (c .before .before .before .loop .inv .0) (c .before .before .loop-test .taken)
 
--- src/write.rt:365:17
+-- src/write.rt:374:17
 add-e : tie.Need-add-e Inv-loop μ-loop
 add-e c = omega (arith, part-inside (c .before .before .before .before .loop .inv .0) (c .before .before .before .loop-test .taken) (c .first-loop .ensures), c .before .before .before .before .before .before .before .before .before .before .before .before .before .before .before .before .good)
 
--- src/write.rt:366:21
+-- src/write.rt:375:21
 sub-piece : tie.Need-sub-piece Inv-loop μ-loop
 sub-piece c = omega (arith, part-inside (c .before .before .before .before .loop .inv .0) (c .before .before .before .loop-test .taken) (c .first-loop .ensures))
 
--- src/write.rt:366:21
+-- src/write.rt:375:21
 part-piece-start : tie.Need-part-piece-start Inv-loop μ-loop
 part-piece-start c = omega (arith, part-inside (c .before .before .before .before .loop .inv .0) (c .before .before .before .loop-test .taken) (c .first-loop .ensures))
 
--- src/write.rt:366:21
+-- src/write.rt:375:21
 part-piece-end : tie.Need-part-piece-end Inv-loop μ-loop
 part-piece-end c = omega (arith, part-inside (c .before .before .before .before .loop .inv .0) (c .before .before .before .loop-test .taken) (c .first-loop .ensures))
 
--- src/write.rt:367:21
+-- src/write.rt:376:21
 sub-track : tie.Need-sub-track Inv-loop μ-loop
 sub-track c = omega (arith, part-inside (c .before .before .before .before .before .loop .inv .0) (c .before .before .before .before .loop-test .taken) (c .before .first-loop .ensures))
 
--- src/write.rt:367:21
+-- src/write.rt:376:21
 part-track-start : tie.Need-part-track-start Inv-loop μ-loop
 part-track-start c = omega (arith, part-inside (c .before .before .before .before .before .loop .inv .0) (c .before .before .before .before .loop-test .taken) (c .before .first-loop .ensures))
 
--- src/write.rt:367:21
+-- src/write.rt:376:21
 part-track-end : tie.Need-part-track-end Inv-loop μ-loop
 part-track-end c = omega (arith, part-inside (c .before .before .before .before .before .loop .inv .0) (c .before .before .before .before .loop-test .taken) (c .before .first-loop .ensures))
 
--- src/write.rt:368:13
-find-entry-requires : tie.Need-find-entry-requires Inv-loop μ-loop
-find-entry-requires c κs =
-    let parting = c .before .before .before .before .before .before .before .before .loop .inv .0 in
+-- src/write.rt:378:13
+card-of-requires : tie.Need-card-of-requires Inv-loop μ-loop
+card-of-requires c κs =
     let inner = c .before .before .before .before .before .before .before .before .before .before .before .before .before .before .before .before .before .before .before .before .pre .1 .1 .0 .0 in
-    let given = part-given parting (c .before .before .before .before .before .before .before .loop-test .taken) (c .before .before .before .before .first-loop .ensures) (c .before .before .before .before .before .before .before .before .before .before .before .before .before .before .before .before .before .before .before .before .pre .1 .1 .1 .1 .0) in
-    let known = child-below (child-below (c .before .before .before .before .before .before .before .before .before .before .before .before .before .before .before .before .before .before .before .before .pre .0 .lens-node) (c .before .before .before .before .before .before .before .before .before .before .before .before .before .before .before .before .before .before .before .before .pre .1 .0)) inner in
-    let looks = looks-left (c .before .before .before .before .before .before .before .before .before .before .before .before .before .before .before .before .before .before .before .before .pre .0 .looks-in) (parting .kept .over) (parting .kept .same-entries) in
-    (known, (given-match given inner, (looks, c .before .before .before .before .before .before .before .before .loop .inv .2 ∙ c .before .before .before .before .before .before .before .before .before .before .before .before .before .before .before .before .before .before .before .before .pre .1 .1 .1 .1 .1 .1)))
+    let given = given-match (part-given (c .before .before .before .before .before .before .before .before .loop .inv .0) (c .before .before .before .before .before .before .before .loop-test .taken) (c .before .before .before .before .first-loop .ensures) (c .before .before .before .before .before .before .before .before .before .before .before .before .before .before .before .before .before .before .before .before .pre .1 .1 .1 .1 .0)) inner in
+    (child-below (child-below (c .before .before .before .before .before .before .before .before .before .before .before .before .before .before .before .before .before .before .before .before .pre .0 .lens-node) (c .before .before .before .before .before .before .before .before .before .before .before .before .before .before .before .before .before .before .before .before .pre .1 .0)) inner, (given .parsed, (given .new-short, c .before .before .before .before .before .before .before .before .loop .inv .2 ∙ c .before .before .before .before .before .before .before .before .before .before .before .before .before .before .before .before .before .before .before .before .pre .1 .1 .1 .1 .1 .1)))
 
--- src/write.rt:371:9
+-- src/write.rt:380:55
+sub-take : tie.Need-sub-take Inv-loop μ-loop
+sub-take c = omega arith
+
+-- src/write.rt:380:55
+part-take-start : tie.Need-part-take-start Inv-loop μ-loop
+part-take-start c = omega arith
+
+-- src/write.rt:380:55
+part-take-end : tie.Need-part-take-end Inv-loop μ-loop
+part-take-end c = c .before .before .before .card-of .ensures .within
+
+-- src/write.rt:380:13
+take-requires : tie.Need-take-requires Inv-loop μ-loop
+take-requires c κs =
+    let known = child-below (child-below (c .before .before .before .before .before .before .before .before .before .before .before .before .before .before .before .before .before .before .before .before .before .before .before .before .before .pre .0 .lens-node) (c .before .before .before .before .before .before .before .before .before .before .before .before .before .before .before .before .before .before .before .before .before .before .before .before .before .pre .1 .0)) (c .before .before .before .before .before .before .before .before .before .before .before .before .before .before .before .before .before .before .before .before .before .before .before .before .before .pre .1 .1 .0 .0) in
+    may-take known (looks-left (c .before .before .before .before .before .before .before .before .before .before .before .before .before .before .before .before .before .before .before .before .before .before .before .before .before .pre .0 .looks-in) (c .before .before .before .before .before .before .before .before .before .before .before .before .before .loop .inv .0 .kept .over) (c .before .before .before .before .before .before .before .before .before .before .before .before .before .loop .inv .0 .kept .same-entries))
+
+-- src/write.rt:383:9
 next-plain-requires : tie.Need-next-plain-requires Inv-loop μ-loop
 next-plain-requires c κs =
-    let parting = c .before .before .before .before .before .before .before .before .before .before .before .before .before .loop .inv .0 in
-    let inner = c .before .before .before .before .before .before .before .before .before .before .before .before .before .before .before .before .before .before .before .before .before .before .before .before .before .pre .1 .1 .0 .0 in
-    let given = part-given parting (c .before .before .before .before .before .before .before .before .before .before .before .before .loop-test .taken) (c .before .before .before .before .before .before .before .before .before .first-loop .ensures) (c .before .before .before .before .before .before .before .before .before .before .before .before .before .before .before .before .before .before .before .before .before .before .before .before .before .pre .1 .1 .1 .1 .0) in
-    let known = child-below (child-below (c .before .before .before .before .before .before .before .before .before .before .before .before .before .before .before .before .before .before .before .before .before .before .before .before .before .pre .0 .lens-node) (c .before .before .before .before .before .before .before .before .before .before .before .before .before .before .before .before .before .before .before .before .before .before .before .before .before .pre .1 .0)) inner in
-    let looks = looks-left (c .before .before .before .before .before .before .before .before .before .before .before .before .before .before .before .before .before .before .before .before .before .before .before .before .before .pre .0 .looks-in) (parting .kept .over) (parting .kept .same-entries) in
-    let looked = c .before .before .before .before .find-entry .ensures .found (inner .child) (inner .at-child) in
+    let parting = c .before .before .before .before .before .before .before .before .before .before .before .before .before .before .before .before .loop .inv .0 in
+    let inner = c .before .before .before .before .before .before .before .before .before .before .before .before .before .before .before .before .before .before .before .before .before .before .before .before .before .before .before .before .pre .1 .1 .0 .0 in
+    let given = part-given parting (c .before .before .before .before .before .before .before .before .before .before .before .before .before .before .before .loop-test .taken) (c .before .before .before .before .before .before .before .before .before .before .before .before .first-loop .ensures) (c .before .before .before .before .before .before .before .before .before .before .before .before .before .before .before .before .before .before .before .before .before .before .before .before .before .before .before .before .pre .1 .1 .1 .1 .0) in
+    let known = child-below (child-below (c .before .before .before .before .before .before .before .before .before .before .before .before .before .before .before .before .before .before .before .before .before .before .before .before .before .before .before .before .pre .0 .lens-node) (c .before .before .before .before .before .before .before .before .before .before .before .before .before .before .before .before .before .before .before .before .before .before .before .before .before .before .before .before .pre .1 .0)) inner in
+    let looks = looks-left (c .before .before .before .before .before .before .before .before .before .before .before .before .before .before .before .before .before .before .before .before .before .before .before .before .before .before .before .before .pre .0 .looks-in) (parting .kept .over) (parting .kept .same-entries) in
+    let entry = entry-found (given .new-short) looks (c .before .before .before .before .before .before .before .card-of .ensures) (c .before .before .take .ensures) in
+    let looked = entry .found (inner .child) (inner .at-child) in
     (known, (record { sheet-given = given-match given inner; old-fits = found-fits looks looked }, parting .kept .within))
 
--- src/write.rt:364:5
+-- src/write.rt:373:5
 loop-less : tie.Need-loop-less Inv-loop μ-loop
-loop-less c = omega (arith, part-inside (c .before .before .before .before .before .before .before .before .before .before .before .before .before .before .before .before .before .before .loop .inv .0) (c .before .before .before .before .before .before .before .before .before .before .before .before .before .before .before .before .before .loop-test .taken) (c .before .before .before .before .before .before .before .before .before .before .before .before .before .before .first-loop .ensures))
+loop-less c = omega (arith, part-inside (c .before .before .before .before .before .before .before .before .before .before .before .before .before .before .before .before .before .before .before .before .before .loop .inv .0) (c .before .before .before .before .before .before .before .before .before .before .before .before .before .before .before .before .before .before .before .before .loop-test .taken) (c .before .before .before .before .before .before .before .before .before .before .before .before .before .before .before .before .before .first-loop .ensures))
 
--- src/write.rt:364:5
+-- src/write.rt:373:5
 loop-again : tie.Need-loop-again Inv-loop μ-loop
 loop-again c =
-    let parting = c .before .before .before .before .before .before .before .before .before .before .before .before .before .before .before .before .before .before .loop .inv .0 in
-    let inner = c .before .before .before .before .before .before .before .before .before .before .before .before .before .before .before .before .before .before .before .before .before .before .before .before .before .before .before .before .before .before .pre .1 .1 .0 .0 in
-    let more = c .before .before .before .before .before .before .before .before .before .before .before .before .before .before .before .before .before .loop-test .taken in
-    let known = child-below (c .before .before .before .before .before .before .before .before .before .before .before .before .before .before .before .before .before .before .before .before .before .before .before .before .before .before .before .before .before .before .pre .0 .lens-node) (c .before .before .before .before .before .before .before .before .before .before .before .before .before .before .before .before .before .before .before .before .before .before .before .before .before .before .before .before .before .before .pre .1 .0) in
-    let written = match-plain (inner-unasked known inner) (c .before .before .before .before .before .before .before .before .before .find-entry .ensures) (c .before .before .before .before .next-plain .ensures) .writes (inner .child) (inner .at-child) _ in
-    let as-long = c .before .before .before .before .next-plain .kept .1 .1 .1 .1 .1 .0 in
-    let inside = part-inside parting more (c .before .before .before .before .before .before .before .before .before .before .before .before .before .before .first-loop .ensures) in (
+    let parting = c .before .before .before .before .before .before .before .before .before .before .before .before .before .before .before .before .before .before .before .before .before .loop .inv .0 in
+    let inner = c .before .before .before .before .before .before .before .before .before .before .before .before .before .before .before .before .before .before .before .before .before .before .before .before .before .before .before .before .before .before .before .before .before .pre .1 .1 .0 .0 in
+    let more = c .before .before .before .before .before .before .before .before .before .before .before .before .before .before .before .before .before .before .before .before .loop-test .taken in
+    let known = child-below (c .before .before .before .before .before .before .before .before .before .before .before .before .before .before .before .before .before .before .before .before .before .before .before .before .before .before .before .before .before .before .before .before .before .pre .0 .lens-node) (c .before .before .before .before .before .before .before .before .before .before .before .before .before .before .before .before .before .before .before .before .before .before .before .before .before .before .before .before .before .before .before .before .before .pre .1 .0) in
+    let given = part-given parting more (c .before .before .before .before .before .before .before .before .before .before .before .before .before .before .before .before .before .first-loop .ensures) (c .before .before .before .before .before .before .before .before .before .before .before .before .before .before .before .before .before .before .before .before .before .before .before .before .before .before .before .before .before .before .before .before .before .pre .1 .1 .1 .1 .0) in
+    let looks = looks-left (c .before .before .before .before .before .before .before .before .before .before .before .before .before .before .before .before .before .before .before .before .before .before .before .before .before .before .before .before .before .before .before .before .before .pre .0 .looks-in) (parting .kept .over) (parting .kept .same-entries) in
+    let entry = entry-found (given .new-short) looks (c .before .before .before .before .before .before .before .before .before .before .before .before .card-of .ensures) (c .before .before .before .before .before .before .before .take .ensures) in
+    let written = match-plain (inner-unasked known inner) entry (c .before .before .before .before .next-plain .ensures) .writes (inner .child) (inner .at-child) _ in
+    let as-long = c .before .before .before .before .next-plain .kept .1 .1 .1 .1 .1 .0 in (
       parting-next
           parting
           (c .before .before .before .before .next-plain .last .1 .1 .1 .1 .1 .0)
-          (omega (arith, c .before .before .before .before .before .before .before .before .before .before .before .before .before .before .before .before .before .before .before .before .before .before .before .before .before .before .before .before .before .before .pre .0 .looks-in .deck-room))
+          (omega (arith, c .before .before .before .before .before .before .before .before .before .before .before .before .before .before .before .before .before .before .before .before .before .before .before .before .before .before .before .before .before .before .before .before .before .pre .0 .looks-in .deck-room))
           more
-          (c .before .before .before .before .before .before .before .before .before .before .before .before .before .before .first-loop .ensures)
+          (c .before .before .before .before .before .before .before .before .before .before .before .before .before .before .before .before .before .first-loop .ensures)
           refl
           (at-node (match _ (inner .child)) (inner .tree-is) written)
           as-long,
-      part-length (c .before .before .before .before .before .before .before .before .before .before .before .before .before .before .before .before .before .before .loop .path) (c .before .before .before .before .next-plain .last .1 .1 .1 .1 .1 .0) (c .before .before .before .before .before .before .before .before .before .before .before .before .before .before .before .before .before .before .loop .o) (c .before .before .before .before .before .before .before .before .before .before .before .before .before .before .before .before .before .before .loop .o + c .before .before .before .before .before .before .before .before .before .before .before .before .before .before .first-loop .result) (omega arith) (inside .2) as-long ∙ c .before .before .before .before .before .before .before .before .before .before .before .before .before .before .before .before .before .before .loop .inv .1,
-      c .before .before .before .before .before .before .before .before .before .find-entry .kept .1 .1 .1 .1 .1 .1 .0 ∙ c .before .before .before .before .before .before .before .before .before .before .before .before .before .before .before .before .before .before .loop .inv .2,
-      c .before .before .before .before .next-plain .kept .1 .1 .1 .1 .1 .1 .1 .1 .0 ∙ c .before .before .before .before .before .before .before .before .before .before .before .before .before .before .before .before .before .before .loop .inv .3,
+      part-back parting more (c .before .before .before .before .before .before .before .before .before .before .before .before .before .before .before .before .before .first-loop .ensures) (c .before .before .before .before .next-plain .last .1 .1 .1 .1 .1 .0) as-long ∙ c .before .before .before .before .before .before .before .before .before .before .before .before .before .before .before .before .before .before .before .before .before .loop .inv .1,
+      c .before .before .before .before .before .before .before .before .before .before .before .before .card-of .kept .1 .1 .1 .1 .1 .1 .0 ∙ c .before .before .before .before .before .before .before .before .before .before .before .before .before .before .before .before .before .before .before .before .before .loop .inv .2,
+      c .before .before .before .before .next-plain .kept .1 .1 .1 .1 .1 .1 .1 .1 .0 ∙ c .before .before .before .before .before .before .before .before .before .before .before .before .before .before .before .before .before .before .before .before .before .loop .inv .3,
     )
 
--- src/write.rt:336:1
+-- src/write.rt:345:1
 same-length : tie.Need-same-length Inv-loop μ-loop
 same-length c = c .before .loop .inv .1
 
--- src/write.rt:336:1
+-- src/write.rt:345:1
 same-length-2 : tie.Need-same-length-2 Inv-loop μ-loop
 same-length-2 c = c .before .loop .inv .2
 
--- src/write.rt:336:1
+-- src/write.rt:345:1
 same-length-3 : tie.Need-same-length-3 Inv-loop μ-loop
 same-length-3 c = c .before .loop .inv .3
 
--- src/write.rt:336:1
+-- src/write.rt:345:1
 returns : tie.Need-returns Inv-loop μ-loop
 returns c = matches-written _ (c .before .before .before .before .before .before .before .before .before .before .before .before .before .pre .1 .0) (c .before .before .before .before .before .before .before .before .before .before .before .before .before .pre .1 .1 .0 .0) (parting-ends (c .before .loop .inv .0) (c .before .before .before .before .before .before .before .before .before .before .before .before .before .pre .1 .0) (omega (arith, c .loop-test .left)))
 
@@ -185,7 +203,11 @@ write-matches-spec =
     sub-track
     part-track-start
     part-track-end
-    find-entry-requires
+    card-of-requires
+    sub-take
+    part-take-start
+    part-take-end
+    take-requires
     next-plain-requires
     loop-less
     loop-again
