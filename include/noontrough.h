@@ -46,20 +46,17 @@ extern "C" {
 /* The most entries that the old source of a put may have. */
 #define NOONTROUGH_MAX_ENTRIES 256
 
-/* The stack that any call of any program keeps to: 4.25 MiB. A call takes what
+/* The stack that any call of any program keeps to: 1.8 MiB. A call takes what
  * its program needs. For a program like that of examples/k, check, get and create
- * take under 96 KiB, and a put under 160 KiB. The 2 MiB that a default thread of
- * Rust has are enough for every call but one: a put of a program with a union
- * inside a match, with an old entry whose sheet is longer than 4,096 bytes, or with
- * old entries whose keys come to over 12,000 bytes together. Start a thread with
- * this much stack for it. The bound is measured on x86-64, not proved
+ * take under 64 KiB, and a put under 96 KiB. The 2 MiB that a default thread of
+ * Rust has are enough for every call. The bound is measured on x86-64, not proved
  * (docs/PERFORMANCE.md); the tests of bindings/rust fail if a call of the
  * programs that take most passes it. */
-#define NOONTROUGH_STACK_BYTES (4352 * 1024)
+#define NOONTROUGH_STACK_BYTES (1840 * 1024)
 
-/* The stack that check and get of any program keep to: 1.25 MiB. So they run in
- * a default thread of Rust. Measured and tested in the same way, not proved. */
-#define NOONTROUGH_READ_STACK_BYTES (1280 * 1024)
+/* The stack that check and get of any program keep to: 704 KiB. Measured and
+ * tested in the same way, not proved. */
+#define NOONTROUGH_READ_STACK_BYTES (704 * 1024)
 
 /*
  * The refusals. They are tried in this order: the program (1 to 11), the texts

@@ -17,42 +17,26 @@
 //! assert_eq!(put(&table, b"av", b"AV", &mut out), Answer::Refusal { number: 14, node: 0 });
 //! ```
 //!
-//! All calls run in a thread of `std::thread` with its usual 2 MiB of stack, save
-//! that a [`put`] can need more where old entries are shown as far more than they
-//! are: start a thread with [`STACK_BYTES`] for it.
+//! All calls run in a thread of `std::thread` with its usual 2 MiB of stack.
 
 /// The stack that any call of any program keeps to.
 ///
 /// A call takes what its program needs. For a program like K of the repository's
-/// examples, check, get and create take under 96 KiB, and a put under 160 KiB. A
-/// thread of 2 MiB is enough for every call but one: a put of a program with a
-/// union inside a match, with an old entry whose sheet is longer than 4,096 bytes,
-/// or with old entries whose keys come to over 12,000 bytes together.
+/// examples, check, get and create take under 64 KiB, and a put under 96 KiB. A
+/// thread of 2 MiB is enough for every call, and has 192 KiB left for its own work.
 ///
 /// The main thread usually has 8 MiB. A thread of `std::thread` has 2 MiB unless
 /// it is started with `std::thread::Builder::stack_size`, or `RUST_MIN_STACK` is
-/// set. A call that finds too little ends the process.
-///
-/// ```
-/// let thread = std::thread::Builder::new().stack_size(noontrough::STACK_BYTES);
-/// # let table = [3, 0, 0, 1, 4, 16, 65, 90, 0, 0, 0, 0, 1, 0, 0];
-/// let work = move || {
-///     let mut out = [0; noontrough::MAX_TEXT];
-///     noontrough::put(&table, b"AV", b"VA", &mut out)
-/// };
-/// let answer = thread.spawn(work)?.join().unwrap();
-/// # assert_eq!(answer, noontrough::Answer::Result { length: 2 });
-/// # Ok::<(), std::io::Error>(())
-/// ```
+/// set: a smaller one needs this much and what its own frames take. A call that
+/// finds too little ends the process.
 ///
 /// The bound is measured on x86-64, not proved. `cargo test` fails if a call of
 /// the programs that take most passes it.
-pub const STACK_BYTES: usize = 4352 * 1024;
+pub const STACK_BYTES: usize = 1840 * 1024;
 
-/// The stack that check and get of any program keep to. A thread of
-/// `std::thread` with its usual 2 MiB is enough for them. Measured and tested as
+/// The stack that check and get of any program keep to. Measured and tested as
 /// [`STACK_BYTES`] is, and not proved.
-pub const READ_STACK_BYTES: usize = 1280 * 1024;
+pub const READ_STACK_BYTES: usize = 704 * 1024;
 
 /// The longest source, sheet and result. A buffer of this length is long enough
 /// for every result.

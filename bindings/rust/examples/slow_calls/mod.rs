@@ -37,6 +37,7 @@ pub fn all() -> Vec<Slow> {
     all.push(long_sheet_without_union());
     all.push(many_long_keys());
     all.push(kept_right_arms());
+    all.push(lookups_in_vain());
     all
 }
 
@@ -214,6 +215,25 @@ fn many_long_keys() -> Slow {
     let gives = [&old[..], b"<", &[b'x'; 944], b";"].concat();
     let source = old.repeat(240);
     put("240 old entries of right arms with keys of 945 bytes", &draft, &asked.repeat(2), &source, &gives.repeat(2))
+}
+
+/// Each part has 18 matches that look up an empty key, of which the old source has
+/// none: so every one of them is looked up, and the book goes on as it was.
+fn lookups_in_vain() -> Slow {
+    let mut draft = Draft::new();
+    let nothing = draft.word(b"");
+    let mut part = draft.copy_word(b"a");
+    let letters: Vec<u8> = (b'b'..).take(18).collect();
+    for letter in letters.chunks(1) {
+        let word = draft.word(letter);
+        let optional = draft.pattern_union(nothing, word);
+        let key = draft.key(optional);
+        let entry = draft.matched(key);
+        part = draft.lens_join(part, entry);
+    }
+    draft.lens_repeat(part);
+    let [old, new] = [[b"a", &letters[..]].concat().repeat(14), vec![b'a'; MAX_TEXT]];
+    put("18 matches a part that look up in vain, 4,096 parts, 252 old entries", &draft, &new, &old, &new)
 }
 
 /// 41 unions, one in the right arm of the other. The sheet is of every arm, and

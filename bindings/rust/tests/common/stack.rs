@@ -93,18 +93,16 @@ fn taken(call: &dyn Fn()) -> usize {
 }
 
 pub fn cases() -> Vec<Case> {
-    usual_cases().into_iter().chain(wide_cases()).collect()
-}
-
-/// Those in which no old entry is shown as far more than it is.
-pub fn usual_cases() -> Vec<Case> {
-    vec![k(256), k(8), joins(), joins_over_a_match(), full_room(), joins_over_entries(), ladder_over_a_match()]
-}
-
-/// Those with old entries of unions of which one has a sheet of over 4,096 bytes,
-/// or all have keys of over 12,000 bytes together.
-fn wide_cases() -> [Case; 3] {
-    [long_sheet(), joins_over_a_long_sheet(), ladder_over_long_keys()]
+    let deep =
+        [joins(), joins_over_a_match(), full_room(), joins_over_entries(), ladder_over_a_match(), nest_over_a_match()];
+    let wide = [
+        long_sheet(),
+        joins_over_a_long_sheet(),
+        joins_inside_a_long_sheet(),
+        ladder_over_long_keys(),
+        nest_over_long_keys(),
+    ];
+    [k(256), k(8)].into_iter().chain(deep).chain(wide).collect()
 }
 
 /// Program K with so many entries, at most 256, whose names all differ.
@@ -146,15 +144,11 @@ fn joins_over_a_match() -> Case {
     Case::new(&format!("{joined} joins over a match"), &draft, b"a")
 }
 
-/// An old entry of 4,096 bytes, with a sheet of 62 times as many.
 fn long_sheet() -> Case {
     let mut draft = Draft::new();
-    let letter = draft.word(b"y");
-    let short = draft.key(letter);
-    let long = draft.replace(b"n", &[b'x'; 62]);
-    let either = draft.lens_union(short, long);
-    let many = draft.lens_repeat(either);
-    draft.matched(many);
+    wide_entry(&mut draft);
+    let entry = (draft.len() - 1) as NodeNumber;
+    draft.matched(entry);
     let old = vec![b'n'; MAX_TEXT];
     Case { old, ..Case::new("an old entry with a long sheet", &draft, b"y") }
 }
@@ -212,6 +206,35 @@ fn ladder_over_a_match() -> Case {
     Case { source: old.clone(), old, ..Case::new(&name, &draft, b"a") }
 }
 
+/// Fills the program up: each new root is a repeat of the last one between
+/// parentheses. Gives the number of repeats.
+fn nest_on(draft: &mut Draft, open: NodeNumber, close: NodeNumber) -> usize {
+    let levels = (MAX_NODES - draft.len()) / 3;
+    for _ in 0..levels {
+        let root = (draft.len() - 1) as NodeNumber;
+        let ended = draft.lens_join(root, close);
+        let part = draft.lens_join(open, ended);
+        draft.lens_repeat(part);
+    }
+    levels
+}
+
+/// A text between so many parentheses.
+fn nested(levels: usize, text: &[u8]) -> Vec<u8> {
+    [&vec![b'('; levels], text, &vec![b')'; levels]].concat()
+}
+
+/// A put takes more for a repeat and its joins than for as many joins.
+fn nest_over_a_match() -> Case {
+    let mut draft = Draft::new();
+    let (open, close) = (draft.copy_word(b"("), draft.copy_word(b")"));
+    let letter = draft.word(b"a");
+    let key = draft.key(letter);
+    draft.matched(key);
+    let levels = nest_on(&mut draft, open, close);
+    Case::new(&format!("{levels} repeats and twice as many joins over a match"), &draft, &nested(levels, b"a"))
+}
+
 /// What one `n` of the old source is shown as.
 const WIDE: &[u8] = &[b'x'; 40];
 
@@ -237,23 +260,68 @@ fn joins_over_a_long_sheet() -> Case {
     Case { name, table: draft.table(), source, old, sheet }
 }
 
-/// The same with unions, and with keys alone: an entry is shown as 64 bytes,
-/// which the left arm has as its key.
-fn ladder_over_long_keys() -> Case {
+/// An old entry of 4,096 bytes, with a sheet of 62 times as many: the entry of a
+/// repeated union, of which the right arm is wide.
+fn wide_entry(draft: &mut Draft) {
+    let letter = draft.word(b"y");
+    let short = draft.key(letter);
+    let long = draft.replace(b"n", &[b'x'; 62]);
+    let either = draft.lens_union(short, long);
+    draft.lens_repeat(either);
+}
+
+/// The joins inside the entry: its sheet is made, and the key read, at their foot.
+fn joins_inside_a_long_sheet() -> Case {
     let mut draft = Draft::new();
+    let nothing = draft.copy_word(b"");
+    wide_entry(&mut draft);
+    let joined = MAX_NODES - 1 - draft.len();
+    for _ in 0..joined {
+        let root = (draft.len() - 1) as NodeNumber;
+        draft.lens_join(nothing, root);
+    }
+    let root = (draft.len() - 1) as NodeNumber;
+    draft.matched(root);
+    let old = vec![b'n'; MAX_TEXT];
+    Case { old, ..Case::new(&format!("{joined} joins inside an entry with a long sheet"), &draft, b"y") }
+}
+
+/// Entries that are shown as 64 bytes, which the left arm has as its key, repeated.
+/// Gives what an entry is shown as.
+fn entries_with_long_keys(draft: &mut Draft) -> Vec<u8> {
     let (letter, end, short) = (draft.word(b"x"), draft.word(b";"), draft.word(b"n"));
     let many = draft.pattern_repeat(letter);
     let line = draft.pattern_join(many, end);
-    let (mark, key, other) = (mark_of(&mut draft, short), draft.key(line), draft.copy(end));
+    let key = draft.key(line);
     let shown = [&[b'x'; 63][..], b";"].concat();
     let wide = draft.word(&shown);
     let wide = draft.constant(short, wide, short);
     let either = draft.lens_union(key, wide);
     let entry = draft.matched(either);
     draft.lens_repeat(entry);
+    shown
+}
+
+/// The same with unions, and with keys alone.
+fn ladder_over_long_keys() -> Case {
+    let mut draft = Draft::new();
+    let short = draft.word(b"n");
+    let (mark, other) = (mark_of(&mut draft, short), draft.copy_word(b";"));
+    let shown = entries_with_long_keys(&mut draft);
     let rungs = climb_on(&mut draft, mark, other);
     let name = format!("{rungs} unions and joins over 256 entries with long keys");
     let marks = vec![b'n'; rungs];
     let [source, old] = [2, 256].map(|entries| [&marks[..], &vec![b'n'; entries]].concat());
     Case { name, table: draft.table(), source, old, sheet: [&shown[..], b"x;"].concat() }
+}
+
+/// The same with repeats.
+fn nest_over_long_keys() -> Case {
+    let mut draft = Draft::new();
+    let (open, close) = (draft.copy_word(b"("), draft.copy_word(b")"));
+    let shown = entries_with_long_keys(&mut draft);
+    let levels = nest_on(&mut draft, open, close);
+    let name = format!("{levels} repeats and twice as many joins over 256 entries with long keys");
+    let [source, old] = [2, 256].map(|entries| nested(levels, &vec![b'n'; entries]));
+    Case { name, table: draft.table(), source, old, sheet: nested(levels, &[&shown[..], b"x;"].concat()) }
 }

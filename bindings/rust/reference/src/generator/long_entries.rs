@@ -147,7 +147,7 @@ impl Shape {
     }
 
     /// Some old entries, of which one or two are long; or many whose keys come to
-    /// about 16,384 bytes together.
+    /// about 5,000 bytes together, or to about 16,384.
     fn old_entries(&self, random: &mut Random) -> Vec<Old> {
         if self.key == Place::InOtherArm && !self.single && random.once_in(3) {
             return self.many_keys(random);
@@ -167,7 +167,8 @@ impl Shape {
     fn many_keys(&self, random: &mut Random) -> Vec<Old> {
         // The reference takes long over what is both long and deep.
         let count = *random.pick(if self.deep { &[5, 9, 17] } else { &[5, 9, 17, 60, 128, 255] });
-        let each = random.between(10_000, 22_000) / count / self.wide.len();
+        let total = if random.once_in(3) { random.between(4_000, 6_500) } else { random.between(10_000, 22_000) };
+        let each = total / count / self.wide.len();
         let parts = (0..count).map(|_| each.saturating_sub(1) + random.below(4));
         parts.map(|parts| Old { parts, name: Vec::new() }).collect()
     }
