@@ -25,8 +25,9 @@ use Rattle.lens.specs.Overlay.{Writes, overlay, overlay-length, overlay-fits, c
 use Rattle.lens.specs.Emitting.{LensNode}
 use Rattle.answers.specs.declared.Answer.{Answer}
 use Rattle.answers.specs.declared.Answer.the-variants.{Result, Refusal}
-use Rattle.answers.specs.Answers.{answerFor, IsAccepted, Ready}
-use Rattle.answers.specs.Results.{GivesText, Counted, Finishes, RootPath, Makes, GivesMade}
+use Rattle.answers.specs.Contracts.{answerFor, GivesText}
+use Rattle.answers.specs.Answers.{IsAccepted, Ready}
+use Rattle.answers.specs.Results.{Counted, Finishes, RootPath, Makes, GivesMade}
 use Rattle.answers.proofs.Verdicts.{accepted-sizes, root-tree}
 
 -- ---- The root

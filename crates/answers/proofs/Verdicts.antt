@@ -12,11 +12,11 @@ use Rattle.laws.specs.NodeTrees.{lens-tree}
 use Rattle.laws.specs.Accepted.{Quiet, quiet-iff, gives-iff, accepted-iff}
 use Rattle.table.specs.Prepared.{tableLines, tableAnswer, answerFor}
 use Rattle.table.specs.declared.TableAnswer.the-variants as T
-use Rattle.table.proofs.RightSizes.{Right, right-of}
+use Rattle.laws.specs.RightSizes.{Right, right-of}
 use Rattle.typing.specs.Round.{typingAnswer, answerOf}
 use Rattle.typing.specs.declared.round.TypingAnswer.the-variants as R
 use Rattle.answers.specs.Answers.{IsAccepted, Ready, TooSmall, CheckedIs}
-use Rattle.answers.specs.Answers as A
+use Rattle.answers.specs.Contracts as A
 use Rattle.answers.specs.declared.Answer.the-variants.{Result, Refusal}
 use Rattle.answers.specs.declared.Checked.{Checked}
 
@@ -140,7 +140,7 @@ check-accepts bytes n a e = rw (a .gives-root) (ap Result e)
 -- ---- The root of an accepted program
 
 pub accepted-sizes : {bytes : Text} → IsAccepted bytes → Right bytes
-accepted-sizes {bytes} a = right-of bytes (accepted-iff bytes .0 (a .root, a .gives-root) .sizes-right)
+accepted-sizes {bytes} a = right-of bytes (accepted-iff bytes .0 (a .root, a .gives-root) .table-right .sizes-right)
 
 pub root-tree : (bytes : Text) (a : IsAccepted bytes) → treeAt (trees bytes) (nodeCount bytes - 1) ≡ lens (a .root)
 unfolding rootOf

@@ -1,4 +1,4 @@
--- Document 01's number and values for each case of the engine's answers.
+-- What checking a program says of it and of the slice that it is prepared in.
 use mathlib.Core.Path.{_≡_}
 use mathlib.Core.List.{List}
 use Prim.Native.Nat.{ℕ, _<_, _≤_}
@@ -6,19 +6,11 @@ use lib.ListN.{length}
 use Rattle.semantics.specs.Text.{Text}
 use Rattle.semantics.specs.Lens.{Lens}
 use Rattle.semantics.specs.Calls.{gives, refuses, program}
-use Rattle.semantics.specs.Calls.{Answer as Outcome}
 use Rattle.automaton.specs.Rows.{rowAt}
 use Rattle.automaton.specs.Built.{Built}
 use Rattle.builder.specs.Program.{rowsNeeded}
-use Rattle.answers.specs.declared.Answer.{Answer}
-use Rattle.answers.specs.declared.Answer.the-variants.{Result, Refusal}
 use Rattle.answers.specs.declared.Checked.{Checked}
 use Rattle.answers.specs.declared.Checked.the-variants.{Accepted, Refused, Small}
-
--- The enum's case for an outcome of the definitions: a result with its length, or the refusal with its number and node.
-unfoldable pub answerFor : {A : Type 0} → (A → ℕ) → Outcome A → Answer
-answerFor len (gives x) = Result (len x)
-answerFor len (refuses number node) = Refusal number node
 
 -- The program is accepted.
 pub record IsAccepted (bytes : Text) : Type 0 where

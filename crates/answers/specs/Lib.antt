@@ -1,3 +1,4 @@
 -- What a call answers, in terms of the definitions of the calls.
+pub mod Contracts
 pub mod Answers
 pub mod Results

@@ -8,8 +8,7 @@ use Rattle.semantics.specs.Text.{Text}
 use Rattle.semantics.specs.Pattern.{matches}
 use Rattle.semantics.specs.Lens.{Lens, language}
 use Rattle.semantics.specs.Table.{nodeCount}
-use Rattle.semantics.specs.Calls.{gives, program, maxText, output, bufferAfter}
-use Rattle.semantics.specs.Calls.{Answer as Outcome}
+use Rattle.semantics.specs.Calls.{gives, program, maxText, output}
 use Rattle.automaton.specs.declared.Side.{Side}
 use Rattle.automaton.specs.Rows.{sideOf}
 use Rattle.lens.specs.declared.Wrote.{Wrote}
@@ -17,12 +16,7 @@ use Rattle.lens.specs.declared.Wrote.the-variants.{Count}
 use Rattle.lens.specs.Overlay.{Writes}
 use Rattle.lens.specs.Parsed.{Parsed}
 use Rattle.answers.specs.declared.Answer.{Answer}
-use Rattle.answers.specs.Answers.{answerFor}
-
--- The answer and the buffer afterwards are those of the outcome.
-pub record GivesText (outcome : Outcome Text) (before after : Text) (answer : Answer) : Type 0 where
-  pub answer-is : answer ≡ answerFor length outcome
-  pub buffer-is : after ≡ bufferAfter outcome before
+use Rattle.answers.specs.Contracts.{GivesText}
 
 -- The bytes that were counted are in the slice.
 pub record Counted (wrote : Wrote) (result : Text) : Type 0 where

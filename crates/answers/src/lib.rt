@@ -49,7 +49,7 @@ fn build_in(bytes: &[u8], prepared: &mut [u64]) -> Checked
     ensures { λ r. ⌜ CheckedIs (now (bytes .entry)) r (now (prepared .exit)) ⌝ }
 {
     let rows = rows_needed(bytes, prepared);
-    if prepared.len() < 1536 + 3 * rows {
+    if prepared.len() < Table::ROWS + 3 * rows {
         return Checked::Small;
     }
     build_all(bytes, prepared);

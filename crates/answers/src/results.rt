@@ -5,6 +5,7 @@ use automaton::automaton_of;
 use lens::Wrote;
 use lens::texts::write_text;
 use paths::find_path;
+use table::Table;
 use table::parts::node_count;
 ghost use mathlib.Core.Path.{_≡_};
 ghost use Prim.Native.Nat.{_-_, _≤_, min};
@@ -13,7 +14,8 @@ ghost use Rattle.semantics.specs.Table.{nodeCount};
 ghost use Rattle.semantics.specs.Calls.{output};
 ghost use Rattle.answers.specs.declared.Answer.the-variants.{Refusal};
 ghost use Rattle.answers.specs.Answers.{IsAccepted, Ready};
-ghost use Rattle.answers.specs.Results.{GivesText, Counted, Finishes, RootPath};
+ghost use Rattle.answers.specs.Contracts.{GivesText};
+ghost use Rattle.answers.specs.Results.{Counted, Finishes, RootPath};
 
 // The root is the last node.
 pub fn root_of(bytes: &[u8]) -> usize
@@ -39,14 +41,18 @@ pub fn root_path(bytes: &[u8], prepared: &[u64], side: Side, text: &[u8], path: 
 pub fn room_in(lent: usize) -> usize
     ensures { λ r. ⌜ r ≡ min lent 4096 ⌝ }
 {
-    if lent < 4096 { lent } else { 4096 }
+    if lent < Table::TEXT {
+        lent
+    } else {
+        Table::TEXT
+    }
 }
 
 // Room for a result of the call's own.
-pub fn no_text() -> [u8; 4096]
+pub fn no_text() -> [u8; Table::TEXT]
     ensures { λ r. ⌜ 4096 ≡ length r ⌝ }
 {
-    [0u8; 4096]
+    [0u8; Table::TEXT]
 }
 
 // Finding the path of a text of at most 4,096 bytes needs no room lent for the sets that it keeps.

@@ -1,6 +1,7 @@
 // The position automata of a program's nodes, in the prepared program. Only the functions of this crate, which read it, and
 // those of `builder`, which write it, know where its numbers stand.
 use positions::Set;
+use table::Table;
 ghost use mathlib.Core.Path.{_≡_};
 ghost use Prim.Native.Nat.{_+_, _*_, _≤_, _<_};
 ghost use lib.ListN.{length};
@@ -44,12 +45,12 @@ pub fn automaton_of(prepared: &[u64], node: usize, side: Side) -> Automaton
     ensures { λ r. ⌜ r ≡ automatonAt (now (prepared .entry)) node side ⌝ }
 {
     let s = side_index(side);
-    let i = 16 * node + 4 + 6 * s;
+    let i = Table::WORDS * node + 4 + 6 * s;
     let first = set_at(prepared, i + 2);
     let last = set_at(prepared, i + 4);
     Automaton {
         start: prepared[i] as usize,
-        count: prepared[16 * node + 1 + s] as usize,
+        count: prepared[Table::WORDS * node + 1 + s] as usize,
         nullable: prepared[i + 1] == 1,
         first: first,
         last: last,
@@ -61,7 +62,7 @@ pub fn follow(prepared: &[u64], row: usize) -> Set
     requires { ⌜ rowAt (row + 1) ≤ length (now prepared) ⌝ }
     ensures { λ r. ⌜ r ≡ followOf (now (prepared .entry)) row ⌝ }
 {
-    set_at(prepared, 1536 + 3 * row + 1)
+    set_at(prepared, Table::ROWS + 3 * row + 1)
 }
 
 // Whether a byte may stand at the position of a row.
@@ -69,7 +70,7 @@ pub fn stands(prepared: &[u64], row: usize, byte: u8) -> bool
     requires { ⌜ rowAt (row + 1) ≤ length (now prepared) ⌝ }
     ensures { λ r. ⌜ r ≡ standsIn (now (prepared .entry)) row byte ⌝ }
 {
-    let range = prepared[1536 + 3 * row];
+    let range = prepared[Table::ROWS + 3 * row];
     let c = byte as u64;
     c <= range % 256 && range / 256 <= c
 }
@@ -80,8 +81,8 @@ pub fn share(prepared: &[u64], row: usize, other: usize) -> bool
     requires { ⌜ rowAt (other + 1) ≤ length (now prepared) ⌝ }
     ensures { λ r. ⌜ r ≡ shareIn (now (prepared .entry)) row other ⌝ }
 {
-    let a = prepared[1536 + 3 * row];
-    let b = prepared[1536 + 3 * other];
+    let a = prepared[Table::ROWS + 3 * row];
+    let b = prepared[Table::ROWS + 3 * other];
     larger(a / 256, b / 256) <= smaller(a % 256, b % 256)
 }
 
@@ -91,7 +92,7 @@ pub fn alike(prepared: &[u64], row: usize, other: usize) -> bool
     requires { ⌜ rowAt (other + 1) ≤ length (now prepared) ⌝ }
     ensures { λ r. ⌜ r ≡ alikeIn (now (prepared .entry)) row other ⌝ }
 {
-    prepared[1536 + 3 * row] == prepared[1536 + 3 * other]
+    prepared[Table::ROWS + 3 * row] == prepared[Table::ROWS + 3 * other]
 }
 
 fn larger(a: u64, b: u64) -> u64

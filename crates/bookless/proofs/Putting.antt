@@ -32,7 +32,7 @@ use Rattle.steps.specs.declared.Spot.{Spot}
 use Rattle.steps.specs.declared.Cut.{Cut}
 use Rattle.steps.specs.declared.Halves.{Halves}
 use Rattle.steps.specs.declared.Choice.{Choice}
-use Rattle.steps.specs.Steps.{PlaceInside, cutSheet, halvesOf, ArmIs, countBehind, Fits64}
+use Rattle.steps.specs.Steps.{PlaceInside, cutSheet, halvesOf, ArmIs, ChoiceIs, countBehind, Fits64}
 use Rattle.steps.specs.Stepping.{
   behind-back,
   cut-inside,
@@ -156,33 +156,32 @@ unfolding plain
 plain-arm l m old kept a e = ap (λ (w : Written). w .text) e
 
 pub puts-union :
-    {bytes : Text} {node left right : ℕ} {new : Text} {path : List ℕ} {p : Place} {deck : Text} {choice : Choice} {before after : Text} {r : Wrote}
+    {bytes : Text} {node left right : ℕ} {old kept : Option Text} {new : Text} {path : List ℕ} {spot : Spot} {before after : Text} {r : Wrote}
     → (s : TwoLenses (trees bytes) node left right (λ l m. lens (union l m)))
-    → ArmIs bytes node (s .left) (s .right) new path (At p) deck choice
-    → PutsText bytes (choice .arm .node) (oldText deck (choice .old)) new before after r
-    → PutsText bytes node (some (partAt deck p)) new before after r
-unfolding oldText
-puts-union {new = new} {p = p} {deck = deck} {choice = choice} s chosen put =
+    → ArmIs bytes node (s .left) (s .right) old kept new path spot
+    → PutsText bytes (spot .node) kept new before after r
+    → PutsText bytes node old new before after r
+puts-union {old = old} {kept = kept} {new = new} s chosen put =
     its-lens
     (union (s .left) (s .right))
     (s .tree-is)
     (rw
-    (plain-arm (union (s .left) (s .right)) (chosen .arm) (some (partAt deck p)) (oldText deck (choice .old)) new (chosen .writes-same []))
+    (plain-arm (union (s .left) (s .right)) (chosen .arm) old kept new (chosen .writes-same []))
     (put .writes (chosen .arm) (chosen .arm-is)))
 
 -- ---- What the nodes below are given
 
 -- the arm of a union
 pub arm-given :
-    {bytes : Text} {spot : Spot} {l m : Lens} {new : Text} {path path′ : List ℕ} {p : Place} {old : Old} {deck : Text} {choice : Choice}
+    {bytes : Text} {spot : Spot} {l m : Lens} {new : Text} {path path′ : List ℕ} {p : Place} {deck : Text} {choice : Choice}
     → Given bytes spot new path p deck
-    → ArmIs bytes (spot .node) l m new path′ old deck choice
+    → ChoiceIs bytes (spot .node) l m new path′ p deck choice
     → GivenOld bytes (choice .arm) new path′ (choice .old) deck
 arm-given given chosen =
     record {
       sheet-given = record {
         new-short = given .sheet-given .new-short;
-        parsed = chosen .sheet-parsed;
+        parsed = chosen .is-arm .sheet-parsed;
         deck-room = given .sheet-given .deck-room;
       };
       old-fits = chosen .old-parsed;

@@ -83,8 +83,7 @@ pub fn put(
             put_join(bytes, prepared, a, b, base, new, path, place, deck, out)
         }
         Kind::LensUnion { left, right } => {
-            let old = Old::At(place);
-            let choice = choose(prepared, left, right, base, new, path, old, deck);
+            let choice = choose(prepared, left, right, base, new, path, place, deck);
             let arm = choice.arm;
             let kept = choice.old;
             write(bytes, prepared, arm, new, path, kept, deck, out)

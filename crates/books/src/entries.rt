@@ -1,20 +1,36 @@
 // The book: made empty, and with one more entry.
 use crate::Book;
 use positions::Set;
+use table::Table;
 ghost use mathlib.Core.Path.{_≡_};
 ghost use Prim.Native.Nat.{_<_};
 ghost use Rattle.books.specs.Listed.{Sized, Entered};
 
 impl Book {
+    // 'The book holds at most 256 entries'
+    pub const ENTRIES: usize = 256;
+
+    // The deck that entries are looked up in: the old source, then its path, a byte of each key's fingerprint, where each card stands, and the cards.
+    pub const PATH: usize = Table::TEXT;
+
+    pub const PRINTS: usize = Book::PATH + Table::TEXT;
+
+    pub const PLACES: usize = Book::PRINTS + Book::ENTRIES;
+
+    pub const CARDS: usize = Book::PLACES + 3 * Book::ENTRIES;
+
+    // A card: the length of a key in two bytes, and the key.
+    pub const CARD: usize = Table::TEXT + 2;
+
     pub fn empty() -> Book
         ensures { λ r. ⌜ (r .count ≡ 0) × Sized r ⌝ }
     {
         Book {
-            starts: [0u16; 256],
-            lengths: [0u16; 256],
-            bases: [0u8; 256],
-            children: [0u8; 256],
-            used: [false; 256],
+            starts: [0u16; Book::ENTRIES],
+            lengths: [0u16; Book::ENTRIES],
+            bases: [0u8; Book::ENTRIES],
+            children: [0u8; Book::ENTRIES],
+            used: [false; Book::ENTRIES],
             left: Set::empty(),
             count: 0,
         }

@@ -7,11 +7,11 @@ pub mod lookups;
 // The old source's entries: where each stands in the source and where its match's positions begin there, the child node of its match, and whether it was taken. `left` has
 // the children of which an entry may be left: no other has one.
 pub struct Book {
-    pub starts: [u16; 256],
-    pub lengths: [u16; 256],
-    pub bases: [u8; 256],
-    pub children: [u8; 256],
-    pub used: [bool; 256],
+    pub starts: [u16; Book::ENTRIES],
+    pub lengths: [u16; Book::ENTRIES],
+    pub bases: [u8; Book::ENTRIES],
+    pub children: [u8; Book::ENTRIES],
+    pub used: [bool; Book::ENTRIES],
     pub left: Set,
     pub count: usize,
 }

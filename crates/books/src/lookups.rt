@@ -29,7 +29,7 @@ fn card_place(deck: &[u8], i: usize) -> usize
     requires { ⌜ (i < 256) × (9216 ≤ length (now deck)) ⌝ }
     ensures { λ r. ⌜ r ≡ cardPlace (now (deck .entry)) i ⌝ }
 {
-    let j = 8448 + 3 * i;
+    let j = Book::PLACES + 3 * i;
     deck[j] as usize * 65536 + deck[j + 1] as usize * 256 + deck[j + 2] as usize
 }
 
@@ -81,7 +81,7 @@ fn find<'a>(
 {
     let mut i = 0;
     while i < count {
-        if deck[8192 + i] == print {
+        if deck[Book::PRINTS + i] == print {
             if answers(used[i], children[i] as usize, child, deck, i, card) {
                 return i;
             }

@@ -15,12 +15,13 @@ use Rattle.semantics.specs.Pattern.{Pattern, word, range, star}
 use Rattle.semantics.specs.Lens.{copy, const, key, join, union, repeat, match, source, sheet, language, constLanguage}
 use Rattle.semantics.specs.Lens.{Side as SideOf}
 use Rattle.semantics.specs.Table.{nodeCount, poolLength, pool, Tree, pattern, lens, broken, treeAt, trees, treeSize, treePositions, positions, overLimit}
+use Rattle.laws.specs.Basics.{or-neither}
 use Rattle.table.specs.declared.Kind.{Kind}
 use Rattle.table.specs.declared.Kind.the-variants.{Word, Range, PatternJoin, PatternUnion, PatternRepeat, Copy, Const, Key, LensJoin, LensUnion, LensRepeat, Match}
 use Rattle.table.specs.Prepared.{Shows}
 use Rattle.table.specs.declared.Node.{Node}
 use Rattle.table.specs.Rules.{AllSized, NodeRead}
-use Rattle.table.proofs.RightSizes.{or-neither, right-of}
+use Rattle.laws.specs.RightSizes.{right-of}
 use Rattle.builder.specs.declared.program.Pair.{Pair}
 use Rattle.builder.specs.declared.program.Pair.the-variants.{Join, Union}
 use Rattle.automaton.specs.declared.Automaton.{Automaton}

@@ -1,4 +1,4 @@
 // Builds the position automaton of every node and side into the prepared program.
-pub mod build;
+mod build;
 pub mod program;
-pub mod rows;
+mod rows;

@@ -3,6 +3,7 @@ use automaton::Side;
 use automaton::follow;
 use automaton::side_index;
 use positions::Set;
+use table::Table;
 ghost use mathlib.Core.Path.{_≡_};
 ghost use mathlib.Core.Bool.{_&&_};
 ghost use Prim.Native.Nat.{ℕ, _+_, _*_, _/_, _%_, _≤_, _<_};
@@ -31,7 +32,7 @@ pub fn put_row(prepared: &mut [u64], row: usize, range: u64, follow: Set)
     requires { ⌜ rowAt (row + 1) ≤ length (now prepared) ⌝ }
     ensures { λ r. ⌜ RowPut row range follow (now (prepared .entry)) (now (prepared .exit)) ⌝ }
 {
-    let i = 1536 + 3 * row;
+    let i = Table::ROWS + 3 * row;
     let a = follow.low;
     let b = follow.high;
     prepared[i] = range;
@@ -57,7 +58,7 @@ pub fn put_header(
     requires { ⌜ 16 * node + 16 ≤ length (now prepared) ⌝ }
     ensures { λ r. ⌜ HeaderPut node side start nullable first last (now (prepared .entry)) (now (prepared .exit)) ⌝ }
 {
-    let i = 16 * node + 4 + 6 * side_index(side);
+    let i = Table::WORDS * node + 4 + 6 * side_index(side);
     let a = first.low;
     let b = first.high;
     let c = last.low;
@@ -92,7 +93,7 @@ fn copy_row(prepared: &mut [u64], from: usize, to: usize, up: usize, more: Set)
     ensures { λ r. ⌜ RowCopied from to up (holds more) (now (prepared .entry)) (now (prepared .exit)) ⌝ }
     ensures { λ r. ⌜ Kept (rowAt to) (rowAt (to + 1)) (now (prepared .entry)) (now (prepared .exit)) ⌝ }
 {
-    let range = prepared[1536 + 3 * from];
+    let range = prepared[Table::ROWS + 3 * from];
     let next = follow(prepared, from).moved(up).union(more);
     put_row(prepared, to, range, next);
 }

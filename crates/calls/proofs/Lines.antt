@@ -15,8 +15,8 @@ use Rattle.semantics.specs.Calls.{Answer as Outcome}
 use Rattle.laws.specs.Accepted.{accepted-iff}
 use Rattle.table.specs.Rules.{NodeRead}
 use Rattle.table.specs.declared.Node.{Node as NodeOf}
-use Rattle.answers.specs.Answers.{answerFor, IsAccepted}
-use Rattle.answers.specs.Results.{GivesText}
+use Rattle.answers.specs.Contracts.{answerFor, GivesText}
+use Rattle.answers.specs.Answers.{IsAccepted}
 use Rattle.answers.specs.declared.Answer.{Answer}
 use Rattle.answers.specs.declared.Answer.the-variants.{Result, Refusal}
 use Rattle.answers.proofs.Verdicts.{accepted-sizes, root-tree}
@@ -36,7 +36,7 @@ root-positions : {bytes : Text} (a : IsAccepted bytes) → (treePositions source
 unfolding overLimit
 root-positions {bytes} a =
     let right = accepted-sizes a in
-    let keeps = accepted-iff bytes .0 (a .root, a .gives-root) .each-node (nodeCount bytes - 1) (omega arith) .within-limits in
+    let keeps = accepted-iff bytes .0 (a .root, a .gives-root) .table-right .each-node (nodeCount bytes - 1) (omega arith) .within-limits in
     let keeps : overLimit (lens (a .root)) ≡ false = rw (root-tree bytes a) at keeps in
     let t = lens (a .root) in
     let (others, sheets) = neither (ltb maxSize (treeSize t) || ltb maxPositions (treePositions source t)) (ltb maxPositions (treePositions sheet t)) keeps in

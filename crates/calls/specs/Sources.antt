@@ -12,7 +12,7 @@ use Rattle.semantics.specs.Table.{nodeCount, trees}
 use Rattle.semantics.specs.Calls.{gives, refuseIf, program, maxText, maxEntries, output}
 use Rattle.lens.specs.Parsed.{Parsed}
 use Rattle.answers.specs.declared.Answer.{Answer}
-use Rattle.answers.specs.Results.{GivesText}
+use Rattle.answers.specs.Contracts.{GivesText}
 use Rattle.books.specs.declared.Book.{Book}
 use Rattle.books.specs.declared.Place.{Place}
 use Rattle.books.specs.Listed.{unused, InOrder}

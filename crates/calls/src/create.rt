@@ -6,17 +6,18 @@ use answers::results::refuse;
 use answers::results::root_path;
 use automaton::Side;
 use lens::Mode;
+use table::Table;
 ghost use lib.ListN.{length};
 ghost use Rattle.semantics.specs.Calls.{createCall};
 ghost use Rattle.answers.specs.Answers.{Ready};
-ghost use Rattle.answers.specs.Results.{GivesText};
+ghost use Rattle.answers.specs.Contracts.{GivesText};
 
 // The source of a sheet, of a program that is accepted and prepared.
 pub fn create_with(bytes: &[u8], prepared: &[u64], sheet: &[u8], out: &mut [u8]) -> Answer
     requires { ⌜ Ready (now bytes) (now prepared) ⌝ }
     ensures { λ r. ⌜ GivesText (createCall (now (bytes .entry)) (now (sheet .entry)) (length (now (out .entry)))) (now (out .entry)) (now (out .exit)) r ⌝ }
 {
-    if 4096 < sheet.len() {
+    if Table::TEXT < sheet.len() {
         return refuse(12);
     }
     let mut positions = no_text();

@@ -6,17 +6,18 @@ use answers::results::refuse;
 use answers::results::root_path;
 use automaton::Side;
 use lens::Mode;
+use table::Table;
 ghost use lib.ListN.{length};
 ghost use Rattle.semantics.specs.Calls.{getCall};
 ghost use Rattle.answers.specs.Answers.{Ready};
-ghost use Rattle.answers.specs.Results.{GivesText};
+ghost use Rattle.answers.specs.Contracts.{GivesText};
 
 // The sheet of a source, of a program that is accepted and prepared.
 pub fn get_with(bytes: &[u8], prepared: &[u64], source: &[u8], out: &mut [u8]) -> Answer
     requires { ⌜ Ready (now bytes) (now prepared) ⌝ }
     ensures { λ r. ⌜ GivesText (getCall (now (bytes .entry)) (now (source .entry)) (length (now (out .entry)))) (now (out .entry)) (now (out .exit)) r ⌝ }
 {
-    if 4096 < source.len() {
+    if Table::TEXT < source.len() {
         return refuse(12);
     }
     let mut positions = no_text();

@@ -7,7 +7,7 @@ use table::parts::node_count;
 ghost use mathlib.Core.Path.{_≡_};
 ghost use lib.ListN.{length};
 ghost use Rattle.answers.specs.Answers.{Ready};
-ghost use Rattle.answers.specs.Results.{GivesText};
+ghost use Rattle.answers.specs.Contracts.{GivesText};
 ghost use Rattle.calls.specs.Line.{lineCall};
 
 // Room for a line.

@@ -19,6 +19,7 @@ use lens::Wrote;
 use listing::Listing;
 use listing::list;
 use steps::Spot;
+use table::Table;
 use writer::Done;
 use writer::write::put;
 ghost use mathlib.Core.Path.{_≡_};
@@ -27,7 +28,8 @@ ghost use lib.ListN.{length};
 ghost use Rattle.semantics.specs.Lens.{put, source, sheet};
 ghost use Rattle.semantics.specs.Calls.{putCall};
 ghost use Rattle.answers.specs.Answers.{Ready};
-ghost use Rattle.answers.specs.Results.{GivesText, Makes};
+ghost use Rattle.answers.specs.Contracts.{GivesText};
+ghost use Rattle.answers.specs.Results.{Makes};
 ghost use Rattle.decks.specs.Below.{BelowIs};
 ghost use Rattle.books.specs.Looking.{Dealt};
 ghost use Rattle.decks.specs.Dealing.{DealtTo, DealtOn};
@@ -56,10 +58,10 @@ pub fn put_with(
     requires { ⌜ Ready (now bytes) (now prepared) ⌝ }
     ensures { λ r. ⌜ GivesText (putCall (now (bytes .entry)) (now (sheet .entry)) (now (source .entry)) (length (now (out .entry)))) (now (out .entry)) (now (out .exit)) r ⌝ }
 {
-    if 4096 < sheet.len() {
+    if Table::TEXT < sheet.len() {
         return refuse(12);
     }
-    if 4096 < source.len() {
+    if Table::TEXT < source.len() {
         return refuse(12);
     }
     let mut old_positions = no_text();
@@ -144,17 +146,17 @@ fn long_marks() -> [u64; 4096]
 }
 
 // Room for the card of a key.
-fn no_card() -> [u8; 4098]
+fn no_card() -> [u8; Book::CARD]
     ensures { λ r. ⌜ 4098 ≡ length r ⌝ }
 {
-    [0u8; 4098]
+    [0u8; Book::CARD]
 }
 
 // Room for what stands below each node.
-fn no_below() -> [u64; 288]
+fn no_below() -> [u64; 3 * Table::NODES]
     ensures { λ r. ⌜ 288 ≡ length r ⌝ }
 {
-    [0u64; 288]
+    [0u64; 3 * Table::NODES]
 }
 
 // The place of an old source of that length.
@@ -270,7 +272,7 @@ fn deal_at(
 
 // The first reach. At most 256 entries have cards, so it is the short one; that it is asked keeps the compiler from laying both rooms into one frame.
 fn first_reach(dealt: Dealing) -> Reach {
-    if 256 < dealt.entries {
+    if Book::ENTRIES < dealt.entries {
         Reach::Long
     } else {
         Reach::Short
@@ -466,7 +468,7 @@ fn first_desk(book: Book) -> Desk
     requires { ⌜ book .count ≤ 256 ⌝ }
     ensures { λ r. ⌜ r ≡ Small ⌝ }
 {
-    if 256 < book.count {
+    if Book::ENTRIES < book.count {
         let none = Dealing { entries: 0, at: 0 };
         return Desk::Large(none);
     }

@@ -1,2 +1,4 @@
 -- What the proofs of several functions cite.
+mod CommandLines
 mod Outcomes
+mod Sentences

@@ -11,9 +11,8 @@ use Rattle.semantics.specs.Calls.{gives, refuses, program, withProgram, checkCa
 use Rattle.semantics.specs.Calls.{Answer as Outcome}
 use Rattle.answers.specs.declared.Answer.{Answer}
 use Rattle.answers.specs.declared.Answer.the-variants.{Result, Refusal}
-use Rattle.answers.specs.Answers.{answerFor}
+use Rattle.answers.specs.Contracts.{answerFor, GivesText}
 use Rattle.lines.specs.Line.{refusedLine}
-use Rattle.answers.specs.Results.{GivesText}
 use Rattle.calls.proofs.Lines.{refused-line}
 use Rattle.commands.specs.Replies.{checkOutcome, printed, numberOf, answerNumber, Replies, Finishes}
 

@@ -1,7 +1,8 @@
 -- The words of the command line.
-use mathlib.Core.Bool.{cond}
+use mathlib.Core.Bool.{Bool, cond, not, _&&_}
 use mathlib.Core.List.{[], _∷_}
 use Prim.Native.Nat.{ℕ}
+use lib.Dec.{eqb}
 use Rattle.semantics.specs.Text.{Text, sameText}
 use Rattle.commands.specs.declared.command.Command.{Command}
 use Rattle.commands.specs.declared.command.Command.the-variants.{Check, Get, Put, Create, Unknown}
@@ -24,3 +25,7 @@ wordsOf Get = 3
 wordsOf Put = 4
 wordsOf Create = 3
 wordsOf Unknown = 0
+
+-- The first word is a command, and the command line has as many words as it takes.
+unfoldable pub understood : ℕ → Text → Bool
+understood count word = not (eqb count 0) && eqb count (wordsOf (commandOf word))

@@ -2,3 +2,4 @@
 pub mod Commands
 pub mod Files
 pub mod Replies
+pub mod Sentences

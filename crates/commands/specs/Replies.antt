@@ -10,7 +10,7 @@ use Rattle.semantics.specs.Calls.{Answer as Outcome}
 use Rattle.answers.specs.declared.Answer.{Answer}
 use Rattle.answers.specs.declared.Answer.the-variants.{Result, Refusal}
 use Rattle.lines.specs.Line.{refusedLine}
-use Rattle.answers.specs.Results.{GivesText}
+use Rattle.answers.specs.Contracts.{GivesText}
 use Rattle.commands.specs.declared.command.Command.{Command}
 use Rattle.commands.specs.declared.command.Command.the-variants.{Check, Get, Put, Create, Unknown}
 use Rattle.commands.specs.declared.replies.Reply.{Reply}

@@ -8,6 +8,7 @@ pub enum Contents {
     Missing,
 }
 
+// The promise limits: the bytes that are counted lie within the buffer. It leaves open which they are, and whether there are any.
 pub fn read(path: &[u8], buffer: &mut [u8]) -> Contents
     ensures { λ r. ⌜ Holds r (now (buffer .exit)) ⌝ }
 {

@@ -1,25 +1,31 @@
 // What each refusal means and what to do, in a sentence. docs/GUIDE.md has an example of each.
+ghost use mathlib.Core.Bool.{true};
+ghost use mathlib.Core.Path.{_≡_};
+ghost use Rattle.commands.specs.Sentences.{hasSentence};
 
-// The sentences of the table's sizes and of the first round; the others follow.
-pub fn explain(fd: i32, number: usize) -> bool {
+// Writes the sentence of a refusal, and says whether the number has one. Whether the system could write it is left open, since no contract can say
+// what is read or written. First the sentences of the table's sizes and of the first round; the others follow.
+pub fn explain(fd: i32, number: usize) -> bool
+    ensures { λ r. ⌜ r ≡ hasSentence 1 number ⌝ }
+{
     match number {
-        1 => io::write_all(
+        1 => said(
             fd,
             b"The sizes of the table are wrong, so it is no whole program: make it again with sheet-assemble, and copy it as binary.\n",
         ),
-        2 => io::write_all(
+        2 => said(
             fd,
             b"This node is of a kind that the engine does not know: the table was damaged or made for another engine, so make it again.\n",
         ),
-        3 => io::write_all(
+        3 => said(
             fd,
             b"An operand of this node breaks a rule, or the last node is no lens: see what each kind takes, and put the whole program last.\n",
         ),
-        4 => io::write_all(
+        4 => said(
             fd,
             b"This node is a match that holds another match: decide which of the two is the entry, and take the other match away.\n",
         ),
-        5 => io::write_all(
+        5 => said(
             fd,
             b"This node passes size 512 or 128 positions a side: use ranges and repeats for long words, and say once what arms share.\n",
         ),
@@ -27,29 +33,31 @@ pub fn explain(fd: i32, number: usize) -> bool {
     }
 }
 
-fn explain_typing(fd: i32, number: usize) -> bool {
+fn explain_typing(fd: i32, number: usize) -> bool
+    ensures { λ r. ⌜ r ≡ hasSentence 6 number ⌝ }
+{
     match number {
-        6 => io::write_all(
+        6 => said(
             fd,
             b"The default of this const is no text of its pattern: give a default that fits, or let the pattern take this one.\n",
         ),
-        7 => io::write_all(
+        7 => said(
             fd,
             b"A source of this join can be cut in two ways: put a mark between the halves, or make one lens of both.\n",
         ),
-        8 => io::write_all(
+        8 => said(
             fd,
             b"A sheet of this join can be cut in two ways: show a mark between the halves, or make one lens of both.\n",
         ),
-        9 => io::write_all(
+        9 => said(
             fd,
             b"A text is a source of both arms of this union: write arms that share no source, or make one lens of both.\n",
         ),
-        10 => io::write_all(
+        10 => said(
             fd,
             b"A source of this repeat can be cut into parts in two ways, or a part can be empty: give each part an end of its own.\n",
         ),
-        11 => io::write_all(
+        11 => said(
             fd,
             b"A sheet of this repeat can be cut into parts in two ways, or a part can be empty: end each part with a mark that the sheet shows.\n",
         ),
@@ -57,28 +65,38 @@ fn explain_typing(fd: i32, number: usize) -> bool {
     }
 }
 
-fn explain_texts(fd: i32, number: usize) -> bool {
+fn explain_texts(fd: i32, number: usize) -> bool
+    ensures { λ r. ⌜ r ≡ hasSentence 12 number ⌝ }
+{
     match number {
-        12 => io::write_all(
+        12 => said(
             fd,
             b"The source or the sheet is longer than 4,096 bytes: divide it at the ends of entries.\n",
         ),
-        13 => io::write_all(
+        13 => said(
             fd,
             b"The source is none of this program: correct what the program does not foresee, often a newline at the end of the file.\n",
         ),
-        14 => io::write_all(
+        14 => said(
             fd,
             b"The sheet is none of this program: correct what the program does not foresee, often a newline at the end of the file.\n",
         ),
-        15 => io::write_all(
+        15 => said(
             fd,
             b"The old source has more than 256 entries: divide it, or let match mark larger pieces.\n",
         ),
-        16 => io::write_all(
+        16 => said(
             fd,
             b"The result would be longer than 4,096 bytes: divide the sheet or the source.\n",
         ),
-        _ => true,
+        _ => false,
     }
+}
+
+// Writes a sentence, and says that there is one.
+fn said(fd: i32, sentence: &[u8]) -> bool
+    ensures { λ r. ⌜ r ≡ true ⌝ }
+{
+    io::write_all(fd, sentence);
+    true
 }

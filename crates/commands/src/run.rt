@@ -11,17 +11,23 @@ use crate::replies::Reply;
 use crate::replies::reply_to;
 use libc::STDERR_FILENO;
 use libc::STDOUT_FILENO;
+ghost use mathlib.Core.Path.{_≡_};
 ghost use Prim.Native.Nat.{_≤_};
 ghost use lib.ListN.{length};
+ghost use Rattle.commands.specs.Commands.{understood};
 
-// The command line: how many words it has, the command, and the names of its files. What is missing is empty.
-pub fn run(count: usize, word: &[u8], first: &[u8], second: &[u8], third: &[u8]) {
+// The command line: how many words it has, the command, and the names of its files. What is missing is empty. Says whether it is one of the four
+// command lines. What is read and written is left open, since no contract can say it.
+pub fn run(count: usize, word: &[u8], first: &[u8], second: &[u8], third: &[u8]) -> bool
+    ensures { λ r. ⌜ r ≡ understood count (now (word .entry)) ⌝ }
+{
     let command = command_of(word);
     if count == 0 || count != words_of(command) {
         usage();
-        return;
+        return false;
     }
     answer(command, count, first, second, third);
+    true
 }
 
 fn usage() {

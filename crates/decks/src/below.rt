@@ -4,6 +4,7 @@ use positions::Set;
 use table::Kind;
 use table::Table;
 ghost use mathlib.Core.Path.{_≡_};
+ghost use mathlib.Core.Logic.{_↔_};
 ghost use mathlib.Core.Bool.{true, false, _||_, cond};
 ghost use Prim.Native.Nat.{_+_, _*_, _≤_, _<_};
 ghost use lib.ListN.{length};
@@ -16,7 +17,7 @@ ghost use Rattle.decks.specs.Below.{unionAt, standingAt, OverTwo, OverCh
 // Whether no match at or below a node has one of these children.
 pub fn asks_none(below: &[u64], node: usize, children: Set) -> bool
     requires { ⌜ 3 * node + 3 ≤ length (now below) ⌝ }
-    ensures { λ r. ⌜ (r ≡ true → ¬ Shared (setAt (now (below .entry)) (3 * node)) children) ⌝ }
+    ensures { λ r. ⌜ (r ≡ true) ↔ (¬ Shared (setAt (now (below .entry)) (3 * node)) children) ⌝ }
 {
     let asked = set_at(below, 3 * node);
     if asked.meets(children) {

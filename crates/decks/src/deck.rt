@@ -110,7 +110,7 @@ fn entry_card(
             room,
         );
     }
-    let slot = &mut room[0..4098];
+    let slot = &mut room[0..Book::CARD];
     let behind = &mut slot[2..];
     let key = emit(
         bytes,
@@ -132,8 +132,8 @@ fn put_head(deck: &mut [u8], i: usize, print: u8, at: usize)
     requires { ⌜ at < 16777216 ⌝ }
     ensures { λ _. ⌜ HeadPut (now (deck .entry)) i print at (now (deck .exit)) ⌝ }
 {
-    let j = 8448 + 3 * i;
-    deck[8192 + i] = print;
+    let j = Book::PLACES + 3 * i;
+    deck[Book::PRINTS + i] = print;
     deck[j] = (at / 65536) as u8;
     deck[j + 1] = (at / 256 % 256) as u8;
     deck[j + 2] = (at % 256) as u8;
@@ -145,10 +145,10 @@ pub fn begin_deck(source: &[u8], trail: &[u8], deck: &mut [u8]) -> Dealing
     ensures { λ r. ⌜ Begun (now (source .entry)) (now (trail .entry)) (now (deck .exit)) r ⌝ }
 {
     write_text(source, deck);
-    write_text(trail, &mut deck[4096..]);
+    write_text(trail, &mut deck[Book::PATH..]);
     Dealing {
         entries: 0,
-        at: 9216,
+        at: Book::CARDS,
     }
 }
 
@@ -161,7 +161,8 @@ pub fn move_deck(from: &[u8], dealt: Dealing, deck: &mut [u8])
     write_text(&from[0..at], deck);
 }
 
-// The cards of the next entries are put behind those that are there, as long as there is room.
+// The cards of the next entries are put behind those that are there, as long as there is room. The promise limits: how far it comes is left open where the deck, or the room
+// for a path, is shorter than a sheet may ask for.
 pub fn deal(
     bytes: &[u8],
     prepared: &[u64],
@@ -187,7 +188,7 @@ pub fn deal(
     let mut at = dealt.at;
     let mut i = dealt.entries;
     while i < count {
-        if deck.len() < at + 4098 {
+        if deck.len() < at + Book::CARD {
             return Dealing { entries: i, at };
         }
         let child = book.children[i] as usize;

@@ -15,8 +15,7 @@ use Rattle.laws.specs.Demand3.{OneRepeatedEntry, unedited, put-then-get, create
 use Rattle.laws.specs.Shuffle.{selected, PartNumbers}
 use Rattle.answers.specs.declared.Answer.{Answer}
 use Rattle.answers.specs.declared.Answer.the-variants.{Result, Refusal}
-use Rattle.answers.specs.Answers.{answerFor}
-use Rattle.answers.specs.Results.{GivesText}
+use Rattle.answers.specs.Contracts.{answerFor, GivesText}
 
 -- The call answered a result, whose text is that.
 pub record Gave (after : Text) (answer : Answer) (text : Text) : Type 0 where

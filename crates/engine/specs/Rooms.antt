@@ -5,8 +5,8 @@ use lib.ListN.{length}
 use Rattle.semantics.specs.Text.{Text}
 use Rattle.semantics.specs.Calls.{checkCall, getCall, putCall, createCall}
 use Rattle.answers.specs.declared.Answer.{Answer}
-use Rattle.answers.specs.Answers.{answerFor, TooSmall}
-use Rattle.answers.specs.Results.{GivesText}
+use Rattle.answers.specs.Contracts.{answerFor, GivesText}
+use Rattle.answers.specs.Answers.{TooSmall}
 use Rattle.engine.specs.declared.rooms.Call.{Call}
 use Rattle.engine.specs.declared.rooms.Call.the-variants.{Check, Get, Put, Create, Line}
 use Rattle.engine.specs.declared.rooms.Room.{Room}

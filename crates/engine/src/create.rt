@@ -5,7 +5,7 @@ use crate::rooms::answer_in;
 use answers::Answer;
 ghost use lib.ListN.{length};
 ghost use Rattle.semantics.specs.Calls.{createCall};
-ghost use Rattle.answers.specs.Results.{GivesText};
+ghost use Rattle.answers.specs.Contracts.{GivesText};
 
 pub fn create(bytes: &[u8], sheet: &[u8], out: &mut [u8]) -> Answer
     ensures { λ r. ⌜ GivesText (createCall (now (bytes .entry)) (now (sheet .entry)) (length (now (out .entry)))) (now (out .entry)) (now (out .exit)) r ⌝ }

@@ -9,7 +9,7 @@ ghost use mathlib.Core.List.{_++_};
 ghost use Prim.Native.Nat.{ℕ, _≤_};
 ghost use lib.ListN.{length, drop};
 ghost use Rattle.semantics.specs.Calls.{checkCall, lenscheckLine};
-ghost use Rattle.answers.specs.Answers.{answerFor};
+ghost use Rattle.answers.specs.Contracts.{answerFor};
 
 pub mod create;
 pub mod get;

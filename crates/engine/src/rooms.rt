@@ -7,6 +7,7 @@ use calls::create::create_with;
 use calls::get::get_with;
 use calls::line::line_with;
 use calls::put::put_with;
+use table::Table;
 use table::parts::node_count;
 ghost use mathlib.Core.Path.{_≡_};
 ghost use Prim.Native.Nat.{_≤_};
@@ -37,23 +38,23 @@ enum Tried {
     Small,
 }
 
-fn small_room() -> [u64; 1920]
+fn small_room() -> [u64; Table::ROWS + 3 * 128]
     ensures { λ r. ⌜ 1920 ≡ length r ⌝ }
 {
-    [0u64; 1920]
+    [0u64; Table::ROWS + 3 * 128]
 }
 
-fn middle_room() -> [u64; 7680]
+fn middle_room() -> [u64; Table::ROWS + 3 * 2048]
     ensures { λ r. ⌜ 7680 ≡ length r ⌝ }
 {
-    [0u64; 7680]
+    [0u64; Table::ROWS + 3 * 2048]
 }
 
-// 96 nodes with 128 positions on each side.
-fn full_room() -> [u64; 75264]
+// Both sides of all nodes, with all their positions.
+fn full_room() -> [u64; Table::ROWS + 3 * (2 * Table::NODES * Table::POSITIONS)]
     ensures { λ r. ⌜ 75264 ≡ length r ⌝ }
 {
-    [0u64; 75264]
+    [0u64; Table::ROWS + 3 * (2 * Table::NODES * Table::POSITIONS)]
 }
 
 // What a call does with an accepted and prepared program.
@@ -152,6 +153,7 @@ pub fn answer_in(
             let tried = try_full(call, bytes, sheet, source, out);
             match tried {
                 Tried::Done(answer) => answer,
+                // never: every program fits the full room, and no refusal has number 0
                 Tried::Small => Answer::Refusal { number: 0, node: 0 },
             }
         }

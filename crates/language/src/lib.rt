@@ -87,11 +87,14 @@ pub fn keep(sets: &mut [u64], i: usize, set: Set)
     sets[2 * i + 1] = set.high;
 }
 
-// Room for a set for each position.
-pub fn no_leads() -> [u64; 256]
+// A set for each position, in two numbers.
+const LEADS: usize = 2 * Set::SIZE;
+
+// Room for these sets.
+pub fn no_leads() -> [u64; LEADS]
     ensures { λ r. ⌜ NoLeads r ⌝ }
 {
-    [0u64; 256]
+    [0u64; LEADS]
 }
 
 // Position q is added to the sets of those that may follow it.
@@ -217,7 +220,7 @@ pub fn step_back(prepared: &[u64], a: Automaton, leads: &[u64], behind: Set, byt
     requires { ⌜ Leads (now prepared) a (now leads) ⌝ }
     ensures { λ res. ⌜ SteppedBack (now (prepared .entry)) a byte behind res ⌝ }
 {
-    if leads.len() < 256 {
+    if leads.len() < LEADS {
         return step_back_asking(prepared, a, behind, byte);
     }
     let count = a.count;

@@ -15,15 +15,11 @@ use Rattle.semantics.specs.Ambiguity.{TwoCuts, Overlap, BadRepeat}
 use Rattle.semantics.specs.Lens.{Lens, copy, const, key, join, union, repeat, match, Side, source, sheet, language}
 use Rattle.semantics.specs.Table.{nodeCount, sizesWrong, Node, nodeAt, nodes, Tree, pattern, lens, broken, Trees, treeAt, lensAt, trees, Line, line, unknownKind, isBroken, nestedMatch, nested, overLimit, firstRound, rootOf, rootLine, typingLines, treeLines, secondRound, lines, firstThatHolds}
 use Rattle.semantics.specs.Calls.{gives, refuses, rootAnswer, verdict, program}
-use Rattle.laws.specs.Basics.{bool-cases, not-both, false-of-not-true, all-append}
+use Rattle.laws.specs.Basics.{never, bool-cases, not-both, false-of-not-true, all-append}
 use Rattle.laws.specs.Membership.{matches-iff}
 use Rattle.laws.specs.Decided.{overlaps-iff, twoCuts-iff, badRepeat-iff}
 use Rattle.laws.specs.WellTyped.{WellTyped, Numbered}
 use Rattle.laws.specs.NodeTrees.{Placed, Made, node-made, lens-below, lens-tree, node-length, tree-length, node-is}
-
--- two constructors are never equal: it would make 0 and 1 equal
-never : {A : Type 0} → _≡_ {A = ℕ} 0 1 → A
-never e = absurd (omega arith)
 
 -- ---- The typing lines, said on texts
 
@@ -53,7 +49,7 @@ abbrev pub Quiet : List Line → Type 0
 Quiet = All (λ l. l .holds ≡ false)
 
 -- a test for P is false if and only if P fails
-fails-iff : {P : Type 0} (b : Bool) → (b ≡ true) ↔ P → (b ≡ false) ↔ (¬ P)
+pub fails-iff : {P : Type 0} (b : Bool) → (b ≡ true) ↔ P → (b ≡ false) ↔ (¬ P)
 fails-iff b i = (λ e p. not-both (i .1 p) e, λ n. false-of-not-true b (λ e. n (i .0 e)))
 
 -- and the other test is true if and only if P fails, and false if and only if P holds
@@ -119,11 +115,15 @@ pub record NodeKeeps (n : Node) (t : Tree) : Type 0 where
   pub not-nested : nested t ≡ false
   pub within-limits : overLimit t ≡ false
 
--- Document 01: the sizes are right, each node keeps its rules, the root is a lens, and each lens keeps the typing rules.
-pub record Keeps (bytes : Text) : Type 0 where
+-- Document 01, refusals 1 to 5: the sizes are right, each node keeps its rules, and the root is a lens.
+pub record TableRight (bytes : Text) : Type 0 where
   pub sizes-right : sizesWrong bytes ≡ false
   pub each-node : (k : ℕ) → k < nodeCount bytes → NodeKeeps (nodeAt bytes k) (treeAt (trees bytes) k)
   pub root-lens : (l : Lens) × (rootOf bytes ≡ some l)
+
+-- Document 01: the table is right, and each lens keeps the typing rules.
+pub record Keeps (bytes : Text) : Type 0 where
+  pub table-right : TableRight bytes
   pub each-lens : (k : ℕ) (l : Lens) → treeAt (trees bytes) k ≡ lens l → NodeTyped l
 
 -- ---- The rounds over the nodes
@@ -168,14 +168,18 @@ first-quiet j (n ∷ ns) (t ∷ ts) d e =
     )
     (each-number (λ k. k < suc (length ts) → NodeKeeps (getD (n ∷ ns) k d) (treeAt (t ∷ ts) k)))
 
+-- a tree that is a lens keeps the rules
+abbrev pub TreeTyped : Tree → Type 0
+TreeTyped t = (l : Lens) → t ≡ lens l → NodeTyped l
+
 -- the second round at one tree, and from any node on
-tree-quiet : (j : ℕ) (t : Tree) → Quiet (treeLines j t) ↔ ((l : Lens) → t ≡ lens l → NodeTyped l)
+pub tree-quiet : (j : ℕ) (t : Tree) → Quiet (treeLines j t) ↔ TreeTyped t
 unfolding treeLines
 tree-quiet j (pattern r) = (λ q l e. never (cc), λ f. tt)
 tree-quiet j (lens m) = (λ q l e. let same : m ≡ l = cc in subst NodeTyped same (typing-quiet j m .0 q), λ f. typing-quiet j m .1 (f m refl))
 tree-quiet j broken = (λ q l e. never (cc), λ f. tt)
 
-second-quiet : (j : ℕ) (ts : Trees) → Quiet (secondRound j ts) ↔ ((k : ℕ) (l : Lens) → treeAt ts k ≡ lens l → NodeTyped l)
+second-quiet : (j : ℕ) (ts : Trees) → Quiet (secondRound j ts) ↔ ((k : ℕ) → TreeTyped (treeAt ts k))
 unfolding secondRound treeAt
 second-quiet j [] = (λ q k l e. never (cc), λ f. tt)
 second-quiet j (t ∷ ts) =
@@ -183,12 +187,19 @@ second-quiet j (t ∷ ts) =
     (all-append-iff (λ x. x .holds ≡ false) (treeLines j t) (secondRound (suc j) ts))
     (Iff·trans
     (Iff·and (tree-quiet j t) (second-quiet (suc j) ts))
-    (each-number (λ k. (l : Lens) → treeAt (t ∷ ts) k ≡ lens l → NodeTyped l)))
+    (each-number (λ k. TreeTyped (treeAt (t ∷ ts) k))))
+
+-- the two rounds over a program
+abbrev pub roundOne : Text → List Line
+roundOne bytes = firstRound 0 (nodes bytes) (trees bytes)
+
+abbrev pub roundTwo : Text → List Line
+roundTwo bytes = secondRound 0 (trees bytes)
 
 -- the first round is quiet if and only if each node keeps its rules
 nodes-quiet :
     (bytes : Text)
-    → Quiet (firstRound 0 (nodes bytes) (trees bytes)) ↔ ((k : ℕ) → k < nodeCount bytes → NodeKeeps (nodeAt bytes k) (treeAt (trees bytes) k))
+    → Quiet (roundOne bytes) ↔ ((k : ℕ) → k < nodeCount bytes → NodeKeeps (nodeAt bytes k) (treeAt (trees bytes) k))
 nodes-quiet bytes =
     let i = first-quiet 0 (nodes bytes) (trees bytes) (nodeAt bytes 0) (node-length bytes ∙ sym (tree-length bytes)) in (
       λ q k h. rw (node-is bytes k h) at (i .0 q k (omega (arith, tree-length bytes))),
@@ -204,23 +215,26 @@ root-quiet bytes = go (rootOf bytes)
     go none = (λ e. absurd (true≢false e), λ r. absurd (Option·none-ne-some (r .0) (r .1)))
     go (some l) = (λ e. (l, refl), λ r. refl)
 
+-- none of the lines before the second round holds if and only if the table is right
+pub table-quiet :
+    (bytes : Text)
+    → ((sizesWrong bytes ≡ false) × Quiet (roundOne bytes) × (rootLine bytes .holds ≡ false)) ↔ TableRight bytes
+table-quiet bytes = (
+  λ q. record { sizes-right = q .0; each-node = nodes-quiet bytes .0 (q .1); root-lens = root-quiet bytes .0 (q .2) },
+  λ t. (t .sizes-right, nodes-quiet bytes .1 (t .each-node), root-quiet bytes .1 (t .root-lens)),
+)
+
 -- no line holds if and only if the program keeps the rules
 pub quiet-iff : (bytes : Text) → Quiet (lines bytes) ↔ Keeps bytes
 unfolding lines line
 quiet-iff bytes =
-    let rounds = all-append-iff (λ l. l .holds ≡ false) (firstRound 0 (nodes bytes) (trees bytes)) (rootLine bytes ∷ secondRound 0 (trees bytes)) in (
+    let rounds = all-append-iff (λ l. l .holds ≡ false) (roundOne bytes) (rootLine bytes ∷ roundTwo bytes) in (
       λ q.
           let r = rounds .0 (q .1) in
-          record {
-            sizes-right = q .0;
-            each-node = nodes-quiet bytes .0 (r .0);
-            root-lens = root-quiet bytes .0 (r .1 .0);
-            each-lens = second-quiet 0 (trees bytes) .0 (r .1 .1);
-          },
-      λ c. (
-        c .sizes-right,
-        rounds .1 (nodes-quiet bytes .1 (c .each-node), (root-quiet bytes .1 (c .root-lens), second-quiet 0 (trees bytes) .1 (c .each-lens))),
-      ),
+          record { table-right = table-quiet bytes .0 (q .0, r .0, r .1 .0); each-lens = second-quiet 0 (trees bytes) .0 (r .1 .1) },
+      λ c.
+          let t = table-quiet bytes .1 (c .table-right) in
+          (t .0, rounds .1 (t .1, (t .2, second-quiet 0 (trees bytes) .1 (c .each-lens)))),
     )
 
 -- ---- The first line that holds
@@ -236,6 +250,96 @@ pub record FirstHeld (ls : List Line) (number node : ℕ) : Type 0 where
   pub its-number : held .number ≡ number
   pub its-node : held .node ≡ node
 
+-- this line holds, and has that number and node
+abbrev pub Held : Line → ℕ → ℕ → Type 0
+Held l number node = (l .holds ≡ true) × (l .number ≡ number) × (l .node ≡ node)
+
+-- the first line that holds is the first of the list, or the first of the others
+pub held-cons :
+    (l : Line) (ls : List Line) (number node : ℕ) → FirstHeld (l ∷ ls) number node ↔ (Held l number node ⊎ ((l .holds ≡ false) × FirstHeld ls number node))
+held-cons l ls number node = (λ h. go (h .passed) h refl, back)
+  where
+    go :
+        (passed : List Line) (h : FirstHeld (l ∷ ls) number node)
+        → h .passed ≡ passed
+        → Held l number node ⊎ ((l .holds ≡ false) × FirstHeld ls number node)
+    go [] h e =
+        let order : l ∷ ls ≡ h .held ∷ h .later = h .in-order ∙ ap (λ xs. xs ++ h .held ∷ h .later) e in
+        let same : l ≡ h .held = cc in
+        inl (ap (λ x. x .holds) same ∙ h .it-holds, ap (λ x. x .number) same ∙ h .its-number, ap (λ x. x .node) same ∙ h .its-node)
+    go (x ∷ xs) h e =
+        let order : l ∷ ls ≡ x ∷ (xs ++ h .held ∷ h .later) = h .in-order ∙ ap (λ ys. ys ++ h .held ∷ h .later) e in
+        let quiet : Quiet (x ∷ xs) = subst Quiet e (h .none-before) in
+        let same : l ≡ x = cc in
+        inr (
+          ap (λ y. y .holds) same ∙ quiet .0,
+          record {
+            passed = xs;
+            held = h .held;
+            later = h .later;
+            in-order = cc;
+            none-before = quiet .1;
+            it-holds = h .it-holds;
+            its-number = h .its-number;
+            its-node = h .its-node;
+          },
+        )
+
+    back : Held l number node ⊎ ((l .holds ≡ false) × FirstHeld ls number node) → FirstHeld (l ∷ ls) number node
+    back (inl (e, m, k)) =
+        record { passed = []; held = l; later = ls; in-order = refl; none-before = tt; it-holds = e; its-number = m; its-node = k }
+    back (inr (e, h)) =
+        record {
+          passed = l ∷ h .passed;
+          held = h .held;
+          later = h .later;
+          in-order = ap (λ r. l ∷ r) (h .in-order);
+          none-before = (e, h .none-before);
+          it-holds = h .it-holds;
+          its-number = h .its-number;
+          its-node = h .its-node;
+        }
+
+-- in an empty list there is none
+pub held-nil : (number node : ℕ) → FirstHeld [] number node → ⊥
+held-nil number node h = go (h .passed) (h .in-order)
+  where
+    go : (passed : List Line) → [] ≡ passed ++ h .held ∷ h .later → ⊥
+    go [] e = never (cc)
+    go (x ∷ xs) e = never (cc)
+
+-- in two lists it is the first of one, or no line of that one holds and it is the first of the other
+pub held-append :
+    (ls ms : List Line) (number node : ℕ) → FirstHeld (ls ++ ms) number node ↔ (FirstHeld ls number node ⊎ (Quiet ls × FirstHeld ms number node))
+held-append [] ms number node = (λ h. inr (tt, h), ⊎-elim (λ h. absurd (held-nil number node h)) (λ h. h .1))
+held-append (l ∷ ls) ms number node = (
+  λ h. to (held-append ls ms number node .0) (held-cons l (ls ++ ms) number node .0 h),
+  ⊎-elim
+      (λ h. from (held-append ls ms number node .1) (held-cons l ls number node .0 h))
+      (λ h. held-cons l (ls ++ ms) number node .1 (inr (h .0 .0, held-append ls ms number node .1 (inr (h .0 .1, h .1))))),
+)
+  where
+    to :
+        (FirstHeld (ls ++ ms) number node → FirstHeld ls number node ⊎ (Quiet ls × FirstHeld ms number node))
+        → Held l number node ⊎ ((l .holds ≡ false) × FirstHeld (ls ++ ms) number node)
+        → FirstHeld (l ∷ ls) number node ⊎ (Quiet (l ∷ ls) × FirstHeld ms number node)
+    to rec (inl h) = inl (held-cons l ls number node .1 (inl h))
+    to rec (inr (e, h)) = ⊎-elim (λ x. inl (held-cons l ls number node .1 (inr (e, x)))) (λ x. inr ((e, x .0), x .1)) (rec h)
+
+    from :
+        (FirstHeld ls number node ⊎ (Quiet ls × FirstHeld ms number node) → FirstHeld (ls ++ ms) number node)
+        → Held l number node ⊎ ((l .holds ≡ false) × FirstHeld ls number node)
+        → FirstHeld (l ∷ ls ++ ms) number node
+    from rec (inl h) = held-cons l (ls ++ ms) number node .1 (inl h)
+    from rec (inr (e, h)) = held-cons l (ls ++ ms) number node .1 (inr (e, rec (inl h)))
+
+-- what is true of each line's number and node is true of its own
+pub held-all :
+    (P : ℕ → ℕ → Type 0) (ls : List Line) (number node : ℕ) → All (λ l. P (l .number) (l .node)) ls → FirstHeld ls number node → P number node
+held-all P ls number node all h =
+    let own = all-append-iff (λ l. P (l .number) (l .node)) (h .passed) (h .held ∷ h .later) .0 (subst (All (λ l. P (l .number) (l .node))) (h .in-order) all) in
+    subst₂ P (h .its-number) (h .its-node) (own .1 .0)
+
 -- no line holds, or there is a first that does
 quiet-or-held : (ls : List Line) → Quiet ls ⊎ ((x : Line) × FirstHeld ls (x .number) (x .node))
 quiet-or-held [] = inl tt
@@ -245,23 +349,9 @@ quiet-or-held (l ∷ ls) = go (bool-cases (l .holds)) (quiet-or-held ls)
         (l .holds ≡ true) ⊎ (l .holds ≡ false)
         → Quiet ls ⊎ ((x : Line) × FirstHeld ls (x .number) (x .node))
         → Quiet (l ∷ ls) ⊎ ((x : Line) × FirstHeld (l ∷ ls) (x .number) (x .node))
-    go (inl e) rec =
-        inr (l, record { passed = []; held = l; later = ls; in-order = refl; none-before = tt; it-holds = e; its-number = refl; its-node = refl })
+    go (inl e) rec = inr (l, held-cons l ls _ _ .1 (inl (e, refl, refl)))
     go (inr e) (inl q) = inl (e, q)
-    go (inr e) (inr (x, h)) =
-        inr (
-          x,
-          record {
-            passed = l ∷ h .passed;
-            held = h .held;
-            later = h .later;
-            in-order = ap (λ r. l ∷ r) (h .in-order);
-            none-before = (e, h .none-before);
-            it-holds = h .it-holds;
-            its-number = h .its-number;
-            its-node = h .its-node;
-          },
-        )
+    go (inr e) (inr (x, h)) = inr (x, held-cons l ls _ _ .1 (inr (e, h)))
 
 -- what the search for a line finds in the two cases
 none-found : (ls : List Line) → Quiet ls → firstThatHolds ls ≡ none
@@ -287,7 +377,7 @@ quiet-gives bytes l q e = rw (none-found (lines bytes) q, e) refl
 
 -- where no line holds there is a root, since that is one of the lines
 quiet-root : (bytes : Text) → Quiet (lines bytes) → (l : Lens) × (rootOf bytes ≡ some l) × (program bytes ≡ gives l)
-quiet-root bytes q = let r = quiet-iff bytes .0 q .root-lens in (r .0, r .1, quiet-gives bytes (r .0) q (r .1))
+quiet-root bytes q = let r = quiet-iff bytes .0 q .table-right .root-lens in (r .0, r .1, quiet-gives bytes (r .0) q (r .1))
 
 -- ---- When a program is accepted or refused
 
@@ -325,7 +415,7 @@ gives-iff bytes l = (λ e. go e (quiet-or-held (lines bytes)), λ h. quiet-gives
 pub accepted-iff : (bytes : Text) → ((l : Lens) × (program bytes ≡ gives l)) ↔ Keeps bytes
 accepted-iff bytes = (
   λ a. quiet-iff bytes .0 (gives-iff bytes (a .0) .0 (a .1) .0),
-  λ c. (c .root-lens .0, quiet-gives bytes (c .root-lens .0) (quiet-iff bytes .1 c) (c .root-lens .1)),
+  λ c. let r = c .table-right .root-lens in (r .0, quiet-gives bytes (r .0) (quiet-iff bytes .1 c) (r .1)),
 )
 
 -- ---- The rules at every lens below the root
@@ -367,7 +457,7 @@ lens-typed bytes c k l e = typed-down (trees bytes) own l (record { node = k; at
     own m p =
         let t = lens-tree (trees bytes) (p .node) m (p .at-node) in
         let b = lens-below (trees bytes) (p .node) m (p .at-node) in
-        let n = c .each-node (p .node) (omega (arith, tree-length bytes)) in
+        let n = c .table-right .each-node (p .node) (omega (arith, tree-length bytes)) in
         (c .each-lens (p .node) m t, rw t at (n .not-nested), node-made bytes (p .node) m t)
 
 -- an accepted program keeps the typing rules at every node

@@ -10,6 +10,10 @@ use lib.Dec.{eqb}
 use borrow.Author.Tests.{eqb-true, eq-eqb}
 use Rattle.semantics.specs.Text.{Text, sameText, least, joined, somePasses, All, Member}
 
+-- two constructors are never equal: it would make 0 and 1 equal
+pub never : {A : Type 0} → _≡_ {A = ℕ} 0 1 → A
+never e = absurd (omega arith)
+
 -- ---- Tests
 
 pub bool-cases : (b : Bool) → (b ≡ true) ⊎ (b ≡ false)
@@ -30,6 +34,10 @@ and-both false b e = absurd (false≢true e)
 pub and-of : (a b : Bool) → a ≡ true → b ≡ true → a && b ≡ true
 and-of true b p q = q
 and-of false b p q = absurd (false≢true p)
+
+pub or-neither : (a b : Bool) → a || b ≡ false → (a ≡ false) × (b ≡ false)
+or-neither true b e = absurd (true≢false e)
+or-neither false b e = (refl, e)
 
 pub or-either : (a b : Bool) → a || b ≡ true → (a ≡ true) ⊎ (b ≡ true)
 or-either true b e = inl refl

@@ -10,8 +10,8 @@ use Rattle.semantics.specs.Text.{Text, All, joined, orElse, apply}
 use Rattle.semantics.specs.Pattern.{matches}
 use Rattle.semantics.specs.Lens.{Lens, copy, const, key, join, union, repeat, match, source, sheet, language, cutAt, parts, Entry, Book, Written, keyOf, Arm, putLeft, putRight, createLeft, createRight, answers, keeping, takeEntry, armOf, writeArm, writeParts, writeMatch, write, create}
 use Rattle.semantics.specs.Table.{holdsMatch}
-use Rattle.laws.specs.Basics.{all-at, all-of, cond-false}
-use Rattle.laws.specs.GetPut.{or-none, then-written}
+use Rattle.laws.specs.Basics.{all-at, all-of, cond-false, or-neither}
+use Rattle.laws.specs.GetPut.{then-written}
 
 -- whether a match of the lens has child n, and so looks an entry of that child up
 unfoldable pub asks : Lens → ℕ → Bool
@@ -57,8 +57,8 @@ unasked-below l m less b u =
 -- so with the halves of a join, and the arms of a union
 unasked-both : (k l m : Lens) → ((n : ℕ) → asks k n ≡ asks l n || asks m n) → (b : Book) → Unasked k b → Unasked l b × Unasked m b
 unasked-both k l m either b u = (
-  unasked-below l k (λ n e. (or-none (asks l n) (asks m n) (sym (either n) ∙ e)) .0) b u,
-  unasked-below m k (λ n e. (or-none (asks l n) (asks m n) (sym (either n) ∙ e)) .1) b u,
+  unasked-below l k (λ n e. (or-neither (asks l n) (asks m n) (sym (either n) ∙ e)) .0) b u,
+  unasked-below m k (λ n e. (or-neither (asks l n) (asks m n) (sym (either n) ∙ e)) .1) b u,
 )
 
 -- an entry of another child does not answer
@@ -180,9 +180,9 @@ match-writes n l law old a b u =
     all-of
     (λ (e : Entry). eqb (e .child) n ≡ false)
     b
-    (λ e at-e. (or-none (eqb (e .child) n) (asks l (e .child)) (all-at (λ (f : Entry). asks (match n l) (f .child) ≡ false) e b (u .each) at-e)) .0)
+    (λ e at-e. (or-neither (eqb (e .child) n) (asks l (e .child)) (all-at (λ (f : Entry). asks (match n l) (f .child) ≡ false) e b (u .each) at-e)) .0)
     in
-    ap (writeMatch (write l) a) (takes-none n (keyOf l a) b others) ∙ law none a b (unasked-below l (match n l) (λ k e. (or-none (eqb k n) (asks l k) e) .1) b u)
+    ap (writeMatch (write l) a) (takes-none n (keyOf l a) b others) ∙ law none a b (unasked-below l (match n l) (λ k e. (or-neither (eqb k n) (asks l k) e) .1) b u)
 
 -- It writes that with a book that it does not ask, and leaves the book as it is.
 pub unasked-writes : (l : Lens) (old : Option Text) (a : Text) (b : Book) → Unasked l b → write l old a b ≡ record { text = plain l old a; book = b }
@@ -214,10 +214,10 @@ asks-nothing (copy r) e n = refl
 asks-nothing (const r w d) e n = refl
 asks-nothing (key r) e n = refl
 asks-nothing (join l m) e n =
-    let (p, q) = or-none (holdsMatch l) (holdsMatch m) e in
+    let (p, q) = or-neither (holdsMatch l) (holdsMatch m) e in
     ap₂ _||_ (asks-nothing l p n) (asks-nothing m q n)
 asks-nothing (union l m) e n =
-    let (p, q) = or-none (holdsMatch l) (holdsMatch m) e in
+    let (p, q) = or-neither (holdsMatch l) (holdsMatch m) e in
     ap₂ _||_ (asks-nothing l p n) (asks-nothing m q n)
 asks-nothing (repeat l) e n = asks-nothing l e n
 asks-nothing (match k l) e n = absurd (true≢false e)

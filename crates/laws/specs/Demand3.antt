@@ -15,6 +15,7 @@ use Rattle.semantics.specs.Pattern.{In, matches}
 use Rattle.semantics.specs.Lens.{Lens, Book, repeat, match, Side, source, sheet, language, Written, parts, get, keyOf, entries, write, put, create}
 use Rattle.semantics.specs.Table.{trees}
 use Rattle.semantics.specs.Calls.{Answer, gives, refuses, refuseIf, program, withProgram, tooLong, notOf, output, getCall, putCall, createCall}
+use Rattle.laws.specs.Basics.{never, or-neither}
 use Rattle.laws.specs.Membership.{matches-in, in-matches}
 use Rattle.laws.specs.Cuts.{parts-is}
 use Rattle.laws.specs.WellTyped.{WellTyped, OldFits, EntryFits}
@@ -27,7 +28,7 @@ use Rattle.laws.specs.Accepted.{accepted}
 
 pub passed-test : {A : Type 0} (b : Bool) (number : ℕ) (rest : Answer A) (x : A) → refuseIf b number rest ≡ gives x → (b ≡ false) × (rest ≡ gives x)
 unfolding refuseIf
-passed-test true number rest x e = absurd (let z : _≡_ {A = ℕ} 0 1 = cc in omega arith)
+passed-test true number rest x e = never (cc)
 passed-test false number rest x e = (refl, e)
 
 pub passing : {A : Type 0} (b : Bool) (number : ℕ) (rest : Answer A) → b ≡ false → refuseIf b number rest ≡ rest
@@ -39,7 +40,7 @@ pub passed-program :
     {A : Type 0} (p : Answer Lens) (call : Lens → Answer A) (x : A) → withProgram p call ≡ gives x → (l : Lens) × (p ≡ gives l) × (call l ≡ gives x)
 unfolding withProgram
 passed-program (gives l) call x e = (l, refl, e)
-passed-program (refuses number node) call x e = absurd (let z : _≡_ {A = ℕ} 0 1 = cc in omega arith)
+passed-program (refuses number node) call x e = never (cc)
 
 pub with-program : {A : Type 0} (p : Answer Lens) (call : Lens → Answer A) (l : Lens) → p ≡ gives l → withProgram p call ≡ call l
 unfolding withProgram
@@ -195,15 +196,11 @@ put-wrote bytes a old t lent e =
     lent
     t
     (p .1)
-    (is-short a (neither (tooLong a) (tooLong old) (h .0)))
+    (is-short a (or-neither (tooLong a) (tooLong old) (h .0) .0))
     (is-of-side sheet l a (j .0))
     old-in
     (entries-fit (trees bytes) l (typed .1) (typed .0) old old-in)
     (n .1)
-  where
-    neither : (x y : Bool) → x || y ≡ false → x ≡ false
-    neither true y q = q
-    neither false y q = refl
 
 pub create-wrote : (bytes a t : Text) (lent : ℕ) → createCall bytes a lent ≡ gives t → Wrote bytes a t
 unfolding createCall create

@@ -1,6 +1,6 @@
 -- Get gives a sheet of the lens, and putting that sheet back on its source changes nothing (003: GetPut).
 use mathlib.Core.Path.{_≡_, refl, sym, ap, ap₂, _∙_, subst, subst₂, subst⁻¹}
-use mathlib.Core.Bool.{Bool, true, false, _||_, cond, true≢false}
+use mathlib.Core.Bool.{Bool, true, false, cond, true≢false}
 use mathlib.Core.List.{List, [], _∷_, _++_, map, append-assoc}
 use mathlib.Core.Option.{some}
 use mathlib.Core.Logic.{inl, inr}
@@ -14,16 +14,11 @@ use Rattle.semantics.specs.Text.{Text, joined, All, orElse}
 use Rattle.semantics.specs.Pattern.{Pattern, word, range, concat, alt, star, In, matches}
 use Rattle.semantics.specs.Lens.{Lens, copy, const, key, join, union, repeat, match, source, sheet, language, constLanguage, cutAt, parts, Book, Written, andThen, writeParts, writeMatch, get, keyOf, sameKey, entryOf, answers, keeping, takeEntry, entries, write}
 use Rattle.semantics.specs.Table.{holdsMatch, positions}
-use Rattle.laws.specs.Basics.{and-of, cond-true, sameText-refl}
+use Rattle.laws.specs.Basics.{and-of, cond-true, sameText-refl, or-neither}
 use Rattle.laws.specs.WellTyped.{WellTyped}
 use Rattle.laws.specs.Pieces.{write-join, write-left, write-right, write-repeat, get-join, get-left, get-right, get-repeat, entries-join, entries-left, entries-right, entries-repeat}
 
 -- ---- Tests and lists
-
--- neither of two tests that are false together is true
-pub or-none : (a b : Bool) → a || b ≡ false → (a ≡ false) × (b ≡ false)
-or-none true b e = absurd (true≢false e)
-or-none false b e = (refl, e)
 
 -- where both branches give the same, so does the choice
 cond-same : {A : Type 0} (b : Bool) {x y z : A} → x ≡ z → y ≡ z → cond b x y ≡ z
@@ -166,11 +161,11 @@ no-entries (copy r) free t = refl
 no-entries (const r w d) free t = refl
 no-entries (key r) free t = refl
 no-entries (join l m) free t =
-    let (p, q) = or-none (holdsMatch l) (holdsMatch m) free in
+    let (p, q) = or-neither (holdsMatch l) (holdsMatch m) free in
     let i = cutAt (language source l) (language source m) t in
     ap₂ _++_ (no-entries l p (take i t)) (no-entries m q (drop i t))
 no-entries (union l m) free t =
-    let (p, q) = or-none (holdsMatch l) (holdsMatch m) free in
+    let (p, q) = or-neither (holdsMatch l) (holdsMatch m) free in
     cond-same (matches (language source l) t) (no-entries l p t) (no-entries m q t)
 no-entries (repeat l) free t = joined-none (entries l) (no-entries l free) (parts (language source l) t)
 no-entries (match n l) free t = absurd (true≢false free)

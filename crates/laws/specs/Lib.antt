@@ -14,6 +14,10 @@ pub mod GetPut
 pub mod PutGet
 pub mod Bookless
 pub mod Shuffle
+pub mod RightSizes
 pub mod NodeTrees
 pub mod Accepted
 pub mod Demand3
+pub mod Refusals
+pub mod Checked
+pub mod Bytes

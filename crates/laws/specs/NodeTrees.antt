@@ -6,15 +6,130 @@ use mathlib.Core.Logic.{_⊎_, inl, inr}
 use mathlib.Core.Option.{Option, none, some, Option·none-ne-some}
 use Prim.Native.Nat.{ℕ, zero, suc, _+_, _<_}
 use native.Mathlib.Omega.{arith}
-use lib.ListN.{length, getD, length-append, length-map, List·getD-append, List·getD-map}
+use lib.ListN.{length, take, drop, getD, length-append, length-map, List·getD-append, List·getD-map}
 use lib.Seq.{getD-at}
 use lib.Dec.{ltb}
 use borrow.Author.Tests.{ltb-true, ltb-false}
-use Rattle.semantics.specs.Text.{Text, All, orElse, apply, apply₂}
-use Rattle.semantics.specs.Pattern.{Pattern}
+use Rattle.semantics.specs.Text.{Text, All, Member, orElse, apply, apply₂}
+use Rattle.semantics.specs.Pattern.{Pattern, word, range, concat, alt, star}
 use Rattle.semantics.specs.Lens.{Lens, copy, const, key, join, union, repeat, match}
-use Rattle.semantics.specs.Table.{Node, nodeAt, nodeCount, nodes, below, pool, Kind, Word, Range, PatternJoin, PatternUnion, PatternRepeat, Copy, Const, Key, LensJoin, LensUnion, LensRepeat, Match, Tree, pattern, lens, broken, Trees, lensOf, treeAt, lensAt, provided, build, treeOf, treesFrom, trees}
+use Rattle.semantics.specs.Table.{Node, nodeAt, nodeCount, nodes, below, pool, two, Kind, Word, Range, PatternJoin, PatternUnion, PatternRepeat, Copy, Const, Key, LensJoin, LensUnion, LensRepeat, Match, Tree, pattern, lens, broken, Trees, lensOf, treeAt, patternAt, lensAt, wordAt, provided, build, treeOf, treesFrom, trees}
 use Rattle.laws.specs.Basics.{bool-cases, all-at, all-of, all-append}
+
+-- ---- What holds of each tree that is made holds of all
+
+-- P holds of what each row of the table of kinds makes
+pub record Rows (P : Tree → Type 0) (pool : Text) (ts : Trees) (a b c : ℕ) : Type 0 where
+  pub of-word : P (pattern (word (take c (drop (two a b) pool))))
+  pub of-range : P (pattern (range a b))
+  pub of-patterns : (r s : Pattern) → patternAt ts a ≡ some r → patternAt ts b ≡ some s → P (pattern (concat r s)) × P (pattern (alt r s))
+  pub of-pattern : (r : Pattern) → patternAt ts a ≡ some r → P (pattern (star r)) × P (lens (copy r)) × P (lens (key r))
+  pub of-const : (r : Pattern) (w d : Text) → patternAt ts a ≡ some r → wordAt ts b ≡ some w → wordAt ts c ≡ some d → P (lens (const r w d))
+  pub of-lenses : (l m : Lens) → lensAt ts a ≡ some l → lensAt ts b ≡ some m → P (lens (join l m)) × P (lens (union l m))
+  pub of-lens : (l : Lens) → lensAt ts a ≡ some l → P (lens (repeat l)) × P (lens (match a l))
+
+-- for a P that holds of a broken tree
+module _ (P : Tree → Type 0) (of-broken : P broken) where
+  -- a tree that may be missing has it if it is there
+  abbrev IfAny : Option Tree → Type 0
+  IfAny none = Unit {0}
+  IfAny (some t) = P t
+
+  -- where it is missing the tree is broken
+  otherwise-has : (o : Option Tree) → IfAny o → P (orElse broken o)
+  unfolding orElse
+  otherwise-has none h = of-broken
+  otherwise-has (some t) h = h
+
+  provided-has : (b : Bool) (o : Option Tree) → IfAny o → P (provided b o)
+  unfolding provided
+  provided-has true o h = otherwise-has o h
+  provided-has false o h = of-broken
+
+  -- a tree made of parts that may be missing is judged where they are there
+  apply-has : {A : Type 0} (f : A → Tree) (x : Option A) → ((a : A) → x ≡ some a → P (f a)) → IfAny (apply f x)
+  unfolding apply
+  apply-has f none h = tt
+  apply-has f (some a) h = h a refl
+
+  apply₂-has :
+      {A B : Type 0} (f : A → B → Tree) (x : Option A) (y : Option B)
+      → ((a : A) (b : B) → x ≡ some a → y ≡ some b → P (f a b))
+      → IfAny (apply₂ f x y)
+  unfolding apply₂
+  apply₂-has f none y h = tt
+  apply₂-has f (some a) none h = tt
+  apply₂-has f (some a) (some b) h = h a b refl refl
+
+  const-has :
+      (x : Option Pattern) (y z : Option Text)
+      → ((r : Pattern) (w d : Text) → x ≡ some r → y ≡ some w → z ≡ some d → P (lens (const r w d)))
+      → IfAny (apply₂ (λ (f : Text → Lens) d. lens (f d)) (apply₂ (λ r w d. const r w d) x y) z)
+  unfolding apply₂
+  const-has none y z h = tt
+  const-has (some r) none z h = tt
+  const-has (some r) (some w) none h = tt
+  const-has (some r) (some w) (some d) h = h r w d refl refl refl
+
+  build-has : (pool : Text) (ts : Trees) (kind : Kind) (a b c : ℕ) → Rows P pool ts a b c → P (build pool ts kind a b c)
+  unfolding build
+  build-has pool ts Word a b c rows = provided-has _ _ (rows .of-word)
+  build-has pool ts Range a b c rows = provided-has _ _ (rows .of-range)
+  build-has pool ts PatternJoin a b c rows = provided-has _ _ (apply₂-has _ _ _ (λ r s p q. rows .of-patterns r s p q .0))
+  build-has pool ts PatternUnion a b c rows = provided-has _ _ (apply₂-has _ _ _ (λ r s p q. rows .of-patterns r s p q .1))
+  build-has pool ts PatternRepeat a b c rows = provided-has _ _ (apply-has _ _ (λ r p. rows .of-pattern r p .0))
+  build-has pool ts Copy a b c rows = provided-has _ _ (apply-has _ _ (λ r p. rows .of-pattern r p .1))
+  build-has pool ts Const a b c rows = provided-has _ _ (const-has _ _ _ (rows .of-const))
+  build-has pool ts Key a b c rows = provided-has _ _ (apply-has _ _ (λ r p. rows .of-pattern r p .2))
+  build-has pool ts LensJoin a b c rows = provided-has _ _ (apply₂-has _ _ _ (λ l m p q. rows .of-lenses l m p q .0))
+  build-has pool ts LensUnion a b c rows = provided-has _ _ (apply₂-has _ _ _ (λ l m p q. rows .of-lenses l m p q .1))
+  build-has pool ts LensRepeat a b c rows = provided-has _ _ (apply-has _ _ (λ l p. rows .of-lens l p .0))
+  build-has pool ts Match a b c rows = provided-has _ _ (apply-has _ _ (λ l p. rows .of-lens l p .1))
+
+  tree-has : (pool : Text) (ts : Trees) (n : Node) → Rows P pool ts (n .a) (n .b) (n .c) → P (treeOf pool ts n)
+  unfolding treeOf
+  tree-has pool ts n rows = otherwise-has _ (apply-has _ _ (λ k p. build-has pool ts k (n .a) (n .b) (n .c) rows))
+
+  -- the tree at any place
+  pub at-has : (ts : Trees) (k : ℕ) → All P ts → P (treeAt ts k)
+  unfolding treeAt
+  at-has [] k h = of-broken
+  at-has (t ∷ ts) zero h = h .0
+  at-has (t ∷ ts) (suc k) h = at-has ts k (h .1)
+
+-- where the rows make trees that have P among the trees before them, and keep it among more, all the trees have it in the end
+module _
+    (P : Trees → Tree → Type 0)
+    (of-broken : (ts : Trees) → P ts broken)
+    (stays : (ts us : Trees) (t : Tree) → P ts t → P (ts ++ us) t)
+  where
+    from-have :
+        (pool : Text) (ts : Trees) (ns : List Node)
+        → ((us : Trees) (n : Node) → Member n ns → All (P us) us → Rows (P us) pool us (n .a) (n .b) (n .c))
+        → All (P ts) ts
+        → All (P (treesFrom pool ts ns)) (treesFrom pool ts ns)
+    unfolding treesFrom
+    from-have pool ts [] rows h = h
+    from-have pool ts (n ∷ ns) rows h =
+        from-have pool (ts ++ t ∷ []) ns (λ us m i. rows us m (inr i)) (all-append (P (ts ++ t ∷ [])) ts (t ∷ []) before (own, tt))
+      where
+        t : Tree
+        t = treeOf pool ts n
+
+        before : All (P (ts ++ t ∷ [])) ts
+        before = all-of (P (ts ++ t ∷ [])) ts (λ u m. stays ts (t ∷ []) u (all-at (P ts) u ts h m))
+
+        own : P (ts ++ t ∷ []) t
+        own = stays ts (t ∷ []) t (tree-has (P ts) (of-broken ts) pool ts n (rows ts n (inl refl) h))
+
+    pub trees-have :
+        (bytes : Text)
+        → ((us : Trees) (n : Node) → Member n (nodes bytes) → All (P us) us → Rows (P us) (pool bytes) us (n .a) (n .b) (n .c))
+        → (k : ℕ) → P (trees bytes) (treeAt (trees bytes) k)
+    unfolding trees
+    trees-have bytes rows k = at-has (P (trees bytes)) (of-broken (trees bytes)) (trees bytes) k (from-have (pool bytes) [] (nodes bytes) rows tt)
+
+-- ---- Each lens stands over lenses of other nodes
 
 -- some node has this lens
 pub record Placed (ts : Trees) (l : Lens) : Type 0 where
@@ -31,15 +146,11 @@ Made ts (union l m) = Placed ts l × Placed ts m
 Made ts (repeat l) = Placed ts l
 Made ts (match n l) = lensAt ts n ≡ some l
 
--- so for a node's tree, and for one that may be missing
+-- so for a node's tree
 abbrev MadeTree : Trees → Tree → Type 0
 MadeTree ts (pattern r) = Unit {0}
 MadeTree ts (lens l) = Made ts l
 MadeTree ts broken = Unit {0}
-
-abbrev MadeIfAny : Trees → Option Tree → Type 0
-MadeIfAny ts none = Unit {0}
-MadeIfAny ts (some t) = MadeTree ts t
 
 -- ---- Further trees leave what was made
 
@@ -66,89 +177,25 @@ made-stays ts us broken h = tt
 
 -- ---- A node's tree is made from the trees before it
 
-module _ (ts : Trees) where
-  -- a tree that may be missing is broken where it is missing
-  otherwise-made : (o : Option Tree) → MadeIfAny ts o → MadeTree ts (orElse broken o)
-  unfolding orElse
-  otherwise-made none h = tt
-  otherwise-made (some t) h = h
-
-  provided-made : (b : Bool) (o : Option Tree) → MadeIfAny ts o → MadeTree ts (provided b o)
-  unfolding provided
-  provided-made true o h = otherwise-made o h
-  provided-made false o h = tt
-
-  -- a tree made of parts that may be missing is judged where they are there
-  apply-made : {A : Type 0} (f : A → Tree) (x : Option A) → ((a : A) → x ≡ some a → MadeTree ts (f a)) → MadeIfAny ts (apply f x)
-  unfolding apply
-  apply-made f none h = tt
-  apply-made f (some a) h = h a refl
-
-  apply₂-made :
-      {A B : Type 0} (f : A → B → Tree) (x : Option A) (y : Option B)
-      → ((a : A) (b : B) → x ≡ some a → y ≡ some b → MadeTree ts (f a b))
-      → MadeIfAny ts (apply₂ f x y)
-  unfolding apply₂
-  apply₂-made f none y h = tt
-  apply₂-made f (some a) none h = tt
-  apply₂-made f (some a) (some b) h = h a b refl refl
-
-  placed : (k : ℕ) (l : Lens) → lensAt ts k ≡ some l → Placed ts l
-  placed k l e = record { node = k; at-node = e }
-
-  -- a const has no lens below it
-  const-made : (x : Option Pattern) (y z : Option Text) → MadeIfAny ts (apply₂ (λ (f : Text → Lens) d. lens (f d)) (apply₂ (λ r w d. const r w d) x y) z)
-  unfolding apply₂
-  const-made none y z = tt
-  const-made (some r) none z = tt
-  const-made (some r) (some w) none = tt
-  const-made (some r) (some w) (some d) = tt
-
-  -- each row of the table of kinds
-  build-made : (bytes : Text) (kind : Kind) (a b c : ℕ) → MadeTree ts (build bytes ts kind a b c)
-  unfolding build
-  build-made bytes Word a b c = provided-made _ _ tt
-  build-made bytes Range a b c = provided-made _ _ tt
-  build-made bytes PatternJoin a b c = provided-made _ _ (apply₂-made _ _ _ (λ r s p q. tt))
-  build-made bytes PatternUnion a b c = provided-made _ _ (apply₂-made _ _ _ (λ r s p q. tt))
-  build-made bytes PatternRepeat a b c = provided-made _ _ (apply-made _ _ (λ r p. tt))
-  build-made bytes Copy a b c = provided-made _ _ (apply-made _ _ (λ r p. tt))
-  build-made bytes Const a b c = provided-made _ _ (const-made _ _ _)
-  build-made bytes Key a b c = provided-made _ _ (apply-made _ _ (λ r p. tt))
-  build-made bytes LensJoin a b c = provided-made _ _ (apply₂-made _ _ _ (λ l m p q. (placed a l p, placed b m q)))
-  build-made bytes LensUnion a b c = provided-made _ _ (apply₂-made _ _ _ (λ l m p q. (placed a l p, placed b m q)))
-  build-made bytes LensRepeat a b c = provided-made _ _ (apply-made _ _ (λ l p. placed a l p))
-  build-made bytes Match a b c = provided-made _ _ (apply-made _ _ (λ l p. p))
-
-  tree-made : (bytes : Text) (n : Node) → MadeTree ts (treeOf bytes ts n)
-  unfolding treeOf
-  tree-made bytes n = otherwise-made _ (apply-made _ _ (λ k p. build-made bytes k (n .a) (n .b) (n .c)))
-
--- so all the trees stay made, one node after another
-trees-made : (bytes : Text) (ts : Trees) (ns : List Node) → All (MadeTree ts) ts → All (MadeTree (treesFrom bytes ts ns)) (treesFrom bytes ts ns)
-unfolding treesFrom
-trees-made bytes ts [] h = h
-trees-made bytes ts (n ∷ ns) h = trees-made bytes (ts ++ t ∷ []) ns (all-append (MadeTree (ts ++ t ∷ [])) ts (t ∷ []) before (stays t (tree-made ts bytes n), tt))
+rows-made : (pool : Text) (ts : Trees) (a b c : ℕ) → Rows (MadeTree ts) pool ts a b c
+rows-made pool ts a b c =
+    record {
+      of-word = tt;
+      of-range = tt;
+      of-patterns = λ r s p q. (tt, tt);
+      of-pattern = λ r p. (tt, tt, tt);
+      of-const = λ r w d p q o. tt;
+      of-lenses = λ l m p q. ((placed a l p, placed b m q), (placed a l p, placed b m q));
+      of-lens = λ l p. (placed a l p, p);
+    }
   where
-    t : Tree
-    t = treeOf bytes ts n
-
-    stays : (u : Tree) → MadeTree ts u → MadeTree (ts ++ t ∷ []) u
-    stays u = made-stays ts (t ∷ []) u
-
-    before : All (MadeTree (ts ++ t ∷ [])) ts
-    before = all-of (MadeTree (ts ++ t ∷ [])) ts (λ u m. stays u (all-at (MadeTree ts) u ts h m))
-
-made-at : (ts us : Trees) (k : ℕ) → All (MadeTree ts) us → MadeTree ts (treeAt us k)
-unfolding treeAt
-made-at ts [] k h = tt
-made-at ts (u ∷ us) zero h = h .0
-made-at ts (u ∷ us) (suc k) h = made-at ts us k (h .1)
+    placed : (k : ℕ) (l : Lens) → lensAt ts k ≡ some l → Placed ts l
+    placed k l e = record { node = k; at-node = e }
 
 -- each lens of a program, accepted or not, stands over lenses of other nodes
 pub node-made : (bytes : Text) (k : ℕ) (l : Lens) → treeAt (trees bytes) k ≡ lens l → Made (trees bytes) l
-unfolding trees
-node-made bytes k l e = subst (MadeTree (trees bytes)) e (made-at (trees bytes) (trees bytes) k (trees-made (pool bytes) [] (nodes bytes) tt))
+node-made bytes k l e =
+    subst (MadeTree (trees bytes)) e (trees-have MadeTree (λ ts. tt) made-stays bytes (λ us n i h. rows-made (pool bytes) us (n .a) (n .b) (n .c)) k)
 
 -- ---- A lens at a node
 

@@ -67,7 +67,7 @@ in-range : (a b c : ℕ) → a ≤ c → c ≤ b → inRange a b c ≡ true
 unfolding inRange
 in-range a b c p q = and-of (leb a c) (leb c b) (le-leb a c p) (le-leb c b q)
 
-range-of : (a b c : ℕ) → inRange a b c ≡ true → (a ≤ c) × (c ≤ b)
+pub range-of : (a b c : ℕ) → inRange a b c ≡ true → (a ≤ c) × (c ≤ b)
 unfolding inRange
 range-of a b c e = let h = and-both (leb a c) (leb c b) e in (leb-true a c (h .0), leb-true c b (h .1))
 

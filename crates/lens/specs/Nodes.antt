@@ -20,7 +20,7 @@ use Rattle.table.specs.declared.Node.{Node}
 use Rattle.table.specs.Prepared.{OnePattern, OneLens, TwoLenses, ConstParts, WordPart, Shows}
 use Rattle.table.specs.Rules.{AllSized, NodeRead}
 use Rattle.table.proofs.Kind.{the-type}
-use Rattle.table.proofs.RightSizes.{Right, right-of}
+use Rattle.laws.specs.RightSizes.{Right, right-of}
 use Rattle.automaton.specs.declared.Side.{Side}
 use Rattle.automaton.specs.Rows.{sideOf, automatonAt, Describes}
 use Rattle.automaton.specs.Built.{Built, treeLanguage}

@@ -6,9 +6,10 @@ use Rattle.semantics.specs.Text.{Text, All, joined}
 use Rattle.semantics.specs.Pattern.{In}
 use Rattle.semantics.specs.Ambiguity.{TwoCuts, BadRepeat}
 use Rattle.semantics.specs.Lens.{Lens, copy, const, key, join, union, repeat, match, source, sheet, language, cutAt, get, keyOf}
+use Rattle.laws.specs.Basics.{or-neither}
 use Rattle.laws.specs.Cuts.{cut-left, cut-right, parts-is}
 use Rattle.laws.specs.WellTyped.{WellTyped}
-use Rattle.laws.specs.GetPut.{or-none, all-map, get-in}
+use Rattle.laws.specs.GetPut.{all-map, get-in}
 use Rattle.lens.specs.declared.Mode.{Mode}
 use Rattle.lens.specs.declared.Mode.the-variants.{Get, Key, SourceKey}
 use Rattle.lens.specs.Reading.{sourceKey, reading, modeSide, reading-join, reading-repeat}
@@ -67,7 +68,7 @@ source-key (copy r) typed free t i = refl
 source-key (const r w d) typed free t i = refl
 source-key (key r) typed free t i = refl
 source-key (join l m) typed free t (u, v, e, i, j) =
-    let (p, q) = or-none (hasUnion l) (hasUnion m) free in
+    let (p, q) = or-neither (hasUnion l) (hasUnion m) free in
     ap (λ x. keyOf (join l m) (get (join l m) x)) e
     ∙ ap (keyOf (join l m)) (join-read Get l m (typed .0 source) u v i j)
     ∙ join-read Key l m (typed .0 sheet) (get l u) (get m v) (get-in l (typed .1) u i) (get-in m (typed .2) v j)

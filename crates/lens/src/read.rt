@@ -46,7 +46,7 @@ fn automaton_for(prepared: &[u64], node: usize, mode: Mode) -> Automaton
 }
 
 // The bytes of a word, in the table's pool.
-pub fn word_of<'a>(bytes: &'a [u8], prepared: &[u64], node: usize) -> &'a [u8]
+fn word_of<'a>(bytes: &'a [u8], prepared: &[u64], node: usize) -> &'a [u8]
     requires { ⌜ WordNode (now bytes) (now prepared) node ⌝ }
     ensures { λ r. ⌜ WordIs (now (bytes .entry)) node (now r) ⌝ }
 {

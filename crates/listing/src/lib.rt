@@ -30,7 +30,7 @@ fn list_match(child: usize, base: usize, text: &[u8], at: usize, book: Book) -> 
     ensures { λ r. ⌜ ListsMatch child base (now (text .entry)) at book r ⌝ }
 {
     let count = book.count;
-    if count == 256 {
+    if count == Book::ENTRIES {
         return Listing { over: true, book };
     }
     let more = book.added(at, text.len(), base, child);
@@ -180,7 +180,7 @@ fn list_matches(
     let mut o = 0;
     while o < text.len() {
         let e = o + first_loop(&path[o..], last, first);
-        if book.count == 256 {
+        if book.count == Book::ENTRIES {
             return Listing { over: true, book };
         }
         // Stored in place and not by `added`: so the book is not copied for each entry.

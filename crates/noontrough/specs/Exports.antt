@@ -7,7 +7,7 @@ use Rattle.semantics.specs.Calls.{Answer as Outcome}
 use Rattle.answers.specs.declared.Answer.{Answer}
 use Rattle.answers.specs.declared.Answer.the-variants.{Result, Refusal}
 use Rattle.noontrough.specs.declared.Numbers.{Numbers}
-use Rattle.answers.specs.Answers.{answerFor}
+use Rattle.answers.specs.Contracts.{answerFor}
 
 abbrev pub numbersOf : Answer → Numbers
 numbersOf (Result length) = record { number = 0; node = 0; length = length }

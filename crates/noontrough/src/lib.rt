@@ -8,7 +8,7 @@ ghost use mathlib.Core.Path.{_≡_};
 ghost use Prim.Native.Nat.{ℕ};
 ghost use lib.ListN.{length};
 ghost use Rattle.semantics.specs.Calls.{checkCall, getCall, putCall, createCall};
-ghost use Rattle.answers.specs.Answers.{answerFor};
+ghost use Rattle.answers.specs.Contracts.{answerFor};
 ghost use Rattle.noontrough.specs.Exports.{numbersOf, ExportsText};
 
 // 0 and the length of a result; or a refusal's number and node. What does not apply is 0.

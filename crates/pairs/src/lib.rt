@@ -65,10 +65,10 @@ fn sharing(prepared: &[u64], row: usize, b: Automaton) -> Set
 }
 
 // Cells with no pair set.
-pub fn blank() -> [u64; 256]
+pub fn blank() -> [u64; 2 * Set::SIZE]
     ensures { λ r. ⌜ Blank 128 r ⌝ }
 {
-    [0u64; 256]
+    [0u64; 2 * Set::SIZE]
 }
 
 // The first count rows lose their pairs. The others are not asked for.
@@ -216,7 +216,7 @@ fn next_due(due: Set, x: usize) -> usize
     ensures { λ r. ⌜ NextDue due r ⌝ }
 {
     let next = due.first_from(x);
-    if next < 128 {
+    if next < Set::SIZE {
         return next;
     }
     due.first_from(0)

@@ -6,6 +6,7 @@ use language::keep;
 use language::no_leads;
 use language::step_back;
 use positions::Set;
+use table::Table;
 ghost use mathlib.Core.Path.{_≡_};
 ghost use mathlib.Core.Bool.{_&&_};
 ghost use Prim.Native.Nat.{_+_, _-_, _*_, _/_, _≤_, _<_};
@@ -16,6 +17,12 @@ ghost use Rattle.automaton.specs.Rows.{Room};
 ghost use Rattle.language.specs.Sets.{NoLeads, Leads};
 ghost use Rattle.paths.specs.Walking.{Lowest, Alone, Past, Filled, BehindAt, blockEnd, Marked, MarksRoom, Walked, WalkedTo, PathFound};
 
+// The sets behind a text are kept block by block.
+const BLOCK: usize = 256;
+
+// The last byte of a block.
+const LAST: usize = BLOCK - 1;
+
 // How far a path has come: so many bytes are read, whether the text may end here, and at which positions the next byte can stand.
 pub struct Walk {
     pub at: usize,
@@ -25,7 +32,7 @@ pub struct Walk {
 
 // ---- One step
 
-// The lowest of the positions, from `from` on, at which the byte may stand; 128 if there is none.
+// The lowest of the positions, from `from` on, at which the byte may stand; `Set::SIZE` if there is none.
 fn lowest(prepared: &[u64], a: Automaton, due: Set, byte: u8, from: usize) -> usize
     requires { ⌜ Room a (now prepared) ⌝ }
     ensures { λ p. ⌜ Lowest (now (prepared .entry)) a due byte from p ⌝ }
@@ -39,20 +46,20 @@ fn lowest(prepared: &[u64], a: Automaton, due: Set, byte: u8, from: usize) -> us
         }
         p = due.first_from(p + 1);
     }
-    128
+    Set::SIZE
 }
 
-// The only one of the positions at which the byte may stand; 128 if there is none or more than one.
+// The only one of the positions at which the byte may stand; `Set::SIZE` if there is none or more than one.
 fn alone(prepared: &[u64], a: Automaton, due: Set, byte: u8) -> usize
     requires { ⌜ Room a (now prepared) ⌝ }
     ensures { λ p. ⌜ Alone (now (prepared .entry)) a due byte p ⌝ }
 {
     let p = lowest(prepared, a, due, byte, 0);
-    if 128 <= p {
-        return 128;
+    if Set::SIZE <= p {
+        return Set::SIZE;
     }
-    if lowest(prepared, a, due, byte, p + 1) < 128 {
-        return 128;
+    if lowest(prepared, a, due, byte, p + 1) < Set::SIZE {
+        return Set::SIZE;
     }
     p
 }
@@ -90,7 +97,7 @@ fn walk_alone(prepared: &[u64], a: Automaton, text: &[u8], path: &mut [u8]) -> W
         let i = walk.at;
         let due = walk.set;
         let p = alone(prepared, a, due, text[i]);
-        if 128 <= p {
+        if Set::SIZE <= p {
             return walk;
         }
         path[i] = p as u8;
@@ -132,10 +139,10 @@ fn block_end(length: usize, k: usize) -> usize
     requires { ⌜ 256 * k < length ⌝ }
     ensures { λ r. ⌜ r ≡ blockEnd length k ⌝ }
 {
-    if length - 256 * k < 256 {
+    if length - BLOCK * k < BLOCK {
         return length;
     }
-    256 * k + 256
+    BLOCK * k + BLOCK
 }
 
 // The set behind each block is kept, from block `first` on.
@@ -154,12 +161,12 @@ fn mark_blocks(
     ensures { λ _. ⌜ Marked (now (prepared .entry)) a (now (text .entry)) first (now (marks .exit)) ⌝ }
 {
     let mut behind = a.last;
-    let mut k = (text.len() + 255) / 256;
+    let mut k = (text.len() + LAST) / BLOCK;
     while first < k {
         k -= 1;
         keep(marks, k, behind);
         let end = block_end(text.len(), k);
-        behind = fill_block(prepared, a, leads, text, 256 * k, end, behind, sets);
+        behind = fill_block(prepared, a, leads, text, BLOCK * k, end, behind, sets);
     }
 }
 
@@ -189,7 +196,7 @@ fn walk_block(
         let due = walk.set;
         let may = due.intersect(set_at(sets, 2 * (i - start)));
         let p = lowest(prepared, a, may, text[i], 0);
-        if 128 <= p {
+        if Set::SIZE <= p {
             return walk;
         }
         path[i] = p as u8;
@@ -219,11 +226,11 @@ fn walk_blocks(
 {
     let mut walk = walk;
     while walk.at < text.len() {
-        let k = walk.at / 256;
+        let k = walk.at / BLOCK;
         let end = block_end(text.len(), k);
         let behind = set_at(marks, 2 * k);
-        fill_block(prepared, a, leads, text, 256 * k, end, behind, sets);
-        walk = walk_block(prepared, a, text, 256 * k, end, sets, walk, path);
+        fill_block(prepared, a, leads, text, BLOCK * k, end, behind, sets);
+        walk = walk_block(prepared, a, text, BLOCK * k, end, sets, walk, path);
         if walk.at < end {
             return false;
         }
@@ -234,10 +241,10 @@ fn walk_blocks(
 // ---- Room for the sets
 
 // Room for the sets behind the bytes of a block.
-fn no_sets() -> [u64; 512]
+fn no_sets() -> [u64; 2 * BLOCK]
     ensures { λ r. ⌜ 512 ≡ length r ⌝ }
 {
-    [0u64; 512]
+    [0u64; 2 * BLOCK]
 }
 
 // Room for the sets behind the blocks of a text of at most 4,096 bytes.
@@ -282,7 +289,7 @@ fn choose(
     requires { ⌜ Walked (now prepared) a (now text) (now path) walk ⌝ }
     ensures { λ found. ⌜ PathFound (now (prepared .entry)) a (now (text .entry)) (now (path .exit)) found ⌝ }
 {
-    mark_blocks(prepared, a, leads, text, walk.at / 256, sets, marks);
+    mark_blocks(prepared, a, leads, text, walk.at / BLOCK, sets, marks);
     walk_blocks(prepared, a, leads, text, walk, sets, marks, path)
 }
 
@@ -352,10 +359,10 @@ fn choose_way(
     let mut room = no_leads();
     let n = find_leads(prepared, a, text.len(), &mut room);
     let leads = &room[0..n];
-    if text.len() <= 256 {
+    if text.len() <= BLOCK {
         return choose_block(prepared, a, leads, text, walk, &mut sets, path);
     }
-    if text.len() <= 4096 {
+    if text.len() <= Table::TEXT {
         return choose_short(prepared, a, leads, text, walk, &mut sets, path);
     }
     choose(prepared, a, leads, text, walk, &mut sets, marks, path)

@@ -20,6 +20,9 @@ fn zeros(number: u64) -> usize
 }
 
 impl Set {
+    // the positions that a set has room for
+    pub const SIZE: usize = 128;
+
     // The set that holds nothing.
     pub fn empty() -> Set
         ensures { λ r. ⌜ Empty r ⌝ }
@@ -34,7 +37,7 @@ impl Set {
         if p < 64 {
             return (self.low >> p) % 2 == 1;
         }
-        if p < 128 {
+        if p < Set::SIZE {
             return (self.high >> (p - 64)) % 2 == 1;
         }
         false
@@ -51,7 +54,7 @@ impl Set {
             }
             return 64 + zeros(self.high);
         }
-        if p < 128 {
+        if p < Set::SIZE {
             return p + zeros(self.high >> (p - 64));
         }
         p
@@ -144,7 +147,7 @@ impl Set {
     pub fn moved(self, n: usize) -> Set
         ensures { λ r. ⌜ Moved self n r ⌝ }
     {
-        if 128 <= n {
+        if Set::SIZE <= n {
             return Set::empty();
         }
         if 64 <= n {

@@ -1,11 +1,15 @@
-// Scripts for the programs that run cases: the lines and words of a script, and texts put together from them.
-ghost use Prim.Native.Nat.{_≤_, _<_};
-ghost use lib.ListN.{length};
+// Scripts for the programs that run cases: the lines and words of a script, and texts put together from them. What is found in a text is
+// determined. The promises of `append`, `append_times` and `append_numbers` limit: they leave open which bytes are added, and the last also how
+// many. That is compared in the stored outputs of the programs.
+ghost use mathlib.Core.Path.{_≡_};
+ghost use Prim.Native.Nat.{_+_, _*_, _-_, _≤_, _<_, min, max};
+ghost use lib.ListN.{length, drop, replicate};
+ghost use Rattle.script.specs.Scripts.{bytesBefore, lettersOf, isDigit, withDigit, numberFrom};
 
 // Where a byte stands first from `at` on, or the end of the text.
 pub fn find(text: &[u8], at: usize, byte: u8) -> usize
     requires { ⌜ at ≤ length (now text) ⌝ }
-    ensures { λ r. ⌜ (at ≤ r) × (r ≤ length (now (text .entry))) ⌝ }
+    ensures { λ r. ⌜ (r ≡ at + bytesBefore byte (drop at (now (text .entry)))) × (r ≤ length (now (text .entry))) ⌝ }
 {
     let mut i = at;
     while i < text.len() {
@@ -19,20 +23,22 @@ pub fn find(text: &[u8], at: usize, byte: u8) -> usize
 
 // The place behind a byte of the text, or its end.
 pub fn behind(text: &[u8], at: usize) -> usize
-    ensures { λ r. ⌜ r ≤ length (now (text .entry)) ⌝ }
+    ensures { λ r. ⌜ r ≡ min (at + 1) (length (now (text .entry))) ⌝ }
 {
     if at < text.len() { at + 1 } else { text.len() }
 }
 
-// What follows the first word of a line.
+// Where what follows the first word of a line begins.
 pub fn argument(line: &[u8]) -> usize
-    ensures { λ r. ⌜ r ≤ length (now (line .entry)) ⌝ }
+    ensures { λ r. ⌜ r ≡ min (bytesBefore 32 (now (line .entry)) + 1) (length (now (line .entry))) ⌝ }
 {
     behind(line, find(line, 0, b' '))
 }
 
 // The first two letters of a line as one number, by which its word is known.
-pub fn letters(line: &[u8]) -> u64 {
+pub fn letters(line: &[u8]) -> u64
+    ensures { λ r. ⌜ r ≡ lettersOf (now (line .entry)) ⌝ }
+{
     if line.len() < 2 {
         return 0;
     }
@@ -40,13 +46,15 @@ pub fn letters(line: &[u8]) -> u64 {
 }
 
 fn wide(byte: u8) -> u64
-    ensures { λ r. ⌜ r < 256 ⌝ }
+    ensures { λ r. ⌜ (r ≡ byte) × (r < 256) ⌝ }
 {
     byte as u64
 }
 
-// The decimal number at the start of a text, up to 65,535.
-pub fn number(text: &[u8]) -> usize {
+// The decimal number at the start of a text; of one above 65,535, the lowest 16 bits.
+pub fn number(text: &[u8]) -> usize
+    ensures { λ r. ⌜ r ≡ numberFrom 0 (now (text .entry)) ⌝ }
+{
     let mut n = 0;
     let mut i = 0;
     while i < text.len() {
@@ -59,16 +67,22 @@ pub fn number(text: &[u8]) -> usize {
     n
 }
 
-fn is_digit(byte: u8) -> bool {
+fn is_digit(byte: u8) -> bool
+    ensures { λ r. ⌜ r ≡ isDigit byte ⌝ }
+{
     b'0' <= byte && byte <= b'9'
 }
 
-fn with_digit(n: usize, byte: u8) -> usize {
+fn with_digit(n: usize, byte: u8) -> usize
+    ensures { λ r. ⌜ r ≡ withDigit n byte ⌝ }
+{
     (n % 65536 * 10 + (byte % 16) as usize) % 65536
 }
 
 // A byte behind the first `count` of a text, if there is room: how many there are then.
-pub fn push(text: &mut [u8], count: usize, byte: u8) -> usize {
+fn push(text: &mut [u8], count: usize, byte: u8) -> usize
+    ensures { λ r. ⌜ r ≡ count + min 1 (length (now (text .entry)) - count) ⌝ }
+{
     if text.len() <= count {
         return count;
     }
@@ -76,8 +90,10 @@ pub fn push(text: &mut [u8], count: usize, byte: u8) -> usize {
     count + 1
 }
 
-// More behind the first `count` bytes of a text, a newline for each backslash.
-pub fn append(text: &mut [u8], count: usize, more: &[u8]) -> usize {
+// More behind the first `count` bytes of a text, as far as there is room, a newline for each backslash. The promise leaves open which bytes.
+pub fn append(text: &mut [u8], count: usize, more: &[u8]) -> usize
+    ensures { λ r. ⌜ r ≡ count + min (length (now (more .entry))) (length (now (text .entry)) - count) ⌝ }
+{
     let mut n = count;
     let mut i = 0;
     while i < more.len() {
@@ -91,8 +107,11 @@ fn unescaped(byte: u8) -> u8 {
     if byte == b'\\' { b'\n' } else { byte }
 }
 
-// The same, as often as it is asked.
-pub fn append_times(text: &mut [u8], count: usize, times: usize, more: &[u8]) -> usize {
+// The same, as often as it is asked. The promise leaves open which bytes.
+pub fn append_times(text: &mut [u8], count: usize, times: usize, more: &[u8]) -> usize
+    ensures { λ r.
+        ⌜ r ≡ count + min (times * length (now (more .entry))) (length (now (text .entry)) - count) ⌝ }
+{
     let mut n = count;
     let mut i = 0;
     while i < times {
@@ -102,8 +121,10 @@ pub fn append_times(text: &mut [u8], count: usize, times: usize, more: &[u8]) ->
     n
 }
 
-// Bytes behind the first `count` of a text, given as decimal numbers with spaces between them.
-pub fn append_numbers(text: &mut [u8], count: usize, numbers: &[u8]) -> usize {
+// Bytes behind the first `count` of a text, given as decimal numbers with spaces between them. The promise leaves open how many and which bytes.
+pub fn append_numbers(text: &mut [u8], count: usize, numbers: &[u8]) -> usize
+    ensures { λ r. ⌜ (count ≤ r) × (r ≤ max count (length (now (text .entry)))) ⌝ }
+{
     let mut n = count;
     let mut i = 0;
     while i < numbers.len() {
@@ -115,7 +136,9 @@ pub fn append_numbers(text: &mut [u8], count: usize, numbers: &[u8]) -> usize {
 }
 
 // The same byte at every place of a text.
-pub fn fill(text: &mut [u8], byte: u8) {
+pub fn fill(text: &mut [u8], byte: u8)
+    ensures { λ r. ⌜ now (text .exit) ≡ replicate (length (now (text .entry))) byte ⌝ }
+{
     let mut i = 0;
     while i < text.len() {
         text[i] = byte;

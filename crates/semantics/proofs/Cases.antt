@@ -1,8 +1,9 @@
--- The starred cases of document 01's section on program K, its small unstarred ones, 003's l$, and a case or two for each of the refusals 1
--- to 11: one table and one theorem, by evaluation of the definitions from the bytes of the tables. Cases of 256 entries or 4,097 bytes belong to the program of cases.
+-- The starred cases of document 01's section on program K, its small unstarred ones, 003's l$, a key by a union's left arm, and a case or two
+-- for each of the refusals 1 to 11: one table and one theorem, by evaluation of the definitions from the bytes of the tables. What stands on
+-- both sides of a limit is in `Limits`. 257 times `A;` and the longest texts that program K accepts belong to the program of cases.
 use mathlib.Core.Path.{_≡_, refl}
 use mathlib.Core.List.{List, [], _∷_, _++_, map}
-use Prim.Native.Nat.{ℕ}
+use Prim.Native.Nat.{ℕ, _-_, _/_, _%_}
 use lib.ListN.{length}
 use Prim.Native.Char.{code}
 use Prim.Native.String.{String}
@@ -10,37 +11,38 @@ use Prim.Native.String.{[] as nil, _∷_ as _then_}
 use Rattle.semantics.specs.Text.{Text, All, sameText, least, joined, somePasses, orElse, apply, apply₂}
 use Rattle.semantics.specs.Pattern.{inRange, nullable, before, heads, matches}
 use Rattle.semantics.specs.Ambiguity.{shareByte, nextPairs, samePattern, samePair, visit, explore, wordRests, rests, states, reached, bothEnd, overlaps, onward, twoCuts, badRepeat}
-use Rattle.semantics.specs.Lens.{constLanguage, language, cutAt, partsWithin, parts, get, keyOf, sameKey, entryOf, entries, answers, keeping, takeEntry, andThen, armOf, writeArm, writeParts, writeMatch, write, put, create}
+use Rattle.semantics.specs.Lens.{source, sheet, constLanguage, language, cutAt, partsWithin, parts, get, keyOf, sameKey, entryOf, entries, answers, keeping, takeEntry, andThen, armOf, writeArm, writeParts, writeMatch, write, put, create}
 use Rattle.semantics.specs.Table.{at, two, nodeCount, poolLength, sizesWrong, nodeAt, below, nodes, pool, kindOf, patternOf, lensOf, wordOf, treeAt, patternAt, lensAt, wordAt, provided, build, treeOf, treesFrom, trees, patternSize, lensSize, positions, treePositions, treeSize, holdsMatch, line, unknownKind, isBroken, nestedMatch, nested, overLimit, firstRound, rootOf, rootLine, typingLines, treeLines, secondRound, lines, firstThatHolds}
 use Rattle.semantics.specs.Calls.{Answer, gives, refuses, refuseIf, rootAnswer, verdict, program, withProgram, tooLong, notOf, output, checkCall, getCall, putCall, createCall, digits, decimal, field, programLine, lenscheckLine}
 
 -- the bytes of a quoted text
-bytesOf : String → Text
+unfoldable pub bytesOf : String → Text
 bytesOf nil = []
 bytesOf (c then s) = code c ∷ bytesOf s
 
 -- To unfold this is to unfold every definition that a call computes with.
-evaluates : Unit {0}
+unfoldable pub evaluates : Unit {0}
 unfolding sameText least joined somePasses orElse apply apply₂ inRange nullable before heads matches shareByte nextPairs samePattern samePair visit explore wordRests rests states reached bothEnd overlaps onward twoCuts badRepeat constLanguage language cutAt partsWithin parts get keyOf sameKey entryOf entries answers keeping takeEntry andThen armOf writeArm writeParts writeMatch write put create at two nodeCount poolLength sizesWrong nodeAt below nodes pool kindOf patternOf lensOf wordOf treeAt patternAt lensAt wordAt provided build treeOf treesFrom trees patternSize lensSize positions treePositions treeSize holdsMatch line unknownKind isBroken nestedMatch nested overLimit firstRound rootOf rootLine typingLines treeLines secondRound lines firstThatHolds refuseIf rootAnswer verdict program withProgram tooLong notOf output checkCall getCall putCall createCall digits decimal field programLine lenscheckLine
 evaluates = tt
 
 -- a node as document 01 writes it: its kind and its operands a, b, c
-data Row : Type 0 where
+pub data Row : Type 0 where
   node : ℕ → ℕ → ℕ → ℕ → Row
 
-kindByte : Row → ℕ
+unfoldable pub kindByte : Row → ℕ
 kindByte (node kind a b c) = kind
 
-operands : Row → Text
+unfoldable pub operands : Row → Text
 operands (node kind a b c) = a ∷ b ∷ c ∷ []
 
 -- a table: sizes, kinds, operand records, pool
-table : List Row → String → Text
+unfoldable pub table : List Row → String → Text
 table rows poolText =
-    length rows ∷ 0 ∷ length (bytesOf poolText) ∷ map kindByte rows ++ joined (map operands rows) ++ bytesOf poolText
+    let p = length (bytesOf poolText) in
+    length rows ∷ p / 256 ∷ p % 256 ∷ map kindByte rows ++ joined (map operands rows) ++ bytesOf poolText
 
 -- Program K, with kind 18 (key) at node 8, or another
-K-with : ℕ → Text
+unfoldable pub K-with : ℕ → Text
 K-with kind =
     table
     (node 1 65 90 0
@@ -61,7 +63,7 @@ K-with kind =
     ∷ [])
     "0;"
 
-K : Text
+unfoldable pub K : Text
 K = K-with 18
 
 -- a* joined with a*
@@ -110,6 +112,28 @@ xyz more =
 oneSheet : Text
 oneSheet = table (node 0 0 0 1 ∷ node 0 0 1 1 ∷ node 0 0 2 1 ∷ node 17 0 2 0 ∷ node 17 1 2 1 ∷ node 20 3 4 0 ∷ []) "abx"
 
+-- Entries of a letter and a hidden digit: key x, or (y to x, or copy a-c). The sheet x fits both arms of node 10, a to c only the right one.
+keyOrNone : Text
+keyOrNone =
+    table
+    (node 0 0 0 1
+    ∷ node 0 0 1 1
+    ∷ node 1 97 99 0
+    ∷ node 1 48 57 0
+    ∷ node 0 0 0 0
+    ∷ node 0 0 2 1
+    ∷ node 18 0 0 0
+    ∷ node 17 1 0 1
+    ∷ node 16 2 0 0
+    ∷ node 20 7 8 0
+    ∷ node 20 6 9 0
+    ∷ node 17 3 4 5
+    ∷ node 19 10 11 0
+    ∷ node 22 12 0 0
+    ∷ node 21 13 0 0
+    ∷ [])
+    "xy0"
+
 -- a join whose sheets alone are cut two ways: (x to a, y to aa) and (z to a, w to aa)
 sheetsClash : Text
 sheetsClash =
@@ -144,27 +168,36 @@ doubled =
     ∷ [])
     "abcdefgh"
 
-data Case : Type 0 where
+-- the root's written-out size, source positions and sheet positions
+unfoldable pub rootCounts : Text → List ℕ
+rootCounts t =
+    let root = treeAt (trees t) (nodeCount t - 1) in
+    treeSize root ∷ treePositions source root ∷ treePositions sheet root ∷ []
+
+pub data Case : Type 0 where
   checks : Text → Answer ℕ → Case
   prints : Text → String → Case
   gets : Text → String → ℕ → Answer Text → Case
   puts : Text → String → String → ℕ → Answer Text → Case
   creates : Text → String → ℕ → Answer Text → Case
+  counts : Text → ℕ → ℕ → ℕ → Case
 
-abbrev Holds : Case → Type 0
+abbrev pub Holds : Case → Type 0
 Holds (checks t answer) = checkCall t ≡ answer
 Holds (prints t text) = lenscheckLine t ≡ bytesOf text
 Holds (gets t old lent answer) = getCall t (bytesOf old) lent ≡ answer
 Holds (puts t new old lent answer) = putCall t (bytesOf new) (bytesOf old) lent ≡ answer
 Holds (creates t new lent answer) = createCall t (bytesOf new) lent ≡ answer
+Holds (counts t size sources sheets) = rootCounts t ≡ size ∷ sources ∷ sheets ∷ []
 
-result : String → Answer Text
+unfoldable pub result : String → Answer Text
 result t = gives (bytesOf t)
 
 cases : List Case
 cases =
     checks K (gives 15)
     ∷ prints K "ok 15 4 3\n"
+    ∷ counts K 16 4 3
     ∷ prints [] "refused 1 0\n"
     ∷ gets K "AB1;C22;" 4096 (result "AB;C;")
     ∷ gets K "" 0 (result "")
@@ -191,6 +224,9 @@ cases =
     ∷ puts oneSheet "x" "b" 4096 (result "b")
     ∷ puts oneSheet "x" "a" 4096 (result "a")
     ∷ creates oneSheet "x" 4096 (result "a")
+    -- The sheet of y1 and of x2 is x, which fits the left arm: their key is x. Copies have none. So b takes a3; the first x takes y1 and
+    -- keeps y, whose arm the sheet fits; the second x takes x2.
+    ∷ puts keyOrNone "bxx" "y1x2a3" 4096 (result "b3y1x2")
     ∷ checks (0 ∷ 0 ∷ 0 ∷ []) (refuses 1 0)
     ∷ checks (table (node 1 65 90 0 ∷ node 5 0 0 0 ∷ []) "") (refuses 2 1)
     ∷ checks (table (node 1 65 90 0 ∷ node 16 1 0 0 ∷ []) "") (refuses 3 1)
@@ -208,10 +244,10 @@ unfolding K K-with table bytesOf kindByte operands joined
 K-size = refl
 
 infixr 5 _&_
-_&_ : {P Q : Type 0} → P → Q → P × Q
+pub _&_ : {P Q : Type 0} → P → Q → P × Q
 p & q = (p, q)
 
 -- Every case holds.
 cases-hold : All Holds cases
-unfolding bytesOf kindByte operands table K-with K twoStars letters repeatOfNothing repeatOfStar sameTwice oneSheet sheetsClash doubled xyz result cases evaluates
-cases-hold = refl & refl & refl & refl & refl & refl & refl & refl & refl & refl & refl & refl & refl & refl & refl & refl & refl & refl & refl & refl & refl & refl & refl & refl & refl & refl & refl & refl & refl & refl & refl & refl & refl & refl & refl & refl & refl & tt
+unfolding bytesOf kindByte operands table K-with K twoStars letters repeatOfNothing repeatOfStar sameTwice oneSheet keyOrNone sheetsClash doubled xyz result rootCounts cases evaluates
+cases-hold = refl & refl & refl & refl & refl & refl & refl & refl & refl & refl & refl & refl & refl & refl & refl & refl & refl & refl & refl & refl & refl & refl & refl & refl & refl & refl & refl & refl & refl & refl & refl & refl & refl & refl & refl & refl & refl & refl & refl & tt

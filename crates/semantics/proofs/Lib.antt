@@ -1,2 +1,3 @@
--- The definitions, tried on document 01's own cases.
+-- The definitions, tried on document 01's own cases, and on both sides of its limits.
 pub mod Cases
+pub mod Limits

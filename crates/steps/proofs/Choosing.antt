@@ -2,7 +2,7 @@
 use mathlib.Core.Path.{_≡_, refl, sym, ap, _∙_}
 use mathlib.Core.Bool.{Bool, true, false}
 use mathlib.Core.List.{List}
-use mathlib.Core.Option.{none, some}
+use mathlib.Core.Option.{Option, none, some}
 use Prim.Native.Nat.{ℕ, _+_}
 use Rattle.semantics.specs.Text.{Text, apply}
 use Rattle.semantics.specs.Pattern.{matches}
@@ -22,9 +22,8 @@ use Rattle.lens.specs.Emitting.{sideFor, LensNode, Fits}
 use Rattle.lens.specs.Nodes.{describes-lens}
 use Rattle.lens.specs.Parsed.{Parsed, parsed-found, typed-as, least-as, union-left, union-in-left, union-right, union-not-left}
 use Rattle.books.specs.declared.Place.{Place}
-use Rattle.books.specs.declared.Old.the-variants.{At, Nothing}
 use Rattle.books.specs.Looking.{partAt, trailOf, oldText, OldParsed}
-use Rattle.steps.specs.Steps.{Refitted, createdAt, putAt, ArmIs}
+use Rattle.steps.specs.Steps.{Refitted, createdAt, putAt, ArmIs, ChoiceIs}
 use Rattle.steps.specs.Stepping.{old-none, old-at}
 use Rattle.steps.proofs.Answers.{lentTrail, trail-lent}
 
@@ -62,24 +61,45 @@ module _ (l m : Lens) (a : Text) (b : Entries) where
 
 module _
     {bytes : Text}
+    {node left right : ℕ}
+    (s : TwoLenses (trees bytes) node left right (λ l m. lens (union l m)))
+    {old kept : Option Text}
+    {new : Text}
+    {path : List ℕ}
+    {base : ℕ} where
+  -- the left one, where the sheet is parsed there and the union writes what it does
+  left-arm :
+      Parsed bytes left sheet base path new
+      → ((b : Entries) → write (union (s .left) (s .right)) old new b ≡ write (s .left) kept new b)
+      → ArmIs bytes node (s .left) (s .right) old kept new path (record { node = left; base = base })
+  left-arm parsed same = record { arm = s .left; arm-is = s .at-left; lower = s .left-lower; writes-same = same; sheet-parsed = parsed }
+
+  -- and the right one
+  right-arm :
+      Parsed bytes right sheet base path new
+      → ((b : Entries) → write (union (s .left) (s .right)) old new b ≡ write (s .right) kept new b)
+      → ArmIs bytes node (s .left) (s .right) old kept new path (record { node = right; base = base })
+  right-arm parsed same = record { arm = s .right; arm-is = s .at-right; lower = s .right-lower; writes-same = same; sheet-parsed = parsed }
+
+module _
+    {bytes : Text}
     {prepared : List ℕ}
     {node left right base : ℕ}
     {new : Text}
     {path : List ℕ}
-    {mid : ℕ}
+    {a : Automaton}
     {fits-left : Bool}
     (known-left : LensNode bytes prepared left)
-    (known-right : LensNode bytes prepared right)
     (s : TwoLenses (trees bytes) node left right (λ l m. lens (union l m)))
     (parsed : Parsed bytes node sheet base path new)
-    (mid-is : mid ≡ base + (automatonAt prepared left Sheet) .count)
-    (told : fits-left ≡ goesLeft mid ((automatonAt prepared left Sheet) .nullable) path) where
-  left-sheets : Describes (language sheet (s .left)) (automatonAt prepared left Sheet) prepared
+    (a-is : a ≡ automatonAt prepared left Sheet)
+    (told : fits-left ≡ goesLeft (base + a .count) (a .nullable) path) where
+  left-sheets : Describes (language sheet (s .left)) a prepared
   unfolding modeSide sideFor
-  left-sheets = describes-lens known-left Key (s .left) (s .at-left)
+  left-sheets = rw a-is (describes-lens known-left Key (s .left) (s .at-left))
 
-  begins : mid ≡ base + positions (language sheet (s .left))
-  begins = mid-is ∙ ap (λ n. base + n) (left-sheets .count-is)
+  begins : base + a .count ≡ base + positions (language sheet (s .left))
+  begins = ap (λ n. base + n) (left-sheets .count-is)
 
   -- the sheet is parsed at the arm by which its path goes
   sheet-left : fits-left ≡ true → (matches (language sheet (s .left)) new ≡ true) × Parsed bytes left sheet base path new
@@ -87,83 +107,36 @@ module _
       let goes = sym told ∙ e in
       (union-in-left parsed s begins (left-sheets .nullable-is) goes, union-left parsed s begins (left-sheets .nullable-is) goes)
 
-  sheet-right : fits-left ≡ false → (matches (language sheet (s .left)) new ≡ false) × Parsed bytes right sheet mid path new
+  sheet-right : fits-left ≡ false → (matches (language sheet (s .left)) new ≡ false) × Parsed bytes right sheet (base + a .count) path new
   sheet-right e =
       let goes = sym told ∙ e in
       (union-not-left parsed s begins (left-sheets .nullable-is) goes, union-right parsed s begins (left-sheets .nullable-is) goes)
 
-  -- and belongs to it
-  in-right : fits-left ≡ false → matches (language sheet (s .right)) new ≡ true
-  in-right e =
-      let right-parsed = (sheet-right e) .1 in
-      in-matches (language sheet (s .right)) new (least-in (least-as right-parsed (s .right) (s .at-right)))
+  -- without an old text
+  pub arm-created-left : fits-left ≡ true → ArmIs bytes node (s .left) (s .right) none none new path (record { node = left; base = base })
+  arm-created-left e = left-arm s ((sheet-left e) .1) (λ b. creates-left (s .left) (s .right) new b ((sheet-left e) .0))
 
-  right-sheets : Describes (language sheet (s .right)) (automatonAt prepared right Sheet) prepared
-  unfolding modeSide sideFor
-  right-sheets = describes-lens known-right Key (s .right) (s .at-right)
-
-  -- a sheet that is fitted to the right arm is parsed there by itself
-  fitted-right :
-      {after : List ℕ} {r : Bool}
-      → Refitted prepared right new path after r
-      → r ≡ true
-      → (matches (language sheet (s .right)) new ≡ true) × Parsed bytes right sheet 0 after new
-  unfolding modeSide sideFor WellTyped
-  fitted-right refitted e =
-      let belongs = sym (refitted .decides (language sheet (s .right)) right-sheets) ∙ e in
-      let fits : Fits bytes right sheet new =
-      record {
-        tree = s .right;
-        tree-is = s .at-right;
-        typed = (typed-as parsed (union (s .left) (s .right)) (s .tree-is)) .2;
-        belongs = matches-in (language sheet (s .right)) new belongs;
-      }
-      in
-      (belongs, parsed-found Key known-right refl fits (refitted .fitted e))
-
-  module _ {deck : Text} where
-    -- without an old text
-    pub arm-created-left : fits-left ≡ true → ArmIs bytes node (s .left) (s .right) new path Nothing deck (createdAt left base)
-    unfolding oldText
-    arm-created-left e =
-        record {
-          arm = s .left;
-          arm-is = s .at-left;
-          lower = s .left-lower;
-          writes-same = λ b. creates-left (s .left) (s .right) new b ((sheet-left e) .0);
-          sheet-parsed = (sheet-left e) .1;
-          old-parsed = old-none;
-        }
-
-    pub arm-created-right : fits-left ≡ false → ArmIs bytes node (s .left) (s .right) new path Nothing deck (createdAt right mid)
-    unfolding oldText
-    arm-created-right e =
-        record {
-          arm = s .right;
-          arm-is = s .at-right;
-          lower = s .right-lower;
-          writes-same = λ b. creates-right (s .left) (s .right) new b ((sheet-right e) .0);
-          sheet-parsed = (sheet-right e) .1;
-          old-parsed = old-none;
-        }
+  pub arm-created-right : fits-left ≡ false → ArmIs bytes node (s .left) (s .right) none none new path (record { node = right; base = base + a .count })
+  arm-created-right e = right-arm s ((sheet-right e) .1) (λ b. creates-right (s .left) (s .right) new b ((sheet-right e) .0))
 
   -- onto the old text at a place
   module _
       {deck : Text}
       {p : Place}
-      {a : Automaton}
+      {a′ : Automaton}
       {old-left : Bool}
+      (known-right : LensNode bytes prepared right)
       (old : OldParsed bytes node deck p)
-      (a-is : a ≡ automatonAt prepared left Source)
-      (old-told : old-left ≡ goesLeft (p .base + a .count) (a .nullable) (lentTrail deck (p .start) (p .len))) where
-    left-sources : Describes (language source (s .left)) a prepared
+      (old-is : a′ ≡ automatonAt prepared left Source)
+      (old-told : old-left ≡ goesLeft (p .base + a′ .count) (a′ .nullable) (lentTrail deck (p .start) (p .len))) where
+    left-sources : Describes (language source (s .left)) a′ prepared
     unfolding modeSide sideFor
-    left-sources = rw a-is (describes-lens known-left Get (s .left) (s .at-left))
+    left-sources = rw old-is (describes-lens known-left Get (s .left) (s .at-left))
 
-    old-begins : p .base + a .count ≡ p .base + positions (language source (s .left))
+    old-begins : p .base + a′ .count ≡ p .base + positions (language source (s .left))
     old-begins = ap (λ n. p .base + n) (left-sources .count-is)
 
-    old-goes : old-left ≡ goesLeft (p .base + a .count) (a .nullable) (partAt (trailOf deck) p)
+    old-goes : old-left ≡ goesLeft (p .base + a′ .count) (a′ .nullable) (partAt (trailOf deck) p)
     old-goes = rw (trail-lent deck (p .start) (p .len)) at old-told
 
     -- the old text is parsed at the arm by which its path goes
@@ -177,49 +150,64 @@ module _
     old-is-right :
         old-left ≡ false
         → (matches (language source (s .left)) (partAt deck p) ≡ false)
-        × OldParsed bytes right deck (record { start = p .start; len = p .len; base = p .base + a .count })
+        × OldParsed bytes right deck (record { start = p .start; len = p .len; base = p .base + a′ .count })
     old-is-right e =
         let goes = sym old-goes ∙ e in (
           union-not-left (old .parsed) s old-begins (left-sources .nullable-is) goes,
           record { inside = old .inside; parsed = union-right (old .parsed) s old-begins (left-sources .nullable-is) goes },
         )
 
-    pub arm-put-left : old-left ≡ true → fits-left ≡ true → ArmIs bytes node (s .left) (s .right) new path (At p) deck (putAt left base p)
+    -- a sheet whose path goes right belongs to the right arm
+    in-right : fits-left ≡ false → matches (language sheet (s .right)) new ≡ true
+    in-right e = in-matches (language sheet (s .right)) new (least-in (least-as ((sheet-right e) .1) (s .right) (s .at-right)))
+
+    right-sheets : Describes (language sheet (s .right)) (automatonAt prepared right Sheet) prepared
+    unfolding modeSide sideFor
+    right-sheets = describes-lens known-right Key (s .right) (s .at-right)
+
+    -- one that is fitted to it is parsed there by itself
+    fitted-right :
+        {after : List ℕ} {r : Bool}
+        → Refitted prepared right new path after r
+        → r ≡ true
+        → (matches (language sheet (s .right)) new ≡ true) × Parsed bytes right sheet 0 after new
+    unfolding modeSide sideFor WellTyped
+    fitted-right refitted e =
+        let belongs = sym (refitted .decides (language sheet (s .right)) right-sheets) ∙ e in
+        let fits : Fits bytes right sheet new =
+        record {
+          tree = s .right;
+          tree-is = s .at-right;
+          typed = (typed-as parsed (union (s .left) (s .right)) (s .tree-is)) .2;
+          belongs = matches-in (language sheet (s .right)) new belongs;
+        }
+        in
+        (belongs, parsed-found Key known-right refl fits (refitted .fitted e))
+
+    pub arm-put-left : old-left ≡ true → fits-left ≡ true → ChoiceIs bytes node (s .left) (s .right) new path p deck (putAt left base p)
     unfolding oldText
     arm-put-left e f =
         record {
-          arm = s .left;
-          arm-is = s .at-left;
-          lower = s .left-lower;
-          writes-same = λ b. puts-left (s .left) (s .right) new b (partAt deck p) ((old-is-left e) .0) ((sheet-left f) .0);
-          sheet-parsed = (sheet-left f) .1;
+          is-arm = left-arm s ((sheet-left f) .1) (λ b. puts-left (s .left) (s .right) new b (partAt deck p) ((old-is-left e) .0) ((sheet-left f) .0));
           old-parsed = old-at ((old-is-left e) .1);
         }
 
-    pub arm-turned-right : old-left ≡ true → fits-left ≡ false → ArmIs bytes node (s .left) (s .right) new path (At p) deck (createdAt right mid)
+    pub arm-turned-right : old-left ≡ true → fits-left ≡ false → ChoiceIs bytes node (s .left) (s .right) new path p deck (createdAt right (base + a .count))
     unfolding oldText
     arm-turned-right e f =
         record {
-          arm = s .right;
-          arm-is = s .at-right;
-          lower = s .right-lower;
-          writes-same = λ b. turns-right (s .left) (s .right) new b (partAt deck p) ((old-is-left e) .0) ((sheet-right f) .0);
-          sheet-parsed = (sheet-right f) .1;
+          is-arm = right-arm s ((sheet-right f) .1) (λ b. turns-right (s .left) (s .right) new b (partAt deck p) ((old-is-left e) .0) ((sheet-right f) .0));
           old-parsed = old-none;
         }
 
     pub arm-put-right :
         old-left ≡ false
         → fits-left ≡ false
-        → ArmIs bytes node (s .left) (s .right) new path (At p) deck (putAt right mid (record { start = p .start; len = p .len; base = p .base + a .count }))
+        → ChoiceIs bytes node (s .left) (s .right) new path p deck (putAt right (base + a .count) (record { start = p .start; len = p .len; base = p .base + a′ .count }))
     unfolding oldText
     arm-put-right e f =
         record {
-          arm = s .right;
-          arm-is = s .at-right;
-          lower = s .right-lower;
-          writes-same = λ b. puts-right (s .left) (s .right) new b (partAt deck p) ((old-is-right e) .0) (in-right f);
-          sheet-parsed = (sheet-right f) .1;
+          is-arm = right-arm s ((sheet-right f) .1) (λ b. puts-right (s .left) (s .right) new b (partAt deck p) ((old-is-right e) .0) (in-right f));
           old-parsed = old-at ((old-is-right e) .1);
         }
 
@@ -227,27 +215,21 @@ module _
       pub arm-refitted :
           old-left ≡ false
           → r ≡ true
-          → ArmIs bytes node (s .left) (s .right) new after (At p) deck (putAt right 0 (record { start = p .start; len = p .len; base = p .base + a .count }))
+          → ChoiceIs bytes node (s .left) (s .right) new after p deck (putAt right 0 (record { start = p .start; len = p .len; base = p .base + a′ .count }))
       unfolding oldText
       arm-refitted e f =
+          let fitted = fitted-right refitted f in
           record {
-            arm = s .right;
-            arm-is = s .at-right;
-            lower = s .right-lower;
-            writes-same = λ b. puts-right (s .left) (s .right) new b (partAt deck p) ((old-is-right e) .0) ((fitted-right refitted f) .0);
-            sheet-parsed = (fitted-right refitted f) .1;
+            is-arm = right-arm s (fitted .1) (λ b. puts-right (s .left) (s .right) new b (partAt deck p) ((old-is-right e) .0) (fitted .0));
             old-parsed = old-at ((old-is-right e) .1);
           }
 
-      pub arm-turned-left : old-left ≡ false → fits-left ≡ true → r ≡ false → ArmIs bytes node (s .left) (s .right) new after (At p) deck (createdAt left base)
+      pub arm-turned-left : old-left ≡ false → fits-left ≡ true → r ≡ false → ChoiceIs bytes node (s .left) (s .right) new after p deck (createdAt left base)
       unfolding oldText
       arm-turned-left e f g =
           let not-right = sym (refitted .decides (language sheet (s .right)) right-sheets) ∙ g in
+          let still-left : Parsed bytes left sheet base after new = rw (refitted .unfitted g (language sheet (s .right)) right-sheets) ((sheet-left f) .1) in
           record {
-            arm = s .left;
-            arm-is = s .at-left;
-            lower = s .left-lower;
-            writes-same = λ b. turns-left (s .left) (s .right) new b (partAt deck p) ((old-is-right e) .0) not-right;
-            sheet-parsed = rw (refitted .unfitted g (language sheet (s .right)) right-sheets) ((sheet-left f) .1);
+            is-arm = left-arm s still-left (λ b. turns-left (s .left) (s .right) new b (partAt deck p) ((old-is-right e) .0) not-right);
             old-parsed = old-none;
           }

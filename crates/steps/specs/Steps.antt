@@ -24,7 +24,8 @@ use Rattle.lens.specs.Parsed.{Parsed}
 use Rattle.books.specs.declared.Place.{Place}
 use Rattle.books.specs.declared.Old.{Old}
 use Rattle.books.specs.declared.Old.the-variants.{At, Nothing}
-use Rattle.books.specs.Looking.{partAt, trailOf, oldText, OldFits}
+use Rattle.books.specs.Looking.{partAt, trailOf, oldText, OldParsed, OldFits}
+use Rattle.steps.specs.declared.Spot.{Spot}
 use Rattle.steps.specs.declared.Cut.{Cut}
 use Rattle.steps.specs.declared.Halves.{Halves}
 use Rattle.steps.specs.declared.Choice.{Choice}
@@ -73,25 +74,38 @@ createdAt node base = record { arm = record { node = node; base = base }; old = 
 abbrev pub putAt : ℕ → ℕ → Place → Choice
 putAt node base p = record { arm = record { node = node; base = base }; old = At p }
 
--- The arm writes what the union does, onto the old text that is kept, whatever the book; the sheet is parsed at it, and so is the old text.
-pub record ArmIs (bytes : Text) (node : ℕ) (l m : Lens) (new : Text) (path : List ℕ) (old : Old) (deck : Text) (r : Choice) : Type 0 where
+-- With the text that is kept, or none, the arm writes what the union does with the old text, or none, whatever the book; the sheet is parsed at it.
+pub record ArmIs (bytes : Text) (node : ℕ) (l m : Lens) (old kept : Option Text) (new : Text) (path : List ℕ) (r : Spot) : Type 0 where
   pub arm : Lens
-  pub arm-is : treeAt (trees bytes) (r .arm .node) ≡ lens arm
-  pub lower : r .arm .node < node
-  pub writes-same : (b : Entries) → write (union l m) (oldText deck old) new b ≡ write arm (oldText deck (r .old)) new b
-  pub sheet-parsed : Parsed bytes (r .arm .node) sheet (r .arm .base) path new
+  pub arm-is : treeAt (trees bytes) (r .node) ≡ lens arm
+  pub lower : r .node < node
+  pub writes-same : (b : Entries) → write (union l m) old new b ≡ write arm kept new b
+  pub sheet-parsed : Parsed bytes (r .node) sheet (r .base) path new
+
+-- Where the old text stands at a place, what is kept of it is parsed at the arm too.
+pub record ChoiceIs (bytes : Text) (node : ℕ) (l m : Lens) (new : Text) (path : List ℕ) (p : Place) (deck : Text) (r : Choice) : Type 0 where
+  pub is-arm : ArmIs bytes node l m (some (partAt deck p)) (oldText deck (r .old)) new path (r .arm)
   pub old-parsed : OldFits bytes (r .arm .node) deck (r .old)
 
--- The choice is that of the definitions' arm.
-pub record Chosen (prepared : List ℕ) (left right base : ℕ) (new : Text) (before after : List ℕ) (old : Old) (deck : Text) (r : Choice) : Type 0 where
+-- Without an old text the arm is that of the definitions,
+pub record ChosenNew (prepared : List ℕ) (left right base : ℕ) (path : List ℕ) (r : Spot) : Type 0 where
   pub arm-is :
+      (bytes new : Text) (node : ℕ)
+      → LensNode bytes prepared left
+      → (s : TwoLenses (trees bytes) node left right (λ l m. lens (union l m)))
+      → Parsed bytes node sheet base path new
+      → ArmIs bytes node (s .left) (s .right) none none new path r
+
+-- and so is the choice onto one.
+pub record Chosen (prepared : List ℕ) (left right base : ℕ) (new : Text) (before after : List ℕ) (p : Place) (deck : Text) (r : Choice) : Type 0 where
+  pub choice-is :
       (bytes : Text) (node : ℕ)
       → LensNode bytes prepared left
       → LensNode bytes prepared right
       → (s : TwoLenses (trees bytes) node left right (λ l m. lens (union l m)))
       → Parsed bytes node sheet base before new
-      → OldFits bytes node deck old
-      → ArmIs bytes node (s .left) (s .right) new after old deck r
+      → OldParsed bytes node deck p
+      → ChoiceIs bytes node (s .left) (s .right) new after p deck r
 
 -- ---- Repeats
 

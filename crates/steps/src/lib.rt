@@ -2,6 +2,7 @@
 // the old source.
 use automaton::Side;
 use automaton::automaton_of;
+use books::Book;
 use books::Old;
 use books::Place;
 use language::belongs;
@@ -14,12 +15,9 @@ use paths::goes_left;
 ghost use mathlib.Core.Path.{_≡_};
 ghost use Prim.Native.Nat.{_+_, _*_, _≤_};
 ghost use lib.ListN.{length};
-ghost use Rattle.laws.specs.Paths.{goesLeft};
 ghost use Rattle.automaton.specs.declared.Side.the-variants.{Source, Sheet};
-ghost use Rattle.automaton.specs.Rows.{automatonAt};
-ghost use Rattle.books.specs.declared.Old.the-variants.{At};
 ghost use Rattle.lens.specs.Emitting.{Prepared};
-ghost use Rattle.steps.specs.Steps.{PlaceInside, OldInside, cutSheet, halvesOf, Refitted, createdAt, putAt, Chosen, EndsAre, oldBase, nextOf, Fits64, countBehind};
+ghost use Rattle.steps.specs.Steps.{PlaceInside, OldInside, cutSheet, halvesOf, Refitted, createdAt, putAt, ChosenNew, Chosen, EndsAre, oldBase, nextOf, Fits64, countBehind};
 
 // A node, and where its positions begin on the sheet side.
 pub struct Spot {
@@ -83,7 +81,7 @@ pub fn halves_of(prepared: &[u64], left: usize, place: Place, deck: &[u8]) -> Ha
     let len = place.len;
     let base = place.base;
     let mid = base + a.count;
-    let from = 4096 + start;
+    let from = Book::PATH + start;
     let to = from + len;
     let i = border(&deck[from..to], mid);
     let first = Place {
@@ -140,8 +138,24 @@ fn put_onto(node: usize, base: usize, place: Place) -> Choice
     }
 }
 
-// The arm of a union: that of the old text if the sheet fits it, otherwise the other's create; without an old text the left if it fits. Where the old text is of the right
-// arm and the path of the sheet goes left, the sheet may fit the right arm too: it then gets a path of its own there.
+// The arm of a create: the left if the path of the sheet goes left, as it does wherever the sheet fits it, otherwise the right.
+pub fn choose_new(prepared: &[u64], left: usize, right: usize, base: usize, path: &[u8]) -> Spot
+    requires { ⌜ Prepared (now prepared) left Sheet × (base ≤ 128) ⌝ }
+    ensures { λ r. ⌜ ChosenNew (now (prepared .entry)) left right base (now (path .entry)) r ⌝ }
+{
+    let a = automaton_of(prepared, left, Side::Sheet);
+    let mid = base + a.count;
+    if goes_left(path, mid, a.nullable) {
+        return Spot { node: left, base };
+    }
+    Spot {
+        node: right,
+        base: mid,
+    }
+}
+
+// The arm of a union onto an old text: that of the old text if the sheet fits it, otherwise the other's create. Where the old text is of the right arm and the path of the
+// sheet goes left, the sheet may fit the right arm too: it then gets a path of its own there.
 pub fn choose(
     prepared: &[u64],
     left: usize,
@@ -149,62 +163,22 @@ pub fn choose(
     base: usize,
     new: &[u8],
     path: &mut [u8],
-    old: Old,
+    place: Place,
     deck: &[u8],
 ) -> Choice
     requires { ⌜ Prepared (now prepared) left Source × Prepared (now prepared) left Sheet × Prepared (now prepared) right Sheet ⌝ }
-    requires { ⌜ (base ≤ 128) × OldInside old × (8192 ≤ length (now deck)) ⌝ }
+    requires { ⌜ (base ≤ 128) × PlaceInside place × (8192 ≤ length (now deck)) ⌝ }
     requires { ⌜ (length (now new) ≤ 4096) × (length (now path) ≡ length (now new)) ⌝ }
-    ensures { λ r. ⌜ Chosen (now (prepared .entry)) left right base (now (new .entry)) (now (path .entry)) (now (path .exit)) old (now (deck .entry)) r ⌝ }
+    ensures { λ r. ⌜ Chosen (now (prepared .entry)) left right base (now (new .entry)) (now (path .entry)) (now (path .exit)) place (now (deck .entry)) r ⌝ }
 {
     let a = automaton_of(prepared, left, Side::Sheet);
     let mid = base + a.count;
     let fits_left = goes_left(path, mid, a.nullable);
-    let Old::At(place) = old else {
-        if fits_left {
-            return created(left, base);
-        }
-        return created(right, mid);
-    };
-    choose_onto(
-        prepared,
-        left,
-        right,
-        base,
-        mid,
-        fits_left,
-        new,
-        path,
-        place,
-        deck,
-    )
-}
-
-// The same onto an old text. The positions of the right arm begin at `mid`, and the path of the sheet goes left or not.
-fn choose_onto(
-    prepared: &[u64],
-    left: usize,
-    right: usize,
-    base: usize,
-    mid: usize,
-    fits_left: bool,
-    new: &[u8],
-    path: &mut [u8],
-    place: Place,
-    deck: &[u8],
-) -> Choice
-    requires { ⌜ Prepared (now prepared) left Source × Prepared (now prepared) right Sheet ⌝ }
-    requires { ⌜ PlaceInside place × (8192 ≤ length (now deck)) ⌝ }
-    requires { ⌜ (length (now new) ≤ 4096) × (length (now path) ≡ length (now new)) ⌝ }
-    requires { ⌜ mid ≡ base + (automatonAt (now prepared) left Sheet) .count ⌝ }
-    requires { ⌜ «fits_left» ≡ goesLeft mid ((automatonAt (now prepared) left Sheet) .nullable) (now path) ⌝ }
-    ensures { λ r. ⌜ Chosen (now (prepared .entry)) left right base (now (new .entry)) (now (path .entry)) (now (path .exit)) (At place) (now (deck .entry)) r ⌝ }
-{
     let b = automaton_of(prepared, left, Side::Source);
     let start = place.start;
     let len = place.len;
     let border = place.base + b.count;
-    let from = 4096 + start;
+    let from = Book::PATH + start;
     let to = from + len;
     if goes_left(&deck[from..to], border, b.nullable) {
         if fits_left {
@@ -265,7 +239,7 @@ pub fn next_old(old: Old, ends: Ends, deck: &[u8]) -> Next
             rest: Old::Nothing,
         };
     }
-    let from = 4096 + start;
+    let from = Book::PATH + start;
     let to = from + len;
     let last = ends.last;
     let first = ends.first;

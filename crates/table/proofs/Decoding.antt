@@ -17,7 +17,7 @@ use Rattle.laws.specs.Basics.{bool-cases, and-both}
 use Rattle.table.specs.declared.Kind as K
 use Rattle.table.specs.Prepared.{OnePattern, TwoPatterns, OneLens, TwoLenses, ConstParts, Shows}
 use Rattle.table.specs.Rules.{decoded}
-use Rattle.table.proofs.RightSizes.{pool-is}
+use Rattle.laws.specs.RightSizes.{pool-is}
 use Rattle.table.proofs.Trees.{tree-is, lower-tree, no-tree}
 
 -- ---- What is not broken was made

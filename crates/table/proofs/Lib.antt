@@ -1,5 +1,4 @@
 -- Laws that the proofs of several functions cite.
-pub mod RightSizes
 pub mod Trees
 pub mod KindBytes
 pub mod Decoding

@@ -16,13 +16,14 @@ use Rattle.semantics.specs.Pattern.{Pattern}
 use Rattle.semantics.specs.Lens.{Lens, Side, source, sheet, language, constLanguage}
 use Rattle.semantics.specs.Table.{poolLength, sizesWrong, pool, Tree, Trees, pattern, lens, broken, treeAt, trees, treeSize, patternSize, lensSize, treePositions, positions, holdsMatch, nested, nestedMatch, overLimit, nodeAt, kindOf}
 use Rattle.semantics.specs.Table as S
+use Rattle.laws.specs.Basics.{or-neither}
 use Rattle.table.specs.declared.Kind.{Kind}
 use Rattle.table.specs.declared.Kind.the-variants.{Word, Range, PatternJoin, PatternUnion, PatternRepeat, Copy, Const, Key, LensJoin, LensUnion, LensRepeat, Match}
 use Rattle.table.specs.declared.Node.{Node}
 use Rattle.table.specs.Prepared.{NodeSized, OnePattern, TwoPatterns, OneLens, TwoLenses, Shows, matchFlag}
 use Rattle.table.specs.Rules.{SizedBelow, Small, Numbers, OverOne, OverTwo, OverConst, OverMatch, NodeRead, Stored, decoded, treeHolds, wordOf, flag}
 use Rattle.table.proofs.Decoding.{Decoded}
-use Rattle.table.proofs.RightSizes.{or-neither, right-of, pool-is}
+use Rattle.laws.specs.RightSizes.{right-of, pool-is}
 
 -- ---- The words of a sized node
 

@@ -17,7 +17,7 @@ use Rattle.table.specs.declared.Node as N
 use Rattle.table.specs.Prepared.{NodeSized, Sized}
 use Rattle.table.specs.Rules.{NodeRead, Stored, Turned, there, sortAt, wordThere, wordFits, rangeOrdered, oneChild, twoChildren, constParts, keepsRules, nodeFault, overLimits, flag}
 use Rattle.laws.specs.Basics.{bool-cases}
-use Rattle.table.proofs.RightSizes.{pool-is}
+use Rattle.laws.specs.RightSizes.{pool-is}
 use Rattle.table.proofs.Trees.{tree-is}
 use Rattle.table.proofs.Decoding.{first-operand}
 use Rattle.table.proofs.Measures.{flag-is}

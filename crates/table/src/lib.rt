@@ -100,8 +100,15 @@ impl Table {
     pub const SIZE: usize = 512;
 
     pub const POSITIONS: usize = 128;
-    // words of the prepared program that belong to a node
+
+    // numbers of the prepared program that belong to a node
     pub const WORDS: usize = 16;
+
+    // where its rows begin: behind the numbers of all nodes
+    pub const ROWS: usize = Table::NODES * Table::WORDS;
+
+    // the longest source, sheet or result of a program, in bytes
+    pub const TEXT: usize = 4096;
 
     // A table from any bytes, its nodes' sizes in the prepared program; or the refusal of the first round.
     pub fn read(bytes: &[u8], prepared: &mut [u64]) -> TableAnswer

@@ -38,7 +38,7 @@ pub fn is_sort(bytes: &[u8], k: usize, sort: Sort, a: usize) -> bool
 }
 
 // Whether a word stands at w, below node k.
-pub fn is_word(bytes: &[u8], k: usize, w: usize) -> bool
+fn is_word(bytes: &[u8], k: usize, w: usize) -> bool
     requires { ⌜ Whole (now bytes) k ⌝ }
     ensures { λ r. ⌜ r ≡ wordThere (take k (trees (now (bytes .entry)))) w ⌝ }
 {

@@ -19,7 +19,7 @@ use Rattle.table.specs.declared.Kind.the-variants.{Word, Range, PatternJoin, Pa
 use Rattle.table.specs.declared.Node.{Node}
 use Rattle.table.specs.Prepared.{Shows, WordPart, OneLens, TwoLenses, ConstParts}
 use Rattle.table.specs.Rules.{NodeRead}
-use Rattle.table.proofs.RightSizes.{Right, right-of}
+use Rattle.laws.specs.RightSizes.{Right, right-of}
 use Rattle.automaton.specs.declared.Side.{Side}
 use Rattle.automaton.specs.declared.Automaton.{Automaton}
 use Rattle.automaton.specs.Rows.{Room, Describes}

@@ -1,3 +1,3 @@
 // The typing questions, decided on the automata, and the second round, which asks them of every node.
-pub mod questions;
+mod questions;
 pub mod round;

@@ -15,10 +15,9 @@ use Rattle.lens.specs.declared.Wrote.{Wrote}
 use Rattle.lens.specs.Cutting.{rest-lent}
 use Rattle.books.specs.declared.Book.{Book}
 use Rattle.books.specs.declared.Lookup.{Lookup}
-use Rattle.books.specs.declared.Old.{Old}
 use Rattle.books.specs.Listed.{unused}
 use Rattle.books.specs.Looking.{oldText, BookOver, LookedUp, same-all, same-then}
-use Rattle.steps.specs.declared.Choice.{Choice}
+use Rattle.steps.specs.declared.Spot.{Spot}
 use Rattle.steps.specs.Steps.{ArmIs}
 use Rattle.writer.specs.declared.Done.{Done}
 use Rattle.writer.specs.Writing.{Progress, LensBehind, WritesBehind, WritesNext, EntryFound, WritesMatch}
@@ -153,9 +152,9 @@ module _ {bytes deck : Text} where
 
   -- it writes what its arm writes
   pub union-writes :
-      {node left right : ℕ} {new : Text} {path : List ℕ} {old : Old} {choice : Choice} {out after : Text} {done r : Done}
+      {node left right : ℕ} {old kept : Option Text} {new : Text} {path : List ℕ} {spot : Spot} {out after : Text} {done r : Done}
       → (s : TwoLenses (trees bytes) node left right (λ l m. lens (union l m)))
-      → (arm : ArmIs bytes node (s .left) (s .right) new path old deck choice)
-      → WritesBehind bytes (choice .arm .node) deck (oldText deck (choice .old)) new done out after r
-      → WritesBehind bytes node deck (oldText deck old) new done out after r
+      → ArmIs bytes node (s .left) (s .right) old kept new path spot
+      → WritesBehind bytes (spot .node) deck kept new done out after r
+      → WritesBehind bytes node deck old new done out after r
   union-writes s arm w = at-node (union (s .left) (s .right)) (s .tree-is) (behind-same (arm .writes-same) (w .writes (arm .arm) (arm .arm-is)))

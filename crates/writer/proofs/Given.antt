@@ -1,12 +1,13 @@
 -- What the nodes below a node are given, of what it was given.
 use mathlib.Core.Path.{_≡_}
 use mathlib.Core.List.{List}
+use mathlib.Core.Option.{Option, none, some}
 use Prim.Native.Nat.{ℕ, _+_, _-_, _*_, _≤_, _<_}
 use native.Mathlib.Nat.{sub-zero}
 use native.Mathlib.Omega.{arith}
 use lib.ListN.{length, take}
 use Rattle.semantics.specs.Text.{Text}
-use Rattle.semantics.specs.Lens.{union, match, sheet, keyOf}
+use Rattle.semantics.specs.Lens.{Lens, union, match, sheet, keyOf}
 use Rattle.semantics.specs.Table.{trees, lens}
 use Rattle.table.specs.Prepared.{OneLens, TwoLenses}
 use Rattle.lens.specs.Emitting.{LensNode}
@@ -18,12 +19,12 @@ use Rattle.books.specs.declared.Old.{Old}
 use Rattle.books.specs.declared.Old.the-variants.{At, Nothing}
 use Rattle.books.specs.declared.Place.{Place}
 use Rattle.books.specs.Cards.{cardOf, printByte, key-short}
-use Rattle.books.specs.Looking.{BookOver, SameEntries, CardsFit, OldFits, LookedUp, cards-fit-same}
+use Rattle.books.specs.Looking.{partAt, oldText, BookOver, SameEntries, CardsFit, OldFits, LookedUp, cards-fit-same}
 use Rattle.decks.specs.declared.cards.Card.{Card}
 use Rattle.decks.specs.Dealing.{KeyCard}
 use Rattle.steps.specs.declared.Choice.{Choice}
 use Rattle.steps.specs.declared.Spot.{Spot}
-use Rattle.steps.specs.Steps.{ArmIs, Chosen}
+use Rattle.steps.specs.Steps.{ArmIs, ChoiceIs, ChosenNew, Chosen}
 use Rattle.steps.specs.Stepping.{old-none, old-at}
 use Rattle.bookless.specs.Bookless.{NewGiven, Given, GivenOld}
 use Rattle.writer.specs.Writing.{LooksIn, Ready, EntryFound}
@@ -147,7 +148,14 @@ module _
       let looked = entry .found (ready .lens-node .tree) (ready .lens-node .tree-is) in
       record { sheet-given = given; old-fits = found-fits (ready .looks-in) looked }
 
--- the arm of a union has the union's sheet, and the old text if that is of the arm
+-- the arm of a union is a node below it, and has its sheet
+module _ {bytes : Text} {node : ℕ} {l m : Lens} {old kept : Option Text} {new path : Text} {r : Spot} (arm : ArmIs bytes node l m old kept new path r) where
+  pub arm-ready : {prepared below : List ℕ} {deck : Text} {b : Book} → Ready bytes prepared node deck below b → Ready bytes prepared (r .node) deck below b
+  arm-ready ready = ready-below ready (lens-below (ready .lens-node) (arm .arm) (arm .lower) (arm .arm-is))
+
+  pub arm-given : {spot : Spot} {before deck : Text} → NewGiven bytes spot new before deck → NewGiven bytes r new path deck
+  arm-given given = given-whole given (arm .sheet-parsed)
+
 module _
     {bytes : Text}
     {prepared : List ℕ}
@@ -156,23 +164,30 @@ module _
     {below : List ℕ}
     {b : Book}
     {left right : ℕ}
-    {new before after : Text}
-    {old : Old}
-    {r : Choice}
     (ready : Ready bytes prepared (spot .node) deck below b)
-    (s : TwoLenses (trees bytes) (spot .node) left right (λ l m. lens (union l m)))
-    (given : GivenOld bytes spot new before old deck)
-    (chosen : Chosen prepared left right (spot .base) new before after old deck r) where
-  pub arm-is : ArmIs bytes (spot .node) (s .left) (s .right) new after old deck r
-  arm-is =
-      let known = ready .lens-node in
-      chosen .arm-is bytes (spot .node) (left-below known s) (right-below known s) s (given .sheet-given .parsed) (given .old-fits)
+    (s : TwoLenses (trees bytes) (spot .node) left right (λ l m. lens (union l m))) where
+  -- there is no old text,
+  pub new-arm :
+      {new path : Text} {r : Spot}
+      → NewGiven bytes spot new path deck
+      → ChosenNew prepared left right (spot .base) path r
+      → ArmIs bytes (spot .node) (s .left) (s .right) none none new path r
+  new-arm {new} given chosen = chosen .arm-is bytes new (spot .node) (left-below (ready .lens-node) s) s (given .parsed)
 
-  pub arm-lower : r .arm .node < spot .node
-  arm-lower = arm-is .lower
+  -- or one, which the arm has if it is of the arm
+  module _
+      {new before after : Text}
+      {p : Place}
+      {r : Choice}
+      (given : Given bytes spot new before p deck)
+      (chosen : Chosen prepared left right (spot .base) new before after p deck r) where
+    choice-is : ChoiceIs bytes (spot .node) (s .left) (s .right) new after p deck r
+    choice-is =
+        let known = ready .lens-node in
+        chosen .choice-is bytes (spot .node) (left-below known s) (right-below known s) s (given .sheet-given .parsed) (given .old-parsed)
 
-  pub arm-ready : Ready bytes prepared (r .arm .node) deck below b
-  arm-ready = ready-below ready (lens-below (ready .lens-node) (arm-is .arm) (arm-is .lower) (arm-is .arm-is))
+    pub choice-arm : ArmIs bytes (spot .node) (s .left) (s .right) (some (partAt deck p)) (oldText deck (r .old)) new after (r .arm)
+    choice-arm = choice-is .is-arm
 
-  pub arm-given : GivenOld bytes (r .arm) new after (r .old) deck
-  arm-given = record { sheet-given = given-whole (given .sheet-given) (arm-is .sheet-parsed); old-fits = arm-is .old-parsed }
+    pub choice-given : GivenOld bytes (r .arm) new after (r .old) deck
+    choice-given = record { sheet-given = arm-given choice-arm (given .sheet-given); old-fits = choice-is .old-parsed }

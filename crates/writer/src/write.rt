@@ -17,6 +17,7 @@ use paths::first_loop;
 use steps::Spot;
 use steps::behind;
 use steps::choose;
+use steps::choose_new;
 use steps::cut_sheet;
 use steps::ends_of;
 use steps::halves_of;
@@ -127,7 +128,7 @@ pub fn put(
             put(done, bytes, prepared, cut.right, back, track, halves.second, deck, below, card, out)
         }
         Kind::LensUnion { left, right } => {
-            let choice = choose(prepared, left, right, base, new, path, old, deck);
+            let choice = choose(prepared, left, right, base, new, path, place, deck);
             let arm = choice.arm;
             let kept = choice.old;
             match kept {
@@ -185,14 +186,8 @@ pub fn create(
             create(done, bytes, prepared, cut.right, back, track, deck, below, card, out)
         }
         Kind::LensUnion { left, right } => {
-            // Without an old text none is left for the arm, but the contract of `choose` does not say so.
-            let choice = choose(prepared, left, right, base, new, path, old, deck);
-            let arm = choice.arm;
-            let kept = choice.old;
-            match kept {
-                Old::At(place) => put(done, bytes, prepared, arm, new, path, place, deck, below, card, out),
-                Old::Nothing => create(done, bytes, prepared, arm, new, path, deck, below, card, out),
-            }
+            let arm = choose_new(prepared, left, right, base, path);
+            create(done, bytes, prepared, arm, new, path, deck, below, card, out)
         }
         Kind::LensRepeat { child } => {
             write_repeat(done, bytes, prepared, spot, child, new, path, old, deck, below, card, out)

@@ -26,7 +26,7 @@ use Rattle.lens.specs.Nodes.{
 }
 use Rattle.lens.specs.Parsed.{parsed-length, parsed-match}
 use Rattle.books.specs.Looking.{oldText}
-use Rattle.steps.specs.Stepping.{old-at, old-inside, cut-inside}
+use Rattle.steps.specs.Stepping.{place-inside, old-inside, cut-inside}
 use Rattle.bookless.proofs.Putting.{
   put-length,
   puts-at,
@@ -238,7 +238,7 @@ put-choose-requires t c κs =
     let s = shown-union (at-node .node .ensures) (at-kind2 .kind2 .given .1) in
     let sheets = given .sheet-given in (
       (node-prepared (left-below known s) Source, node-prepared (left-below known s) Sheet, node-prepared (right-below known s) Sheet),
-      ((omega (arith, sheets .parsed .few), old-inside (old-at (given .old-parsed)), sheets .deck-room), (sheets .new-short, parsed-length (sheets .parsed))),
+      ((omega (arith, sheets .parsed .few), place-inside (given .old-parsed), sheets .deck-room), (sheets .new-short, parsed-length (sheets .parsed))),
     )
 
 put-write-requires : (t : ℕ) → put-lts.Need-write-requires (put-calls t) (put-at t) put.Post
@@ -251,9 +251,10 @@ put-write-requires t c κs =
     let given = start .pre .1 .1 in
     let s = shown-union (at-node .node .ensures) (at-kind2 .kind2 .given .1) in
     let chosen =
-    at-choose .choose .ensures .arm-is _ _ (left-below known s) (right-below known s) s (given .sheet-given .parsed) (old-at (given .old-parsed))
+    at-choose .choose .ensures .choice-is _ _ (left-below known s) (right-below known s) s (given .sheet-given .parsed) (given .old-parsed)
     in
-    (omega (arith, chosen .lower, start .pre .0), (lens-below known (chosen .arm) (chosen .lower) (chosen .arm-is), arm-given given chosen))
+    let arm = chosen .is-arm in
+    (omega (arith, arm .lower, start .pre .0), (lens-below known (arm .arm) (arm .lower) (arm .arm-is), arm-given given chosen))
 
 put-enum-known-kind-3 : (t : ℕ) → put-lts.Need-enum-known-kind-3 (put-calls t) (put-at t) put.Post
 put-enum-known-kind-3 t c = search needs
@@ -368,9 +369,9 @@ put-returns-10 t c =
     let given = start .pre .1 .1 in
     let s = shown-union (at-node .node .ensures) (at-kind2 .kind2 .given .1) in
     let chosen =
-    at-choose .choose .ensures .arm-is _ _ (left-below known s) (right-below known s) s (given .sheet-given .parsed) (old-at (given .old-parsed))
+    at-choose .choose .ensures .choice-is _ _ (left-below known s) (right-below known s) s (given .sheet-given .parsed) (given .old-parsed)
     in
-    puts-union s chosen (at-write .write .ensures)
+    puts-union s (chosen .is-arm) (at-write .write .ensures)
 
 put-same-length-8 : (t : ℕ) → put-lts.Need-same-length-8 (put-calls t) (put-at t) put.Post
 put-same-length-8 t c = search needs

@@ -1,13 +1,13 @@
 use borrow.Author.Needs.{needs}
--- `script::append` is safe and ends. The loop's invariant: the text keeps its length. Assumes nothing.
+-- `script::append` meets its contract. The loop's invariant: the text keeps its length, and the count is that of the bytes so far. Assumes nothing.
 use mathlib.Core.Path.{_≡_}
-use Prim.Native.Nat.{_-_}
+use Prim.Native.Nat.{_+_, _-_, _≤_, min}
 use lib.ListN.{length}
 use Rattle.script.proofs.append.Statement.{statement}
 use Rattle.script.proofs.append.Tie as tie
 
 abbrev Inv-loop : tie.InvT-loop
-Inv-loop text₀ count more n₀ i₀ text n i = length text ≡ length text₀
+Inv-loop text₀ count more n₀ i₀ text n i = (length text ≡ length text₀) × ((n ≡ count + min i (length text₀ - count)) × (i ≤ length more))
 
 abbrev μ-loop : tie.MeasureT-loop
 μ-loop text₀ count more n₀ i₀ text n i = length more - i

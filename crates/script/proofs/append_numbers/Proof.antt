@@ -1,13 +1,13 @@
 use borrow.Author.Needs.{needs}
--- `script::append_numbers` is safe and ends. The loop's invariant: the text keeps its length. Assumes nothing.
+-- `script::append_numbers` meets its contract. The loop's invariant: the text keeps its length, and the count lies within its limits. Assumes nothing.
 use mathlib.Core.Path.{_≡_}
-use Prim.Native.Nat.{_-_}
+use Prim.Native.Nat.{_-_, _≤_, max}
 use lib.ListN.{length}
 use Rattle.script.proofs.append_numbers.Statement.{statement}
 use Rattle.script.proofs.append_numbers.Tie as tie
 
 abbrev Inv-loop : tie.InvT-loop
-Inv-loop text₀ count numbers n₀ i₀ text n i = length text ≡ length text₀
+Inv-loop text₀ count numbers n₀ i₀ text n i = (length text ≡ length text₀) × ((count ≤ n) × (n ≤ max count (length text₀)))
 
 abbrev μ-loop : tie.MeasureT-loop
 μ-loop text₀ count numbers n₀ i₀ text n i = length numbers - i

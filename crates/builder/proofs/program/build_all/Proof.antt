@@ -5,7 +5,7 @@ use denote.Ref.{now}
 use Prim.Native.Nat.{_-_, _≤_}
 use mathlib.Core.Path.{_≡_, refl, _∙_}
 use lib.ListN.{length}
-use Rattle.table.proofs.RightSizes.{right-of}
+use Rattle.laws.specs.RightSizes.{right-of}
 use Rattle.automaton.specs.declared.Side.the-variants.{Source}
 use Rattle.builder.specs.Program.{BuiltUpTo}
 use Rattle.builder.proofs.Turns.{built-begins, built-ends}

@@ -1,7 +1,7 @@
 -- `builder::program::letters` meets its contract. Assumes nothing.
 use native.Mathlib.Omega.{arith}
 use denote.Ref.{now}
-use Rattle.table.proofs.RightSizes.{right-of}
+use Rattle.laws.specs.RightSizes.{right-of}
 use Rattle.builder.proofs.Turns.{letters-part}
 use borrow.Author.Needs.{needs}
 use Rattle.builder.proofs.program.letters.Statement.{statement}

@@ -5,7 +5,7 @@ use denote.Ref.{now}
 use Prim.Native.Nat.{_+_, _-_, _≤_}
 use mathlib.Core.Path.{_≡_, refl, ap, _∙_}
 use Rattle.semantics.specs.Table.{nodeCount}
-use Rattle.table.proofs.RightSizes.{right-of}
+use Rattle.laws.specs.RightSizes.{right-of}
 use Rattle.builder.specs.Program.{rowsBelow, rowsNeeded}
 use Rattle.builder.proofs.Turns.{rows-limit, rows-one-more}
 use Rattle.builder.proofs.program.rows_needed.Statement.{statement}

@@ -1,6 +1,6 @@
 -- `table::Table::node` meets its contract: a node of a table that was read.
 use Rattle.table.proofs.Measures.{flag-test, words-of}
-use Rattle.table.proofs.RightSizes.{right-of}
+use Rattle.laws.specs.RightSizes.{right-of}
 use denote.Ref.{now}
 use lib.Dec.{ltb}
 use mathlib.Core.Path.{_∙_, ap}

@@ -1,6 +1,6 @@
 -- `table::Table::read` meets its contract: the first round over all nodes. The loop's invariant is `Passed`; the measure is what is left of the nodes.
 use Prim.Native.Nat.{_-_}
-use Rattle.table.proofs.RightSizes.{right-of}
+use Rattle.laws.specs.RightSizes.{right-of}
 use Rattle.table.proofs.Rounds.{Passed, passed-begins, passed-more, passed-no-root, passed-ready, passed-refused, passed-whole, refused-leaves, wrong-sizes}
 use borrow.Author.Needs.{needs}
 use borrow.Author.Tests.{not-false, not-true}

@@ -1,6 +1,6 @@
 -- `table::parts::kind_byte` meets its contract: the kind byte stands at 3 + k.
 use Rattle.semantics.specs.Table.{at, nodeAt}
-use Rattle.table.proofs.RightSizes.{right-of}
+use Rattle.laws.specs.RightSizes.{right-of}
 use denote.Ref.{now}
 use mathlib.Core.Path.{refl}
 use native.Mathlib.Omega.{arith}

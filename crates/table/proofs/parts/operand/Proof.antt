@@ -1,6 +1,6 @@
 -- `table::parts::operand` meets its contract: the operand records stand behind the kind bytes.
 use Rattle.semantics.specs.Table.{at}
-use Rattle.table.proofs.RightSizes.{right-of}
+use Rattle.laws.specs.RightSizes.{right-of}
 use denote.Ref.{now}
 use native.Mathlib.Omega.{arith}
 use Rattle.table.proofs.parts.operand.Statement.{statement}

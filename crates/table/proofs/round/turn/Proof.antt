@@ -1,6 +1,6 @@
 -- `table::round::turn` meets its contract: a node's turn in the first round. The tests decide the four lines in order, and what is stored is one more sized node.
 use Rattle.semantics.specs.Table.{isBroken, nested, nodeAt, overLimit, treeAt, trees, unknownKind}
-use Rattle.table.proofs.RightSizes.{right-of}
+use Rattle.laws.specs.RightSizes.{right-of}
 use Rattle.table.proofs.Turns.{fault-0, fault-2, fault-3, fault-4, fault-5, kept-is, limits-are, refused, sized-more, unknown-is}
 use Rattle.table.specs.Rules.{Within}
 use borrow.Author.Needs.{needs}

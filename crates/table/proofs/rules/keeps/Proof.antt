@@ -1,7 +1,7 @@
 -- `table::rules::keeps` meets its contract: the rule of each kind, as the table of kinds has it.
 use Rattle.semantics.specs.Table.{kindOf}
 use Rattle.table.proofs.KindBytes.{between-unknown, high-known, one-of-two}
-use Rattle.table.proofs.RightSizes.{right-of}
+use Rattle.laws.specs.RightSizes.{right-of}
 use Rattle.table.proofs.Sorts.{no-rules}
 use Rattle.table.specs.Rules.{keepsRules}
 use borrow.Author.Needs.{needs}

@@ -1,4 +1,4 @@
-use Rattle.writer.proofs.Given.{found-ready, found-given, given-none, given-onto, given-at, ready-below, ready-left, below-room, arm-is, arm-lower, arm-ready, arm-given, given-match}
+use Rattle.writer.proofs.Given.{found-ready, found-given, given-none, given-onto, given-at, ready-below, ready-left, below-room, arm-ready, arm-given, new-arm, choice-arm, choice-given, given-match}
 use Rattle.writer.proofs.Parts.{Parting, parting-begins, more-path, more-lent, part-inside, part-given, part-old, part-back, parting-next, parting-ends}
 use Rattle.writer.proofs.Halves.{halves-lower, near-known, far-known, at-inside, near-given, left-back, right-back, far-given, near-old, far-old, join-created, join-put}
 use Rattle.writer.proofs.ByKind.{match-writes, union-writes}
@@ -36,6 +36,7 @@ use Rattle.writer.proofs.write.+create+put+write_match+write_parts+writ
 use Rattle.decks.proofs.below.asks_none.Reads as asks-none-reads
 use Rattle.paths.proofs.first_loop.Reads as first-loop-reads
 use Rattle.steps.proofs.choose.Reads as choose-reads
+use Rattle.steps.proofs.choose_new.Reads as choose-new-reads
 use Rattle.steps.proofs.cut_sheet.Reads as cut-sheet-reads
 use Rattle.steps.proofs.ends_of.Reads as ends-of-reads
 use Rattle.steps.proofs.halves_of.Reads as halves-of-reads
@@ -104,7 +105,7 @@ write-repeat-below t =
     write-repeat.Pre
 
 abbrev create-calls : ℕ → create-lts.Claims
-create-calls t = (asks-none-reads.Asked, asks-none-reads.Learnt, plain-behind-reads.Asked, plain-behind-reads.Learnt, node-reads.Asked, node-reads.Learnt, cut-sheet-reads.Asked, cut-sheet-reads.Learnt, create-below t, create.Post, choose-reads.Asked, choose-reads.Learnt, put-below t, put.Post, write-repeat-below t, write-repeat.Post, write-match-below t, write-match.Post)
+create-calls t = (asks-none-reads.Asked, asks-none-reads.Learnt, plain-behind-reads.Asked, plain-behind-reads.Learnt, node-reads.Asked, node-reads.Learnt, cut-sheet-reads.Asked, cut-sheet-reads.Learnt, create-below t, create.Post, choose-new-reads.Asked, choose-new-reads.Learnt, write-repeat-below t, write-repeat.Post, write-match-below t, write-match.Post)
 
 abbrev put-calls : ℕ → put-lts.Claims
 put-calls t = (asks-none-reads.Asked, asks-none-reads.Learnt, plain-behind-reads.Asked, plain-behind-reads.Learnt, node-reads.Asked, node-reads.Learnt, cut-sheet-reads.Asked, cut-sheet-reads.Learnt, halves-of-reads.Asked, halves-of-reads.Learnt, put-below t, put.Post, choose-reads.Asked, choose-reads.Learnt, create-below t, create.Post, write-repeat-below t, write-repeat.Post, write-match-below t, write-match.Post)
@@ -118,85 +119,85 @@ write-parts-calls t = (old-base-reads.Asked, old-base-reads.Learnt, ends-of-read
 abbrev write-repeat-calls : ℕ → write-repeat-lts.Claims
 write-repeat-calls t = (ends-of-reads.Asked, ends-of-reads.Learnt, node-reads.Asked, node-reads.Learnt, write-matches-reads.Asked, write-matches-reads.Learnt, write-parts-below t, write-parts.Post)
 
--- src/write.rt:171:8
+-- src/write.rt:172:8
 create-asks-none-requires : (t : ℕ) → create-lts.Need-asks-none-requires (create-calls t) (create-at t) create.Post
 create-asks-none-requires t c κs = below-room (c .before .before .before .before .before .before .before .before .before .pre .1 .0)
 
--- src/write.rt:172:9
+-- src/write.rt:173:9
 create-plain-behind-requires : (t : ℕ) → create-lts.Need-plain-behind-requires (create-calls t) (create-at t) create.Post
-create-plain-behind-requires t c κs = (c .before .before .before .before .before .before .before .before .before .before .before .before .before .pre .1 .0, (given-none (c .before .before .before .before .before .before .before .before .before .before .before .before .before .pre .1 .1 .0), (c .before .before .before .before .before .before .before .before .before .before .before .before .before .pre .1 .1 .1 .0, record { none-shared = c .before .before .before .asks-none .ensures (c .before .before .if1 .taken) })))
+create-plain-behind-requires t c κs = (c .before .before .before .before .before .before .before .before .before .before .before .before .before .pre .1 .0, (given-none (c .before .before .before .before .before .before .before .before .before .before .before .before .before .pre .1 .1 .0), (c .before .before .before .before .before .before .before .before .before .before .before .before .before .pre .1 .1 .1 .0, record { none-shared = c .before .before .before .asks-none .ensures .0 (c .before .before .if1 .taken) })))
 
--- src/write.rt:172:9
+-- src/write.rt:173:9
 create-same-length : (t : ℕ) → create-lts.Need-same-length (create-calls t) (create-at t) create.Post
 create-same-length t c = search needs
 
--- src/write.rt:172:9
+-- src/write.rt:173:9
 create-same-length-2 : (t : ℕ) → create-lts.Need-same-length-2 (create-calls t) (create-at t) create.Post
 create-same-length-2 t c = search needs
 
--- src/write.rt:172:9
+-- src/write.rt:173:9
 create-returns : (t : ℕ) → create-lts.Need-returns (create-calls t) (create-at t) create.Post
 unfolding oldText
 create-returns t c = c .before .before .before .before .plain-behind .ensures
 
--- src/write.rt:174:9
+-- src/write.rt:175:9
 create-node-requires : (t : ℕ) → create-lts.Need-node-requires (create-calls t) (create-at t) create.Post
 create-node-requires t c κs = (c .before .before .before .before .before .before .before .before .before .before .before .pre .1 .0 .lens-node .built .sized, c .before .before .before .before .before .before .before .before .before .before .before .pre .1 .0 .lens-node .inside)
 
--- src/write.rt:177:26
+-- src/write.rt:178:26
 create-enum-known-kind : (t : ℕ) → create-lts.Need-enum-known-kind (create-calls t) (create-at t) create.Post
 create-enum-known-kind t c = search needs
 
--- src/write.rt:178:17
+-- src/write.rt:179:17
 create-cut-sheet-requires : (t : ℕ) → create-lts.Need-cut-sheet-requires (create-calls t) (create-at t) create.Post
 create-cut-sheet-requires t c κs =
     let known = c .before .before .before .before .before .before .before .before .before .before .before .before .before .before .before .before .pre .1 .0 .lens-node in
     let s = shown-join (c .before .before .before .before .node .ensures) (c .before .before .kind .given .1) in
     (node-prepared (left-below known s) Sheet, omega (arith, c .before .before .before .before .before .before .before .before .before .before .before .before .before .before .before .before .pre .1 .1 .0 .parsed .few))
 
--- src/write.rt:180:25
+-- src/write.rt:181:25
 create-sub-front : (t : ℕ) → create-lts.Need-sub-front (create-calls t) (create-at t) create.Post
 create-sub-front t c =
     let known = c .before .before .before .before .before .before .before .before .before .before .before .before .before .before .before .before .before .pre .1 .0 .lens-node in
     let s = shown-join (c .before .before .before .before .before .node .ensures) (c .before .before .before .kind .given .1) in
     omega (arith, at-inside known s (c .before .before .before .before .before .before .before .before .before .before .before .before .before .before .before .before .before .pre .1 .1 .0) (c .cut-sheet .ensures))
 
--- src/write.rt:180:25
+-- src/write.rt:181:25
 create-part-front-start : (t : ℕ) → create-lts.Need-part-front-start (create-calls t) (create-at t) create.Post
 create-part-front-start t c =
     let known = c .before .before .before .before .before .before .before .before .before .before .before .before .before .before .before .before .before .pre .1 .0 .lens-node in
     let s = shown-join (c .before .before .before .before .before .node .ensures) (c .before .before .before .kind .given .1) in
     omega (arith, at-inside known s (c .before .before .before .before .before .before .before .before .before .before .before .before .before .before .before .before .before .pre .1 .1 .0) (c .cut-sheet .ensures))
 
--- src/write.rt:180:25
+-- src/write.rt:181:25
 create-part-front-end : (t : ℕ) → create-lts.Need-part-front-end (create-calls t) (create-at t) create.Post
 create-part-front-end t c =
     let known = c .before .before .before .before .before .before .before .before .before .before .before .before .before .before .before .before .before .pre .1 .0 .lens-node in
     let s = shown-join (c .before .before .before .before .before .node .ensures) (c .before .before .before .kind .given .1) in
     omega (arith, at-inside known s (c .before .before .before .before .before .before .before .before .before .before .before .before .before .before .before .before .before .pre .1 .1 .0) (c .cut-sheet .ensures))
 
--- src/write.rt:181:25
+-- src/write.rt:182:25
 create-sub-track : (t : ℕ) → create-lts.Need-sub-track (create-calls t) (create-at t) create.Post
 create-sub-track t c =
     let known = c .before .before .before .before .before .before .before .before .before .before .before .before .before .before .before .before .before .before .pre .1 .0 .lens-node in
     let s = shown-join (c .before .before .before .before .before .before .node .ensures) (c .before .before .before .before .kind .given .1) in
     omega (arith, at-inside known s (c .before .before .before .before .before .before .before .before .before .before .before .before .before .before .before .before .before .before .pre .1 .1 .0) (c .before .cut-sheet .ensures))
 
--- src/write.rt:181:25
+-- src/write.rt:182:25
 create-part-track-start : (t : ℕ) → create-lts.Need-part-track-start (create-calls t) (create-at t) create.Post
 create-part-track-start t c =
     let known = c .before .before .before .before .before .before .before .before .before .before .before .before .before .before .before .before .before .before .pre .1 .0 .lens-node in
     let s = shown-join (c .before .before .before .before .before .before .node .ensures) (c .before .before .before .before .kind .given .1) in
     omega (arith, at-inside known s (c .before .before .before .before .before .before .before .before .before .before .before .before .before .before .before .before .before .before .pre .1 .1 .0) (c .before .cut-sheet .ensures))
 
--- src/write.rt:181:25
+-- src/write.rt:182:25
 create-part-track-end : (t : ℕ) → create-lts.Need-part-track-end (create-calls t) (create-at t) create.Post
 create-part-track-end t c =
     let known = c .before .before .before .before .before .before .before .before .before .before .before .before .before .before .before .before .before .before .pre .1 .0 .lens-node in
     let s = shown-join (c .before .before .before .before .before .before .node .ensures) (c .before .before .before .before .kind .given .1) in
     omega (arith, at-inside known s (c .before .before .before .before .before .before .before .before .before .before .before .before .before .before .before .before .before .before .pre .1 .1 .0) (c .before .cut-sheet .ensures))
 
--- src/write.rt:182:13
+-- src/write.rt:183:13
 create-create-requires : (t : ℕ) → create-lts.Need-create-requires (create-calls t) (create-at t) create.Post
 create-create-requires t c κs =
     let known = c .before .before .before .before .before .before .before .before .before .before .before .before .before .before .before .before .before .before .before .before .before .pre .1 .0 .lens-node in
@@ -209,28 +210,28 @@ create-create-requires t c κs =
       ),
     )
 
--- src/write.rt:183:24
+-- src/write.rt:184:24
 create-sub-back : (t : ℕ) → create-lts.Need-sub-back (create-calls t) (create-at t) create.Post
 create-sub-back t c =
     let known = c .before .before .before .before .before .before .before .before .before .before .before .before .before .before .before .before .before .before .before .before .before .before .before .before .before .before .before .before .pre .1 .0 .lens-node in
     let s = shown-join (c .before .before .before .before .before .before .before .before .before .before .before .before .before .before .before .before .node .ensures) (c .before .before .before .before .before .before .before .before .before .before .before .before .before .before .kind .given .1) in
     omega (arith, at-inside known s (c .before .before .before .before .before .before .before .before .before .before .before .before .before .before .before .before .before .before .before .before .before .before .before .before .before .before .before .before .pre .1 .1 .0) (c .before .before .before .before .before .before .before .before .before .before .before .cut-sheet .ensures))
 
--- src/write.rt:183:24
+-- src/write.rt:184:24
 create-part-back-start : (t : ℕ) → create-lts.Need-part-back-start (create-calls t) (create-at t) create.Post
 create-part-back-start t c =
     let known = c .before .before .before .before .before .before .before .before .before .before .before .before .before .before .before .before .before .before .before .before .before .before .before .before .before .before .before .before .pre .1 .0 .lens-node in
     let s = shown-join (c .before .before .before .before .before .before .before .before .before .before .before .before .before .before .before .before .node .ensures) (c .before .before .before .before .before .before .before .before .before .before .before .before .before .before .kind .given .1) in
     omega (arith, at-inside known s (c .before .before .before .before .before .before .before .before .before .before .before .before .before .before .before .before .before .before .before .before .before .before .before .before .before .before .before .before .pre .1 .1 .0) (c .before .before .before .before .before .before .before .before .before .before .before .cut-sheet .ensures))
 
--- src/write.rt:183:24
+-- src/write.rt:184:24
 create-part-back-end : (t : ℕ) → create-lts.Need-part-back-end (create-calls t) (create-at t) create.Post
 create-part-back-end t c =
     let known = c .before .before .before .before .before .before .before .before .before .before .before .before .before .before .before .before .before .before .before .before .before .before .before .before .before .before .before .before .pre .1 .0 .lens-node in
     let s = shown-join (c .before .before .before .before .before .before .before .before .before .before .before .before .before .before .before .before .node .ensures) (c .before .before .before .before .before .before .before .before .before .before .before .before .before .before .kind .given .1) in
     omega (arith, at-inside known s (c .before .before .before .before .before .before .before .before .before .before .before .before .before .before .before .before .before .before .before .before .before .before .before .before .before .before .before .before .pre .1 .1 .0) (c .before .before .before .before .before .before .before .before .before .before .before .cut-sheet .ensures))
 
--- src/write.rt:184:25
+-- src/write.rt:185:25
 create-sub-track-2 : (t : ℕ) → create-lts.Need-sub-track-2 (create-calls t) (create-at t) create.Post
 create-sub-track-2 t c =
     let known = c .before .before .before .before .before .before .before .before .before .before .before .before .before .before .before .before .before .before .before .before .before .before .before .before .before .before .before .before .before .pre .1 .0 .lens-node in
@@ -238,7 +239,7 @@ create-sub-track-2 t c =
     let cut-is = c .before .before .before .before .before .before .before .before .before .before .before .before .cut-sheet .ensures in
     omega (arith, at-inside known s (c .before .before .before .before .before .before .before .before .before .before .before .before .before .before .before .before .before .before .before .before .before .before .before .before .before .before .before .before .before .pre .1 .1 .0) cut-is, left-back known s (c .before .before .before .before .before .before .before .before .before .before .before .before .before .before .before .before .before .before .before .before .before .before .before .before .before .before .before .before .before .pre .1 .1 .0) cut-is (c .before .before .before .before .before .before .before .create .last .1 .1 .1 .1 .1 .0) (c .before .before .before .before .before .before .before .create .kept .1 .1 .1 .1 .1 .0))
 
--- src/write.rt:184:25
+-- src/write.rt:185:25
 create-part-track-start-2 : (t : ℕ) → create-lts.Need-part-track-start-2 (create-calls t) (create-at t) create.Post
 create-part-track-start-2 t c =
     let known = c .before .before .before .before .before .before .before .before .before .before .before .before .before .before .before .before .before .before .before .before .before .before .before .before .before .before .before .before .before .pre .1 .0 .lens-node in
@@ -246,7 +247,7 @@ create-part-track-start-2 t c =
     let cut-is = c .before .before .before .before .before .before .before .before .before .before .before .before .cut-sheet .ensures in
     omega (arith, at-inside known s (c .before .before .before .before .before .before .before .before .before .before .before .before .before .before .before .before .before .before .before .before .before .before .before .before .before .before .before .before .before .pre .1 .1 .0) cut-is, left-back known s (c .before .before .before .before .before .before .before .before .before .before .before .before .before .before .before .before .before .before .before .before .before .before .before .before .before .before .before .before .before .pre .1 .1 .0) cut-is (c .before .before .before .before .before .before .before .create .last .1 .1 .1 .1 .1 .0) (c .before .before .before .before .before .before .before .create .kept .1 .1 .1 .1 .1 .0))
 
--- src/write.rt:184:25
+-- src/write.rt:185:25
 create-part-track-end-2 : (t : ℕ) → create-lts.Need-part-track-end-2 (create-calls t) (create-at t) create.Post
 create-part-track-end-2 t c =
     let known = c .before .before .before .before .before .before .before .before .before .before .before .before .before .before .before .before .before .before .before .before .before .before .before .before .before .before .before .before .before .pre .1 .0 .lens-node in
@@ -254,7 +255,7 @@ create-part-track-end-2 t c =
     let cut-is = c .before .before .before .before .before .before .before .before .before .before .before .before .cut-sheet .ensures in
     omega (arith, at-inside known s (c .before .before .before .before .before .before .before .before .before .before .before .before .before .before .before .before .before .before .before .before .before .before .before .before .before .before .before .before .before .pre .1 .1 .0) cut-is, left-back known s (c .before .before .before .before .before .before .before .before .before .before .before .before .before .before .before .before .before .before .before .before .before .before .before .before .before .before .before .before .before .pre .1 .1 .0) cut-is (c .before .before .before .before .before .before .before .create .last .1 .1 .1 .1 .1 .0) (c .before .before .before .before .before .before .before .create .kept .1 .1 .1 .1 .1 .0))
 
--- src/write.rt:185:13
+-- src/write.rt:186:13
 create-create-requires-2 : (t : ℕ) → create-lts.Need-create-requires-2 (create-calls t) (create-at t) create.Post
 create-create-requires-2 t c κs =
     let known = c .before .before .before .before .before .before .before .before .before .before .before .before .before .before .before .before .before .before .before .before .before .before .before .before .before .before .before .before .before .before .before .before .pre .1 .0 .lens-node in
@@ -269,60 +270,40 @@ create-create-requires-2 t c κs =
       ),
     )
 
--- src/write.rt:187:27
+-- src/write.rt:188:27
 create-enum-known-kind-2 : (t : ℕ) → create-lts.Need-enum-known-kind-2 (create-calls t) (create-at t) create.Post
 create-enum-known-kind-2 t c = search needs
 
 -- src/write.rt:189:17
-create-choose-requires : (t : ℕ) → create-lts.Need-choose-requires (create-calls t) (create-at t) create.Post
-create-choose-requires t c κs =
+create-choose-new-requires : (t : ℕ) → create-lts.Need-choose-new-requires (create-calls t) (create-at t) create.Post
+create-choose-new-requires t c κs =
     let known = c .before .before .before .before .before .before .before .before .before .before .before .before .before .before .before .before .pre .1 .0 .lens-node in
-    let s = shown-union (c .before .before .before .before .node .ensures) (c .before .before .kind2 .given .1) in (
-      (node-prepared (left-below known s) Source, node-prepared (left-below known s) Sheet, node-prepared (right-below known s) Sheet),
-      (
-        (omega (arith, c .before .before .before .before .before .before .before .before .before .before .before .before .before .before .before .before .pre .1 .1 .0 .parsed .few), old-inside (given-none (c .before .before .before .before .before .before .before .before .before .before .before .before .before .before .before .before .pre .1 .1 .0) .old-fits), c .before .before .before .before .before .before .before .before .before .before .before .before .before .before .before .before .pre .1 .1 .0 .deck-room),
-        (c .before .before .before .before .before .before .before .before .before .before .before .before .before .before .before .before .pre .1 .1 .0 .new-short, parsed-length (c .before .before .before .before .before .before .before .before .before .before .before .before .before .before .before .before .pre .1 .1 .0 .parsed)),
-      ),
-    )
+    let s = shown-union (c .before .before .before .before .node .ensures) (c .before .before .kind2 .given .1) in
+    (node-prepared (left-below known s) Sheet, omega (arith, c .before .before .before .before .before .before .before .before .before .before .before .before .before .before .before .before .pre .1 .1 .0 .parsed .few))
 
--- src/write.rt:193:25
-create-enum-known-kept : (t : ℕ) → create-lts.Need-enum-known-kept (create-calls t) (create-at t) create.Post
-create-enum-known-kept t c = search needs
-
--- src/write.rt:193:35
-create-put-requires : (t : ℕ) → create-lts.Need-put-requires (create-calls t) (create-at t) create.Post
-create-put-requires t c κs =
-    let s = shown-union (c .before .before .before .before .before .before .before .before .before .before .before .before .before .before .node .ensures) (c .before .before .before .before .before .before .before .before .before .before .before .before .kind2 .given .1) in
-    let given = given-none (c .before .before .before .before .before .before .before .before .before .before .before .before .before .before .before .before .before .before .before .before .before .before .before .before .before .before .pre .1 .1 .0) in
-    (omega (arith, c .before .before .before .before .before .before .before .before .before .before .before .before .before .before .before .before .before .before .before .before .before .before .before .before .before .before .pre .0, arm-lower (c .before .before .before .before .before .before .before .before .before .before .before .before .before .before .before .before .before .before .before .before .before .before .before .before .before .before .pre .1 .0) s given (c .before .before .before .before .before .before .before .before .before .choose .ensures)), (arm-ready (c .before .before .before .before .before .before .before .before .before .before .before .before .before .before .before .before .before .before .before .before .before .before .before .before .before .before .pre .1 .0) s given (c .before .before .before .before .before .before .before .before .before .choose .ensures), (given-at (arm-given (c .before .before .before .before .before .before .before .before .before .before .before .before .before .before .before .before .before .before .before .before .before .before .before .before .before .before .pre .1 .0) s given (c .before .before .before .before .before .before .before .before .before .choose .ensures)) (c .before .before .before .before .kept .given .1), c .before .before .before .before .before .before .before .before .before .before .before .before .before .before .before .before .before .before .before .before .before .before .before .before .before .before .pre .1 .1 .1)))
-
--- src/write.rt:194:73
-create-enum-told : (t : ℕ) → create-lts.Need-enum-told (create-calls t) (create-at t) create.Post
-create-enum-told t c = search needs
-
--- src/write.rt:194:33
+-- src/write.rt:190:13
 create-create-requires-3 : (t : ℕ) → create-lts.Need-create-requires-3 (create-calls t) (create-at t) create.Post
 create-create-requires-3 t c κs =
-    let s = shown-union (c .before .before .before .before .before .before .before .before .before .before .before .before .before .node .ensures) (c .before .before .before .before .before .before .before .before .before .before .before .kind2 .given .1) in
-    let given = given-none (c .before .before .before .before .before .before .before .before .before .before .before .before .before .before .before .before .before .before .before .before .before .before .before .before .before .pre .1 .1 .0) in
-    (omega (arith, c .before .before .before .before .before .before .before .before .before .before .before .before .before .before .before .before .before .before .before .before .before .before .before .before .before .pre .0, arm-lower (c .before .before .before .before .before .before .before .before .before .before .before .before .before .before .before .before .before .before .before .before .before .before .before .before .before .pre .1 .0) s given (c .before .before .before .before .before .before .before .before .choose .ensures)), (arm-ready (c .before .before .before .before .before .before .before .before .before .before .before .before .before .before .before .before .before .before .before .before .before .before .before .before .before .pre .1 .0) s given (c .before .before .before .before .before .before .before .before .choose .ensures), (arm-given (c .before .before .before .before .before .before .before .before .before .before .before .before .before .before .before .before .before .before .before .before .before .before .before .before .before .pre .1 .0) s given (c .before .before .before .before .before .before .before .before .choose .ensures) .sheet-given, c .before .before .before .before .before .before .before .before .before .before .before .before .before .before .before .before .before .before .before .before .before .before .before .before .before .pre .1 .1 .1)))
+    let s = shown-union (c .before .before .before .before .before .before .before .before .node .ensures) (c .before .before .before .before .before .before .kind2 .given .1) in
+    let arm = new-arm (c .before .before .before .before .before .before .before .before .before .before .before .before .before .before .before .before .before .before .before .before .pre .1 .0) s (c .before .before .before .before .before .before .before .before .before .before .before .before .before .before .before .before .before .before .before .before .pre .1 .1 .0) (c .before .before .before .choose-new .ensures) in
+    (omega (arith, c .before .before .before .before .before .before .before .before .before .before .before .before .before .before .before .before .before .before .before .before .pre .0, arm .lower), (arm-ready arm (c .before .before .before .before .before .before .before .before .before .before .before .before .before .before .before .before .before .before .before .before .pre .1 .0), (arm-given arm (c .before .before .before .before .before .before .before .before .before .before .before .before .before .before .before .before .before .before .before .before .pre .1 .1 .0), c .before .before .before .before .before .before .before .before .before .before .before .before .before .before .before .before .before .before .before .before .pre .1 .1 .1)))
 
--- src/write.rt:197:28
+-- src/write.rt:192:28
 create-enum-known-kind-3 : (t : ℕ) → create-lts.Need-enum-known-kind-3 (create-calls t) (create-at t) create.Post
 create-enum-known-kind-3 t c = search needs
 
--- src/write.rt:198:13
+-- src/write.rt:193:13
 create-write-repeat-requires : (t : ℕ) → create-lts.Need-write-repeat-requires (create-calls t) (create-at t) create.Post
 create-write-repeat-requires t c κs = (
   omega (arith, c .before .before .before .before .before .before .before .before .before .before .before .before .before .before .before .before .before .before .pre .0),
   (c .before .before .before .before .before .before .before .before .before .before .before .before .before .before .before .before .before .before .pre .1 .0, (shown-repeat (c .before .before .before .before .before .before .node .ensures) (c .before .before .before .before .kind3 .given .1), (given-none (c .before .before .before .before .before .before .before .before .before .before .before .before .before .before .before .before .before .before .pre .1 .1 .0), c .before .before .before .before .before .before .before .before .before .before .before .before .before .before .before .before .before .before .pre .1 .1 .1))),
 )
 
--- src/write.rt:200:23
+-- src/write.rt:195:23
 create-enum-known-kind-4 : (t : ℕ) → create-lts.Need-enum-known-kind-4 (create-calls t) (create-at t) create.Post
 create-enum-known-kind-4 t c = search needs
 
--- src/write.rt:202:13
+-- src/write.rt:197:13
 create-write-match-requires : (t : ℕ) → create-lts.Need-write-match-requires (create-calls t) (create-at t) create.Post
 create-write-match-requires t c κs =
     let s = shown-match (c .before .before .before .before .before .before .node .ensures) (c .before .before .before .before .kind4 .given .1) in (
@@ -330,26 +311,26 @@ create-write-match-requires t c κs =
       (ready-below (c .before .before .before .before .before .before .before .before .before .before .before .before .before .before .before .before .before .before .pre .1 .0) (child-below (c .before .before .before .before .before .before .before .before .before .before .before .before .before .before .before .before .before .before .pre .1 .0 .lens-node) s), (given-match (c .before .before .before .before .before .before .before .before .before .before .before .before .before .before .before .before .before .before .pre .1 .1 .0) s, c .before .before .before .before .before .before .before .before .before .before .before .before .before .before .before .before .before .before .pre .1 .1 .1)),
     )
 
--- src/write.rt:204:14
+-- src/write.rt:199:14
 create-plain-behind-requires-2 : (t : ℕ) → create-lts.Need-plain-behind-requires-2 (create-calls t) (create-at t) create.Post
 create-plain-behind-requires-2 t c κs = (c .before .before .before .before .before .before .before .before .before .before .before .before .before .before .before .pre .1 .0, (given-none (c .before .before .before .before .before .before .before .before .before .before .before .before .before .before .before .pre .1 .1 .0), (c .before .before .before .before .before .before .before .before .before .before .before .before .before .before .before .pre .1 .1 .1 .0, leaf-asks-none (c .before .before .before .before .before .before .before .before .before .before .before .before .before .before .before .pre .1 .0 .lens-node) (c .before .before .before .node .ensures) (c .before .before .before .before .before .before .before .before .before .before .before .before .before .before .before .pre .1 .0 .below-is) (c .before .before .match .keys5))))
 
--- src/write.rt:150:1
+-- src/write.rt:151:1
 create-same-length-3 : (t : ℕ) → create-lts.Need-same-length-3 (create-calls t) (create-at t) create.Post
 create-same-length-3 t c =
     let known = c .before .before .before .before .before .before .before .before .before .before .before .before .before .before .before .before .before .before .before .before .before .before .before .before .before .before .before .before .before .before .before .before .before .before .before .before .before .before .before .pre .1 .0 .lens-node in
     let s = shown-join (c .before .before .before .before .before .before .before .before .before .before .before .before .before .before .before .before .before .before .before .before .before .before .before .before .before .before .before .node .ensures) (c .before .before .before .before .before .before .before .before .before .before .before .before .before .before .before .before .before .before .before .before .before .before .before .before .before .kind .given .1) in
     right-back known s (c .before .before .before .before .before .before .before .before .before .before .before .before .before .before .before .before .before .before .before .before .before .before .before .before .before .before .before .before .before .before .before .before .before .before .before .before .before .before .before .pre .1 .1 .0) (c .before .before .before .before .before .before .before .before .before .before .before .before .before .before .before .before .before .before .before .before .before .before .cut-sheet .ensures) (c .before .before .before .before .before .before .before .before .before .before .before .before .before .before .before .before .before .create .last .1 .1 .1 .1 .1 .0) (c .before .before .before .before .before .before .create2 .last .1 .1 .1 .1 .1 .0) (c .before .before .before .before .before .before .before .before .before .before .before .before .before .before .before .before .before .create .kept .1 .1 .1 .1 .1 .0) (c .before .before .before .before .before .before .create2 .kept .1 .1 .1 .1 .1 .0)
 
--- src/write.rt:150:1
+-- src/write.rt:151:1
 create-same-length-4 : (t : ℕ) → create-lts.Need-same-length-4 (create-calls t) (create-at t) create.Post
 create-same-length-4 t c = c .before .before .before .before .before .before .create2 .kept .1 .1 .1 .1 .1 .1 .1 .1 .0 ∙ c .before .before .before .before .before .before .before .before .before .before .before .before .before .before .before .before .before .create .kept .1 .1 .1 .1 .1 .1 .1 .1 .0
 
--- src/write.rt:150:1
+-- src/write.rt:151:1
 create-same-length-5 : (t : ℕ) → create-lts.Need-same-length-5 (create-calls t) (create-at t) create.Post
 create-same-length-5 t c = c .before .before .before .before .before .before .create2 .kept .1 .1 .1 .1 .1 .1 .1 .1 .1 .0 ∙ c .before .before .before .before .before .before .before .before .before .before .before .before .before .before .before .before .before .create .kept .1 .1 .1 .1 .1 .1 .1 .1 .1 .0
 
--- src/write.rt:150:1
+-- src/write.rt:151:1
 create-returns-2 : (t : ℕ) → create-lts.Need-returns-2 (create-calls t) (create-at t) create.Post
 create-returns-2 t c =
     let known = c .before .before .before .before .before .before .before .before .before .before .before .before .before .before .before .before .before .before .before .before .before .before .before .before .before .before .before .before .before .before .before .before .before .before .before .before .before .before .before .pre .1 .0 .lens-node in
@@ -357,180 +338,158 @@ create-returns-2 t c =
     let cut-is = c .before .before .before .before .before .before .before .before .before .before .before .before .before .before .before .before .before .before .before .before .before .before .cut-sheet .ensures in
     join-created known s (c .before .before .before .before .before .before .before .before .before .before .before .before .before .before .before .before .before .before .before .before .before .before .before .before .before .before .before .before .before .before .before .before .before .before .before .before .before .before .before .pre .1 .1 .0) cut-is (c .before .before .before .before .before .before .before .before .before .before .before .before .before .before .before .before .before .create .ensures) (c .before .before .before .before .before .before .create2 .ensures)
 
--- src/write.rt:150:1
+-- src/write.rt:151:1
 create-same-length-6 : (t : ℕ) → create-lts.Need-same-length-6 (create-calls t) (create-at t) create.Post
 create-same-length-6 t c = search needs
 
--- src/write.rt:150:1
+-- src/write.rt:151:1
 create-same-length-7 : (t : ℕ) → create-lts.Need-same-length-7 (create-calls t) (create-at t) create.Post
 create-same-length-7 t c = search needs
 
--- src/write.rt:150:1
+-- src/write.rt:151:1
 create-same-length-8 : (t : ℕ) → create-lts.Need-same-length-8 (create-calls t) (create-at t) create.Post
 create-same-length-8 t c = search needs
 
--- src/write.rt:150:1
+-- src/write.rt:151:1
 create-returns-3 : (t : ℕ) → create-lts.Need-returns-3 (create-calls t) (create-at t) create.Post
-unfolding oldText
 create-returns-3 t c =
-    let s = shown-union (c .before .before .before .before .before .before .before .before .before .before .before .before .before .before .before .before .before .before .before .before .before .node .ensures) (c .before .before .before .before .before .before .before .before .before .before .before .before .before .before .before .before .before .before .before .kind2 .given .1) in
-    let given = given-none (c .before .before .before .before .before .before .before .before .before .before .before .before .before .before .before .before .before .before .before .before .before .before .before .before .before .before .before .before .before .before .before .before .before .pre .1 .1 .0) in
-    union-writes s (arm-is (c .before .before .before .before .before .before .before .before .before .before .before .before .before .before .before .before .before .before .before .before .before .before .before .before .before .before .before .before .before .before .before .before .before .pre .1 .0) s given (c .before .before .before .before .before .before .before .before .before .before .before .before .before .before .before .before .choose .ensures)) (old-put (c .before .before .before .before .before .before .before .before .before .before .before .kept .given .1) (c .before .before .before .before .before .before .put .ensures))
+    let s = shown-union (c .before .before .before .before .before .before .before .before .before .before .before .before .before .before .before .node .ensures) (c .before .before .before .before .before .before .before .before .before .before .before .before .before .kind2 .given .1) in
+    union-writes s (new-arm (c .before .before .before .before .before .before .before .before .before .before .before .before .before .before .before .before .before .before .before .before .before .before .before .before .before .before .before .pre .1 .0) s (c .before .before .before .before .before .before .before .before .before .before .before .before .before .before .before .before .before .before .before .before .before .before .before .before .before .before .before .pre .1 .1 .0) (c .before .before .before .before .before .before .before .before .before .before .choose-new .ensures)) (c .before .before .before .before .before .before .create3 .ensures)
 
--- src/write.rt:150:1
+-- src/write.rt:151:1
 create-same-length-9 : (t : ℕ) → create-lts.Need-same-length-9 (create-calls t) (create-at t) create.Post
 create-same-length-9 t c = search needs
 
--- src/write.rt:150:1
+-- src/write.rt:151:1
 create-same-length-10 : (t : ℕ) → create-lts.Need-same-length-10 (create-calls t) (create-at t) create.Post
 create-same-length-10 t c = search needs
 
--- src/write.rt:150:1
+-- src/write.rt:151:1
 create-same-length-11 : (t : ℕ) → create-lts.Need-same-length-11 (create-calls t) (create-at t) create.Post
 create-same-length-11 t c = search needs
 
--- src/write.rt:150:1
+-- src/write.rt:151:1
 create-returns-4 : (t : ℕ) → create-lts.Need-returns-4 (create-calls t) (create-at t) create.Post
 unfolding oldText
-create-returns-4 t c =
-    let s = shown-union (c .before .before .before .before .before .before .before .before .before .before .before .before .before .before .before .before .before .before .before .before .node .ensures) (c .before .before .before .before .before .before .before .before .before .before .before .before .before .before .before .before .before .before .kind2 .given .1) in
-    let given = given-none (c .before .before .before .before .before .before .before .before .before .before .before .before .before .before .before .before .before .before .before .before .before .before .before .before .before .before .before .before .before .before .before .before .pre .1 .1 .0) in
-    union-writes s (arm-is (c .before .before .before .before .before .before .before .before .before .before .before .before .before .before .before .before .before .before .before .before .before .before .before .before .before .before .before .before .before .before .before .before .pre .1 .0) s given (c .before .before .before .before .before .before .before .before .before .before .before .before .before .before .before .choose .ensures)) (old-created (c .before .before .before .before .before .before .before .before .before .before .enum-told .given .1) (c .before .before .before .before .before .before .create3 .ensures))
+create-returns-4 t c = c .before .before .before .before .before .before .write-repeat .ensures
 
--- src/write.rt:150:1
+-- src/write.rt:151:1
 create-same-length-12 : (t : ℕ) → create-lts.Need-same-length-12 (create-calls t) (create-at t) create.Post
 create-same-length-12 t c = search needs
 
--- src/write.rt:150:1
+-- src/write.rt:151:1
 create-same-length-13 : (t : ℕ) → create-lts.Need-same-length-13 (create-calls t) (create-at t) create.Post
 create-same-length-13 t c = search needs
 
--- src/write.rt:150:1
+-- src/write.rt:151:1
 create-same-length-14 : (t : ℕ) → create-lts.Need-same-length-14 (create-calls t) (create-at t) create.Post
 create-same-length-14 t c = search needs
 
--- src/write.rt:150:1
+-- src/write.rt:151:1
 create-returns-5 : (t : ℕ) → create-lts.Need-returns-5 (create-calls t) (create-at t) create.Post
-unfolding oldText
-create-returns-5 t c = c .before .before .before .before .before .before .write-repeat .ensures
-
--- src/write.rt:150:1
-create-same-length-15 : (t : ℕ) → create-lts.Need-same-length-15 (create-calls t) (create-at t) create.Post
-create-same-length-15 t c = search needs
-
--- src/write.rt:150:1
-create-same-length-16 : (t : ℕ) → create-lts.Need-same-length-16 (create-calls t) (create-at t) create.Post
-create-same-length-16 t c = search needs
-
--- src/write.rt:150:1
-create-same-length-17 : (t : ℕ) → create-lts.Need-same-length-17 (create-calls t) (create-at t) create.Post
-create-same-length-17 t c = search needs
-
--- src/write.rt:150:1
-create-returns-6 : (t : ℕ) → create-lts.Need-returns-6 (create-calls t) (create-at t) create.Post
-create-returns-6 t c =
+create-returns-5 t c =
     let s = shown-match (c .before .before .before .before .before .before .before .before .before .before .before .before .before .node .ensures) (c .before .before .before .before .before .before .before .before .before .before .before .kind4 .given .1) in
     at-node (match _ (s .child)) (s .tree-is) (c .before .before .before .before .before .before .write-match .ensures .writes (s .child) (s .at-child) _)
 
--- src/write.rt:150:1
-create-same-length-18 : (t : ℕ) → create-lts.Need-same-length-18 (create-calls t) (create-at t) create.Post
-create-same-length-18 t c = search needs
+-- src/write.rt:151:1
+create-same-length-15 : (t : ℕ) → create-lts.Need-same-length-15 (create-calls t) (create-at t) create.Post
+create-same-length-15 t c = search needs
 
--- src/write.rt:150:1
-create-same-length-19 : (t : ℕ) → create-lts.Need-same-length-19 (create-calls t) (create-at t) create.Post
-create-same-length-19 t c = search needs
+-- src/write.rt:151:1
+create-same-length-16 : (t : ℕ) → create-lts.Need-same-length-16 (create-calls t) (create-at t) create.Post
+create-same-length-16 t c = search needs
 
--- src/write.rt:150:1
-create-returns-7 : (t : ℕ) → create-lts.Need-returns-7 (create-calls t) (create-at t) create.Post
+-- src/write.rt:151:1
+create-returns-6 : (t : ℕ) → create-lts.Need-returns-6 (create-calls t) (create-at t) create.Post
 unfolding oldText
-create-returns-7 t c = c .before .before .before .before .plain-behind2 .ensures
+create-returns-6 t c = c .before .before .before .before .plain-behind2 .ensures
 
--- src/write.rt:112:8
+-- src/write.rt:113:8
 put-asks-none-requires : (t : ℕ) → put-lts.Need-asks-none-requires (put-calls t) (put-at t) put.Post
 put-asks-none-requires t c κs = below-room (c .before .before .before .before .before .before .before .before .before .pre .1 .0)
 
--- src/write.rt:113:9
+-- src/write.rt:114:9
 put-plain-behind-requires : (t : ℕ) → put-lts.Need-plain-behind-requires (put-calls t) (put-at t) put.Post
-put-plain-behind-requires t c κs = (c .before .before .before .before .before .before .before .before .before .before .before .before .before .pre .1 .0, (given-onto (c .before .before .before .before .before .before .before .before .before .before .before .before .before .pre .1 .1 .0), (c .before .before .before .before .before .before .before .before .before .before .before .before .before .pre .1 .1 .1 .0, record { none-shared = c .before .before .before .asks-none .ensures (c .before .before .if1 .taken) })))
+put-plain-behind-requires t c κs = (c .before .before .before .before .before .before .before .before .before .before .before .before .before .pre .1 .0, (given-onto (c .before .before .before .before .before .before .before .before .before .before .before .before .before .pre .1 .1 .0), (c .before .before .before .before .before .before .before .before .before .before .before .before .before .pre .1 .1 .1 .0, record { none-shared = c .before .before .before .asks-none .ensures .0 (c .before .before .if1 .taken) })))
 
--- src/write.rt:113:9
+-- src/write.rt:114:9
 put-same-length : (t : ℕ) → put-lts.Need-same-length (put-calls t) (put-at t) put.Post
 put-same-length t c = search needs
 
--- src/write.rt:113:9
+-- src/write.rt:114:9
 put-same-length-2 : (t : ℕ) → put-lts.Need-same-length-2 (put-calls t) (put-at t) put.Post
 put-same-length-2 t c = search needs
 
--- src/write.rt:113:9
+-- src/write.rt:114:9
 put-returns : (t : ℕ) → put-lts.Need-returns (put-calls t) (put-at t) put.Post
 unfolding oldText
 put-returns t c = c .before .before .before .before .plain-behind .ensures
 
--- src/write.rt:115:9
+-- src/write.rt:116:9
 put-node-requires : (t : ℕ) → put-lts.Need-node-requires (put-calls t) (put-at t) put.Post
 put-node-requires t c κs = (c .before .before .before .before .before .before .before .before .before .before .before .pre .1 .0 .lens-node .built .sized, c .before .before .before .before .before .before .before .before .before .before .before .pre .1 .0 .lens-node .inside)
 
--- src/write.rt:118:26
+-- src/write.rt:119:26
 put-enum-known-kind : (t : ℕ) → put-lts.Need-enum-known-kind (put-calls t) (put-at t) put.Post
 put-enum-known-kind t c = search needs
 
--- src/write.rt:119:17
+-- src/write.rt:120:17
 put-cut-sheet-requires : (t : ℕ) → put-lts.Need-cut-sheet-requires (put-calls t) (put-at t) put.Post
 put-cut-sheet-requires t c κs =
     let known = c .before .before .before .before .before .before .before .before .before .before .before .before .before .before .before .before .pre .1 .0 .lens-node in
     let s = shown-join (c .before .before .before .before .node .ensures) (c .before .before .kind .given .1) in
     (node-prepared (left-below known s) Sheet, omega (arith, c .before .before .before .before .before .before .before .before .before .before .before .before .before .before .before .before .pre .1 .1 .0 .sheet-given .parsed .few))
 
--- src/write.rt:121:17
+-- src/write.rt:122:17
 put-halves-of-requires : (t : ℕ) → put-lts.Need-halves-of-requires (put-calls t) (put-at t) put.Post
 put-halves-of-requires t c κs =
     let known = c .before .before .before .before .before .before .before .before .before .before .before .before .before .before .before .before .before .pre .1 .0 .lens-node in
     let s = shown-join (c .before .before .before .before .before .node .ensures) (c .before .before .before .kind .given .1) in
     ((node-prepared (left-below known s) Source, place-inside (c .before .before .before .before .before .before .before .before .before .before .before .before .before .before .before .before .before .pre .1 .1 .0 .old-parsed)), omega (arith, c .before .before .before .before .before .before .before .before .before .before .before .before .before .before .before .before .before .pre .1 .1 .0 .sheet-given .deck-room))
 
--- src/write.rt:122:25
+-- src/write.rt:123:25
 put-sub-front : (t : ℕ) → put-lts.Need-sub-front (put-calls t) (put-at t) put.Post
 put-sub-front t c =
     let known = c .before .before .before .before .before .before .before .before .before .before .before .before .before .before .before .before .before .before .pre .1 .0 .lens-node in
     let s = shown-join (c .before .before .before .before .before .before .node .ensures) (c .before .before .before .before .kind .given .1) in
     omega (arith, at-inside known s (c .before .before .before .before .before .before .before .before .before .before .before .before .before .before .before .before .before .before .pre .1 .1 .0 .sheet-given) (c .before .cut-sheet .ensures))
 
--- src/write.rt:122:25
+-- src/write.rt:123:25
 put-part-front-start : (t : ℕ) → put-lts.Need-part-front-start (put-calls t) (put-at t) put.Post
 put-part-front-start t c =
     let known = c .before .before .before .before .before .before .before .before .before .before .before .before .before .before .before .before .before .before .pre .1 .0 .lens-node in
     let s = shown-join (c .before .before .before .before .before .before .node .ensures) (c .before .before .before .before .kind .given .1) in
     omega (arith, at-inside known s (c .before .before .before .before .before .before .before .before .before .before .before .before .before .before .before .before .before .before .pre .1 .1 .0 .sheet-given) (c .before .cut-sheet .ensures))
 
--- src/write.rt:122:25
+-- src/write.rt:123:25
 put-part-front-end : (t : ℕ) → put-lts.Need-part-front-end (put-calls t) (put-at t) put.Post
 put-part-front-end t c =
     let known = c .before .before .before .before .before .before .before .before .before .before .before .before .before .before .before .before .before .before .pre .1 .0 .lens-node in
     let s = shown-join (c .before .before .before .before .before .before .node .ensures) (c .before .before .before .before .kind .given .1) in
     omega (arith, at-inside known s (c .before .before .before .before .before .before .before .before .before .before .before .before .before .before .before .before .before .before .pre .1 .1 .0 .sheet-given) (c .before .cut-sheet .ensures))
 
--- src/write.rt:123:25
+-- src/write.rt:124:25
 put-sub-track : (t : ℕ) → put-lts.Need-sub-track (put-calls t) (put-at t) put.Post
 put-sub-track t c =
     let known = c .before .before .before .before .before .before .before .before .before .before .before .before .before .before .before .before .before .before .before .pre .1 .0 .lens-node in
     let s = shown-join (c .before .before .before .before .before .before .before .node .ensures) (c .before .before .before .before .before .kind .given .1) in
     omega (arith, at-inside known s (c .before .before .before .before .before .before .before .before .before .before .before .before .before .before .before .before .before .before .before .pre .1 .1 .0 .sheet-given) (c .before .before .cut-sheet .ensures))
 
--- src/write.rt:123:25
+-- src/write.rt:124:25
 put-part-track-start : (t : ℕ) → put-lts.Need-part-track-start (put-calls t) (put-at t) put.Post
 put-part-track-start t c =
     let known = c .before .before .before .before .before .before .before .before .before .before .before .before .before .before .before .before .before .before .before .pre .1 .0 .lens-node in
     let s = shown-join (c .before .before .before .before .before .before .before .node .ensures) (c .before .before .before .before .before .kind .given .1) in
     omega (arith, at-inside known s (c .before .before .before .before .before .before .before .before .before .before .before .before .before .before .before .before .before .before .before .pre .1 .1 .0 .sheet-given) (c .before .before .cut-sheet .ensures))
 
--- src/write.rt:123:25
+-- src/write.rt:124:25
 put-part-track-end : (t : ℕ) → put-lts.Need-part-track-end (put-calls t) (put-at t) put.Post
 put-part-track-end t c =
     let known = c .before .before .before .before .before .before .before .before .before .before .before .before .before .before .before .before .before .before .before .pre .1 .0 .lens-node in
     let s = shown-join (c .before .before .before .before .before .before .before .node .ensures) (c .before .before .before .before .before .kind .given .1) in
     omega (arith, at-inside known s (c .before .before .before .before .before .before .before .before .before .before .before .before .before .before .before .before .before .before .before .pre .1 .1 .0 .sheet-given) (c .before .before .cut-sheet .ensures))
 
--- src/write.rt:124:13
+-- src/write.rt:125:13
 put-put-requires : (t : ℕ) → put-lts.Need-put-requires (put-calls t) (put-at t) put.Post
 put-put-requires t c κs =
     let known = c .before .before .before .before .before .before .before .before .before .before .before .before .before .before .before .before .before .before .before .before .before .before .pre .1 .0 .lens-node in
@@ -543,28 +502,28 @@ put-put-requires t c κs =
       ),
     )
 
--- src/write.rt:125:24
+-- src/write.rt:126:24
 put-sub-back : (t : ℕ) → put-lts.Need-sub-back (put-calls t) (put-at t) put.Post
 put-sub-back t c =
     let known = c .before .before .before .before .before .before .before .before .before .before .before .before .before .before .before .before .before .before .before .before .before .before .before .before .before .before .before .before .before .pre .1 .0 .lens-node in
     let s = shown-join (c .before .before .before .before .before .before .before .before .before .before .before .before .before .before .before .before .before .node .ensures) (c .before .before .before .before .before .before .before .before .before .before .before .before .before .before .before .kind .given .1) in
     omega (arith, at-inside known s (c .before .before .before .before .before .before .before .before .before .before .before .before .before .before .before .before .before .before .before .before .before .before .before .before .before .before .before .before .before .pre .1 .1 .0 .sheet-given) (c .before .before .before .before .before .before .before .before .before .before .before .before .cut-sheet .ensures))
 
--- src/write.rt:125:24
+-- src/write.rt:126:24
 put-part-back-start : (t : ℕ) → put-lts.Need-part-back-start (put-calls t) (put-at t) put.Post
 put-part-back-start t c =
     let known = c .before .before .before .before .before .before .before .before .before .before .before .before .before .before .before .before .before .before .before .before .before .before .before .before .before .before .before .before .before .pre .1 .0 .lens-node in
     let s = shown-join (c .before .before .before .before .before .before .before .before .before .before .before .before .before .before .before .before .before .node .ensures) (c .before .before .before .before .before .before .before .before .before .before .before .before .before .before .before .kind .given .1) in
     omega (arith, at-inside known s (c .before .before .before .before .before .before .before .before .before .before .before .before .before .before .before .before .before .before .before .before .before .before .before .before .before .before .before .before .before .pre .1 .1 .0 .sheet-given) (c .before .before .before .before .before .before .before .before .before .before .before .before .cut-sheet .ensures))
 
--- src/write.rt:125:24
+-- src/write.rt:126:24
 put-part-back-end : (t : ℕ) → put-lts.Need-part-back-end (put-calls t) (put-at t) put.Post
 put-part-back-end t c =
     let known = c .before .before .before .before .before .before .before .before .before .before .before .before .before .before .before .before .before .before .before .before .before .before .before .before .before .before .before .before .before .pre .1 .0 .lens-node in
     let s = shown-join (c .before .before .before .before .before .before .before .before .before .before .before .before .before .before .before .before .before .node .ensures) (c .before .before .before .before .before .before .before .before .before .before .before .before .before .before .before .kind .given .1) in
     omega (arith, at-inside known s (c .before .before .before .before .before .before .before .before .before .before .before .before .before .before .before .before .before .before .before .before .before .before .before .before .before .before .before .before .before .pre .1 .1 .0 .sheet-given) (c .before .before .before .before .before .before .before .before .before .before .before .before .cut-sheet .ensures))
 
--- src/write.rt:126:25
+-- src/write.rt:127:25
 put-sub-track-2 : (t : ℕ) → put-lts.Need-sub-track-2 (put-calls t) (put-at t) put.Post
 put-sub-track-2 t c =
     let known = c .before .before .before .before .before .before .before .before .before .before .before .before .before .before .before .before .before .before .before .before .before .before .before .before .before .before .before .before .before .before .pre .1 .0 .lens-node in
@@ -572,7 +531,7 @@ put-sub-track-2 t c =
     let cut-is = c .before .before .before .before .before .before .before .before .before .before .before .before .before .cut-sheet .ensures in
     omega (arith, at-inside known s (c .before .before .before .before .before .before .before .before .before .before .before .before .before .before .before .before .before .before .before .before .before .before .before .before .before .before .before .before .before .before .pre .1 .1 .0 .sheet-given) cut-is, left-back known s (c .before .before .before .before .before .before .before .before .before .before .before .before .before .before .before .before .before .before .before .before .before .before .before .before .before .before .before .before .before .before .pre .1 .1 .0 .sheet-given) cut-is (c .before .before .before .before .before .before .before .put .last .1 .1 .1 .1 .1 .0) (c .before .before .before .before .before .before .before .put .kept .1 .1 .1 .1 .1 .0))
 
--- src/write.rt:126:25
+-- src/write.rt:127:25
 put-part-track-start-2 : (t : ℕ) → put-lts.Need-part-track-start-2 (put-calls t) (put-at t) put.Post
 put-part-track-start-2 t c =
     let known = c .before .before .before .before .before .before .before .before .before .before .before .before .before .before .before .before .before .before .before .before .before .before .before .before .before .before .before .before .before .before .pre .1 .0 .lens-node in
@@ -580,7 +539,7 @@ put-part-track-start-2 t c =
     let cut-is = c .before .before .before .before .before .before .before .before .before .before .before .before .before .cut-sheet .ensures in
     omega (arith, at-inside known s (c .before .before .before .before .before .before .before .before .before .before .before .before .before .before .before .before .before .before .before .before .before .before .before .before .before .before .before .before .before .before .pre .1 .1 .0 .sheet-given) cut-is, left-back known s (c .before .before .before .before .before .before .before .before .before .before .before .before .before .before .before .before .before .before .before .before .before .before .before .before .before .before .before .before .before .before .pre .1 .1 .0 .sheet-given) cut-is (c .before .before .before .before .before .before .before .put .last .1 .1 .1 .1 .1 .0) (c .before .before .before .before .before .before .before .put .kept .1 .1 .1 .1 .1 .0))
 
--- src/write.rt:126:25
+-- src/write.rt:127:25
 put-part-track-end-2 : (t : ℕ) → put-lts.Need-part-track-end-2 (put-calls t) (put-at t) put.Post
 put-part-track-end-2 t c =
     let known = c .before .before .before .before .before .before .before .before .before .before .before .before .before .before .before .before .before .before .before .before .before .before .before .before .before .before .before .before .before .before .pre .1 .0 .lens-node in
@@ -588,7 +547,7 @@ put-part-track-end-2 t c =
     let cut-is = c .before .before .before .before .before .before .before .before .before .before .before .before .before .cut-sheet .ensures in
     omega (arith, at-inside known s (c .before .before .before .before .before .before .before .before .before .before .before .before .before .before .before .before .before .before .before .before .before .before .before .before .before .before .before .before .before .before .pre .1 .1 .0 .sheet-given) cut-is, left-back known s (c .before .before .before .before .before .before .before .before .before .before .before .before .before .before .before .before .before .before .before .before .before .before .before .before .before .before .before .before .before .before .pre .1 .1 .0 .sheet-given) cut-is (c .before .before .before .before .before .before .before .put .last .1 .1 .1 .1 .1 .0) (c .before .before .before .before .before .before .before .put .kept .1 .1 .1 .1 .1 .0))
 
--- src/write.rt:127:13
+-- src/write.rt:128:13
 put-put-requires-2 : (t : ℕ) → put-lts.Need-put-requires-2 (put-calls t) (put-at t) put.Post
 put-put-requires-2 t c κs =
     let known = c .before .before .before .before .before .before .before .before .before .before .before .before .before .before .before .before .before .before .before .before .before .before .before .before .before .before .before .before .before .before .before .before .before .pre .1 .0 .lens-node in
@@ -603,60 +562,61 @@ put-put-requires-2 t c κs =
       ),
     )
 
--- src/write.rt:129:27
+-- src/write.rt:130:27
 put-enum-known-kind-2 : (t : ℕ) → put-lts.Need-enum-known-kind-2 (put-calls t) (put-at t) put.Post
 put-enum-known-kind-2 t c = search needs
 
--- src/write.rt:130:17
+-- src/write.rt:131:17
 put-choose-requires : (t : ℕ) → put-lts.Need-choose-requires (put-calls t) (put-at t) put.Post
 put-choose-requires t c κs =
     let known = c .before .before .before .before .before .before .before .before .before .before .before .before .before .before .before .before .pre .1 .0 .lens-node in
     let s = shown-union (c .before .before .before .before .node .ensures) (c .before .before .kind2 .given .1) in (
       (node-prepared (left-below known s) Source, node-prepared (left-below known s) Sheet, node-prepared (right-below known s) Sheet),
       (
-        (omega (arith, c .before .before .before .before .before .before .before .before .before .before .before .before .before .before .before .before .pre .1 .1 .0 .sheet-given .parsed .few), old-inside (given-onto (c .before .before .before .before .before .before .before .before .before .before .before .before .before .before .before .before .pre .1 .1 .0) .old-fits), c .before .before .before .before .before .before .before .before .before .before .before .before .before .before .before .before .pre .1 .1 .0 .sheet-given .deck-room),
+        (omega (arith, c .before .before .before .before .before .before .before .before .before .before .before .before .before .before .before .before .pre .1 .1 .0 .sheet-given .parsed .few), place-inside (c .before .before .before .before .before .before .before .before .before .before .before .before .before .before .before .before .pre .1 .1 .0 .old-parsed), c .before .before .before .before .before .before .before .before .before .before .before .before .before .before .before .before .pre .1 .1 .0 .sheet-given .deck-room),
         (c .before .before .before .before .before .before .before .before .before .before .before .before .before .before .before .before .pre .1 .1 .0 .sheet-given .new-short, parsed-length (c .before .before .before .before .before .before .before .before .before .before .before .before .before .before .before .before .pre .1 .1 .0 .sheet-given .parsed)),
       ),
     )
 
--- src/write.rt:134:25
+-- src/write.rt:135:25
 put-enum-known-kept : (t : ℕ) → put-lts.Need-enum-known-kept (put-calls t) (put-at t) put.Post
 put-enum-known-kept t c = search needs
 
--- src/write.rt:134:35
+-- src/write.rt:135:35
 put-put-requires-3 : (t : ℕ) → put-lts.Need-put-requires-3 (put-calls t) (put-at t) put.Post
 put-put-requires-3 t c κs =
     let s = shown-union (c .before .before .before .before .before .before .before .before .before .before .before .before .before .before .node .ensures) (c .before .before .before .before .before .before .before .before .before .before .before .before .kind2 .given .1) in
-    let given = given-onto (c .before .before .before .before .before .before .before .before .before .before .before .before .before .before .before .before .before .before .before .before .before .before .before .before .before .before .pre .1 .1 .0) in
-    (omega (arith, c .before .before .before .before .before .before .before .before .before .before .before .before .before .before .before .before .before .before .before .before .before .before .before .before .before .before .pre .0, arm-lower (c .before .before .before .before .before .before .before .before .before .before .before .before .before .before .before .before .before .before .before .before .before .before .before .before .before .before .pre .1 .0) s given (c .before .before .before .before .before .before .before .before .before .choose .ensures)), (arm-ready (c .before .before .before .before .before .before .before .before .before .before .before .before .before .before .before .before .before .before .before .before .before .before .before .before .before .before .pre .1 .0) s given (c .before .before .before .before .before .before .before .before .before .choose .ensures), (given-at (arm-given (c .before .before .before .before .before .before .before .before .before .before .before .before .before .before .before .before .before .before .before .before .before .before .before .before .before .before .pre .1 .0) s given (c .before .before .before .before .before .before .before .before .before .choose .ensures)) (c .before .before .before .before .kept .given .1), c .before .before .before .before .before .before .before .before .before .before .before .before .before .before .before .before .before .before .before .before .before .before .before .before .before .before .pre .1 .1 .1)))
+    let arm = choice-arm (c .before .before .before .before .before .before .before .before .before .before .before .before .before .before .before .before .before .before .before .before .before .before .before .before .before .before .pre .1 .0) s (c .before .before .before .before .before .before .before .before .before .before .before .before .before .before .before .before .before .before .before .before .before .before .before .before .before .before .pre .1 .1 .0) (c .before .before .before .before .before .before .before .before .before .choose .ensures) in
+    let given = choice-given (c .before .before .before .before .before .before .before .before .before .before .before .before .before .before .before .before .before .before .before .before .before .before .before .before .before .before .pre .1 .0) s (c .before .before .before .before .before .before .before .before .before .before .before .before .before .before .before .before .before .before .before .before .before .before .before .before .before .before .pre .1 .1 .0) (c .before .before .before .before .before .before .before .before .before .choose .ensures) in
+    (omega (arith, c .before .before .before .before .before .before .before .before .before .before .before .before .before .before .before .before .before .before .before .before .before .before .before .before .before .before .pre .0, arm .lower), (arm-ready arm (c .before .before .before .before .before .before .before .before .before .before .before .before .before .before .before .before .before .before .before .before .before .before .before .before .before .before .pre .1 .0), (given-at given (c .before .before .before .before .kept .given .1), c .before .before .before .before .before .before .before .before .before .before .before .before .before .before .before .before .before .before .before .before .before .before .before .before .before .before .pre .1 .1 .1)))
 
--- src/write.rt:135:73
+-- src/write.rt:136:73
 put-enum-told : (t : ℕ) → put-lts.Need-enum-told (put-calls t) (put-at t) put.Post
 put-enum-told t c = search needs
 
--- src/write.rt:135:33
+-- src/write.rt:136:33
 put-create-requires : (t : ℕ) → put-lts.Need-create-requires (put-calls t) (put-at t) put.Post
 put-create-requires t c κs =
     let s = shown-union (c .before .before .before .before .before .before .before .before .before .before .before .before .before .node .ensures) (c .before .before .before .before .before .before .before .before .before .before .before .kind2 .given .1) in
-    let given = given-onto (c .before .before .before .before .before .before .before .before .before .before .before .before .before .before .before .before .before .before .before .before .before .before .before .before .before .pre .1 .1 .0) in
-    (omega (arith, c .before .before .before .before .before .before .before .before .before .before .before .before .before .before .before .before .before .before .before .before .before .before .before .before .before .pre .0, arm-lower (c .before .before .before .before .before .before .before .before .before .before .before .before .before .before .before .before .before .before .before .before .before .before .before .before .before .pre .1 .0) s given (c .before .before .before .before .before .before .before .before .choose .ensures)), (arm-ready (c .before .before .before .before .before .before .before .before .before .before .before .before .before .before .before .before .before .before .before .before .before .before .before .before .before .pre .1 .0) s given (c .before .before .before .before .before .before .before .before .choose .ensures), (arm-given (c .before .before .before .before .before .before .before .before .before .before .before .before .before .before .before .before .before .before .before .before .before .before .before .before .before .pre .1 .0) s given (c .before .before .before .before .before .before .before .before .choose .ensures) .sheet-given, c .before .before .before .before .before .before .before .before .before .before .before .before .before .before .before .before .before .before .before .before .before .before .before .before .before .pre .1 .1 .1)))
+    let arm = choice-arm (c .before .before .before .before .before .before .before .before .before .before .before .before .before .before .before .before .before .before .before .before .before .before .before .before .before .pre .1 .0) s (c .before .before .before .before .before .before .before .before .before .before .before .before .before .before .before .before .before .before .before .before .before .before .before .before .before .pre .1 .1 .0) (c .before .before .before .before .before .before .before .before .choose .ensures) in
+    (omega (arith, c .before .before .before .before .before .before .before .before .before .before .before .before .before .before .before .before .before .before .before .before .before .before .before .before .before .pre .0, arm .lower), (arm-ready arm (c .before .before .before .before .before .before .before .before .before .before .before .before .before .before .before .before .before .before .before .before .before .before .before .before .before .pre .1 .0), (arm-given arm (c .before .before .before .before .before .before .before .before .before .before .before .before .before .before .before .before .before .before .before .before .before .before .before .before .before .pre .1 .1 .0 .sheet-given), c .before .before .before .before .before .before .before .before .before .before .before .before .before .before .before .before .before .before .before .before .before .before .before .before .before .pre .1 .1 .1)))
 
--- src/write.rt:138:28
+-- src/write.rt:139:28
 put-enum-known-kind-3 : (t : ℕ) → put-lts.Need-enum-known-kind-3 (put-calls t) (put-at t) put.Post
 put-enum-known-kind-3 t c = search needs
 
--- src/write.rt:139:13
+-- src/write.rt:140:13
 put-write-repeat-requires : (t : ℕ) → put-lts.Need-write-repeat-requires (put-calls t) (put-at t) put.Post
 put-write-repeat-requires t c κs = (
   omega (arith, c .before .before .before .before .before .before .before .before .before .before .before .before .before .before .before .before .before .before .pre .0),
   (c .before .before .before .before .before .before .before .before .before .before .before .before .before .before .before .before .before .before .pre .1 .0, (shown-repeat (c .before .before .before .before .before .before .node .ensures) (c .before .before .before .before .kind3 .given .1), (given-onto (c .before .before .before .before .before .before .before .before .before .before .before .before .before .before .before .before .before .before .pre .1 .1 .0), c .before .before .before .before .before .before .before .before .before .before .before .before .before .before .before .before .before .before .pre .1 .1 .1))),
 )
 
--- src/write.rt:141:23
+-- src/write.rt:142:23
 put-enum-known-kind-4 : (t : ℕ) → put-lts.Need-enum-known-kind-4 (put-calls t) (put-at t) put.Post
 put-enum-known-kind-4 t c = search needs
 
--- src/write.rt:143:13
+-- src/write.rt:144:13
 put-write-match-requires : (t : ℕ) → put-lts.Need-write-match-requires (put-calls t) (put-at t) put.Post
 put-write-match-requires t c κs =
     let s = shown-match (c .before .before .before .before .before .before .node .ensures) (c .before .before .before .before .kind4 .given .1) in (
@@ -664,26 +624,26 @@ put-write-match-requires t c κs =
       (ready-below (c .before .before .before .before .before .before .before .before .before .before .before .before .before .before .before .before .before .before .pre .1 .0) (child-below (c .before .before .before .before .before .before .before .before .before .before .before .before .before .before .before .before .before .before .pre .1 .0 .lens-node) s), (given-match (c .before .before .before .before .before .before .before .before .before .before .before .before .before .before .before .before .before .before .pre .1 .1 .0 .sheet-given) s, c .before .before .before .before .before .before .before .before .before .before .before .before .before .before .before .before .before .before .pre .1 .1 .1)),
     )
 
--- src/write.rt:145:14
+-- src/write.rt:146:14
 put-plain-behind-requires-2 : (t : ℕ) → put-lts.Need-plain-behind-requires-2 (put-calls t) (put-at t) put.Post
 put-plain-behind-requires-2 t c κs = (c .before .before .before .before .before .before .before .before .before .before .before .before .before .before .before .pre .1 .0, (given-onto (c .before .before .before .before .before .before .before .before .before .before .before .before .before .before .before .pre .1 .1 .0), (c .before .before .before .before .before .before .before .before .before .before .before .before .before .before .before .pre .1 .1 .1 .0, leaf-asks-none (c .before .before .before .before .before .before .before .before .before .before .before .before .before .before .before .pre .1 .0 .lens-node) (c .before .before .before .node .ensures) (c .before .before .before .before .before .before .before .before .before .before .before .before .before .before .before .pre .1 .0 .below-is) (c .before .before .match .keys5))))
 
--- src/write.rt:90:1
+-- src/write.rt:91:1
 put-same-length-3 : (t : ℕ) → put-lts.Need-same-length-3 (put-calls t) (put-at t) put.Post
 put-same-length-3 t c =
     let known = c .before .before .before .before .before .before .before .before .before .before .before .before .before .before .before .before .before .before .before .before .before .before .before .before .before .before .before .before .before .before .before .before .before .before .before .before .before .before .before .before .pre .1 .0 .lens-node in
     let s = shown-join (c .before .before .before .before .before .before .before .before .before .before .before .before .before .before .before .before .before .before .before .before .before .before .before .before .before .before .before .before .node .ensures) (c .before .before .before .before .before .before .before .before .before .before .before .before .before .before .before .before .before .before .before .before .before .before .before .before .before .before .kind .given .1) in
     right-back known s (c .before .before .before .before .before .before .before .before .before .before .before .before .before .before .before .before .before .before .before .before .before .before .before .before .before .before .before .before .before .before .before .before .before .before .before .before .before .before .before .before .pre .1 .1 .0 .sheet-given) (c .before .before .before .before .before .before .before .before .before .before .before .before .before .before .before .before .before .before .before .before .before .before .before .cut-sheet .ensures) (c .before .before .before .before .before .before .before .before .before .before .before .before .before .before .before .before .before .put .last .1 .1 .1 .1 .1 .0) (c .before .before .before .before .before .before .put2 .last .1 .1 .1 .1 .1 .0) (c .before .before .before .before .before .before .before .before .before .before .before .before .before .before .before .before .before .put .kept .1 .1 .1 .1 .1 .0) (c .before .before .before .before .before .before .put2 .kept .1 .1 .1 .1 .1 .0)
 
--- src/write.rt:90:1
+-- src/write.rt:91:1
 put-same-length-4 : (t : ℕ) → put-lts.Need-same-length-4 (put-calls t) (put-at t) put.Post
 put-same-length-4 t c = c .before .before .before .before .before .before .put2 .kept .1 .1 .1 .1 .1 .1 .1 .1 .1 .0 ∙ c .before .before .before .before .before .before .before .before .before .before .before .before .before .before .before .before .before .put .kept .1 .1 .1 .1 .1 .1 .1 .1 .1 .0
 
--- src/write.rt:90:1
+-- src/write.rt:91:1
 put-same-length-5 : (t : ℕ) → put-lts.Need-same-length-5 (put-calls t) (put-at t) put.Post
 put-same-length-5 t c = c .before .before .before .before .before .before .put2 .kept .1 .1 .1 .1 .1 .1 .1 .1 .1 .1 .0 ∙ c .before .before .before .before .before .before .before .before .before .before .before .before .before .before .before .before .before .put .kept .1 .1 .1 .1 .1 .1 .1 .1 .1 .1 .0
 
--- src/write.rt:90:1
+-- src/write.rt:91:1
 put-returns-2 : (t : ℕ) → put-lts.Need-returns-2 (put-calls t) (put-at t) put.Post
 put-returns-2 t c =
     let known = c .before .before .before .before .before .before .before .before .before .before .before .before .before .before .before .before .before .before .before .before .before .before .before .before .before .before .before .before .before .before .before .before .before .before .before .before .before .before .before .before .pre .1 .0 .lens-node in
@@ -691,145 +651,141 @@ put-returns-2 t c =
     let cut-is = c .before .before .before .before .before .before .before .before .before .before .before .before .before .before .before .before .before .before .before .before .before .before .before .cut-sheet .ensures in
     join-put known s (c .before .before .before .before .before .before .before .before .before .before .before .before .before .before .before .before .before .before .before .before .before .before .before .before .before .before .before .before .before .before .before .before .before .before .before .before .before .before .before .before .pre .1 .1 .0 .sheet-given) cut-is (c .before .before .before .before .before .before .before .before .before .before .before .before .before .before .before .before .before .before .before .before .before .before .before .before .before .before .before .before .before .before .before .before .before .before .before .before .before .before .before .before .pre .1 .1 .0 .old-parsed) (c .before .before .before .before .before .before .before .before .before .before .before .before .before .before .before .before .before .before .before .before .before .before .halves-of .ensures) (c .before .before .before .before .before .before .before .before .before .before .before .before .before .before .before .before .before .put .ensures) (c .before .before .before .before .before .before .put2 .ensures)
 
--- src/write.rt:90:1
+-- src/write.rt:91:1
 put-same-length-6 : (t : ℕ) → put-lts.Need-same-length-6 (put-calls t) (put-at t) put.Post
 put-same-length-6 t c = search needs
 
--- src/write.rt:90:1
+-- src/write.rt:91:1
 put-same-length-7 : (t : ℕ) → put-lts.Need-same-length-7 (put-calls t) (put-at t) put.Post
 put-same-length-7 t c = search needs
 
--- src/write.rt:90:1
+-- src/write.rt:91:1
 put-same-length-8 : (t : ℕ) → put-lts.Need-same-length-8 (put-calls t) (put-at t) put.Post
 put-same-length-8 t c = search needs
 
--- src/write.rt:90:1
+-- src/write.rt:91:1
 put-returns-3 : (t : ℕ) → put-lts.Need-returns-3 (put-calls t) (put-at t) put.Post
-unfolding oldText
 put-returns-3 t c =
     let s = shown-union (c .before .before .before .before .before .before .before .before .before .before .before .before .before .before .before .before .before .before .before .before .before .node .ensures) (c .before .before .before .before .before .before .before .before .before .before .before .before .before .before .before .before .before .before .before .kind2 .given .1) in
-    let given = given-onto (c .before .before .before .before .before .before .before .before .before .before .before .before .before .before .before .before .before .before .before .before .before .before .before .before .before .before .before .before .before .before .before .before .before .pre .1 .1 .0) in
-    union-writes s (arm-is (c .before .before .before .before .before .before .before .before .before .before .before .before .before .before .before .before .before .before .before .before .before .before .before .before .before .before .before .before .before .before .before .before .before .pre .1 .0) s given (c .before .before .before .before .before .before .before .before .before .before .before .before .before .before .before .before .choose .ensures)) (old-put (c .before .before .before .before .before .before .before .before .before .before .before .kept .given .1) (c .before .before .before .before .before .before .put3 .ensures))
+    union-writes s (choice-arm (c .before .before .before .before .before .before .before .before .before .before .before .before .before .before .before .before .before .before .before .before .before .before .before .before .before .before .before .before .before .before .before .before .before .pre .1 .0) s (c .before .before .before .before .before .before .before .before .before .before .before .before .before .before .before .before .before .before .before .before .before .before .before .before .before .before .before .before .before .before .before .before .before .pre .1 .1 .0) (c .before .before .before .before .before .before .before .before .before .before .before .before .before .before .before .before .choose .ensures)) (old-put (c .before .before .before .before .before .before .before .before .before .before .before .kept .given .1) (c .before .before .before .before .before .before .put3 .ensures))
 
--- src/write.rt:90:1
+-- src/write.rt:91:1
 put-same-length-9 : (t : ℕ) → put-lts.Need-same-length-9 (put-calls t) (put-at t) put.Post
 put-same-length-9 t c = search needs
 
--- src/write.rt:90:1
+-- src/write.rt:91:1
 put-same-length-10 : (t : ℕ) → put-lts.Need-same-length-10 (put-calls t) (put-at t) put.Post
 put-same-length-10 t c = search needs
 
--- src/write.rt:90:1
+-- src/write.rt:91:1
 put-same-length-11 : (t : ℕ) → put-lts.Need-same-length-11 (put-calls t) (put-at t) put.Post
 put-same-length-11 t c = search needs
 
--- src/write.rt:90:1
+-- src/write.rt:91:1
 put-returns-4 : (t : ℕ) → put-lts.Need-returns-4 (put-calls t) (put-at t) put.Post
-unfolding oldText
 put-returns-4 t c =
     let s = shown-union (c .before .before .before .before .before .before .before .before .before .before .before .before .before .before .before .before .before .before .before .before .node .ensures) (c .before .before .before .before .before .before .before .before .before .before .before .before .before .before .before .before .before .before .kind2 .given .1) in
-    let given = given-onto (c .before .before .before .before .before .before .before .before .before .before .before .before .before .before .before .before .before .before .before .before .before .before .before .before .before .before .before .before .before .before .before .before .pre .1 .1 .0) in
-    union-writes s (arm-is (c .before .before .before .before .before .before .before .before .before .before .before .before .before .before .before .before .before .before .before .before .before .before .before .before .before .before .before .before .before .before .before .before .pre .1 .0) s given (c .before .before .before .before .before .before .before .before .before .before .before .before .before .before .before .choose .ensures)) (old-created (c .before .before .before .before .before .before .before .before .before .before .enum-told .given .1) (c .before .before .before .before .before .before .create .ensures))
+    union-writes s (choice-arm (c .before .before .before .before .before .before .before .before .before .before .before .before .before .before .before .before .before .before .before .before .before .before .before .before .before .before .before .before .before .before .before .before .pre .1 .0) s (c .before .before .before .before .before .before .before .before .before .before .before .before .before .before .before .before .before .before .before .before .before .before .before .before .before .before .before .before .before .before .before .before .pre .1 .1 .0) (c .before .before .before .before .before .before .before .before .before .before .before .before .before .before .before .choose .ensures)) (old-created (c .before .before .before .before .before .before .before .before .before .before .enum-told .given .1) (c .before .before .before .before .before .before .create .ensures))
 
--- src/write.rt:90:1
+-- src/write.rt:91:1
 put-same-length-12 : (t : ℕ) → put-lts.Need-same-length-12 (put-calls t) (put-at t) put.Post
 put-same-length-12 t c = search needs
 
--- src/write.rt:90:1
+-- src/write.rt:91:1
 put-same-length-13 : (t : ℕ) → put-lts.Need-same-length-13 (put-calls t) (put-at t) put.Post
 put-same-length-13 t c = search needs
 
--- src/write.rt:90:1
+-- src/write.rt:91:1
 put-same-length-14 : (t : ℕ) → put-lts.Need-same-length-14 (put-calls t) (put-at t) put.Post
 put-same-length-14 t c = search needs
 
--- src/write.rt:90:1
+-- src/write.rt:91:1
 put-returns-5 : (t : ℕ) → put-lts.Need-returns-5 (put-calls t) (put-at t) put.Post
 unfolding oldText
 put-returns-5 t c = c .before .before .before .before .before .before .write-repeat .ensures
 
--- src/write.rt:90:1
+-- src/write.rt:91:1
 put-same-length-15 : (t : ℕ) → put-lts.Need-same-length-15 (put-calls t) (put-at t) put.Post
 put-same-length-15 t c = search needs
 
--- src/write.rt:90:1
+-- src/write.rt:91:1
 put-same-length-16 : (t : ℕ) → put-lts.Need-same-length-16 (put-calls t) (put-at t) put.Post
 put-same-length-16 t c = search needs
 
--- src/write.rt:90:1
+-- src/write.rt:91:1
 put-same-length-17 : (t : ℕ) → put-lts.Need-same-length-17 (put-calls t) (put-at t) put.Post
 put-same-length-17 t c = search needs
 
--- src/write.rt:90:1
+-- src/write.rt:91:1
 put-returns-6 : (t : ℕ) → put-lts.Need-returns-6 (put-calls t) (put-at t) put.Post
 put-returns-6 t c =
     let s = shown-match (c .before .before .before .before .before .before .before .before .before .before .before .before .before .node .ensures) (c .before .before .before .before .before .before .before .before .before .before .before .kind4 .given .1) in
     at-node (match _ (s .child)) (s .tree-is) (c .before .before .before .before .before .before .write-match .ensures .writes (s .child) (s .at-child) _)
 
--- src/write.rt:90:1
+-- src/write.rt:91:1
 put-same-length-18 : (t : ℕ) → put-lts.Need-same-length-18 (put-calls t) (put-at t) put.Post
 put-same-length-18 t c = search needs
 
--- src/write.rt:90:1
+-- src/write.rt:91:1
 put-same-length-19 : (t : ℕ) → put-lts.Need-same-length-19 (put-calls t) (put-at t) put.Post
 put-same-length-19 t c = search needs
 
--- src/write.rt:90:1
+-- src/write.rt:91:1
 put-returns-7 : (t : ℕ) → put-lts.Need-returns-7 (put-calls t) (put-at t) put.Post
 unfolding oldText
 put-returns-7 t c = c .before .before .before .before .plain-behind2 .ensures
 
--- src/write.rt:334:9
+-- src/write.rt:329:9
 write-match-find-entry-requires : (t : ℕ) → write-match-lts.Need-find-entry-requires (write-match-calls t) (write-match-at t) write-match.Post
 write-match-find-entry-requires t c κs = (c .before .before .before .before .before .before .before .before .before .before .before .pre .1 .0 .lens-node, (c .before .before .before .before .before .before .before .before .before .before .before .pre .1 .1 .0, (c .before .before .before .before .before .before .before .before .before .before .before .pre .1 .0 .looks-in, c .before .before .before .before .before .before .before .before .before .before .before .pre .1 .1 .1 .1)))
 
--- src/write.rt:339:17
+-- src/write.rt:334:17
 write-match-enum-known-found : (t : ℕ) → write-match-lts.Need-enum-known-found (write-match-calls t) (write-match-at t) write-match.Post
 write-match-enum-known-found t c = search needs
 
--- src/write.rt:339:27
+-- src/write.rt:334:27
 write-match-put-requires : (t : ℕ) → write-match-lts.Need-put-requires (write-match-calls t) (write-match-at t) write-match.Post
 write-match-put-requires t c κs =
     (omega (arith, c .before .before .before .before .before .before .before .before .before .before .before .before .before .before .before .before .before .before .before .before .before .pre .0), (found-ready (c .before .before .before .before .before .before .before .before .before .before .before .before .before .before .before .before .before .before .before .before .before .pre .1 .0) (c .before .before .before .before .before .before .before .before .before .find-entry .ensures), (given-at (found-given (c .before .before .before .before .before .before .before .before .before .before .before .before .before .before .before .before .before .before .before .before .before .pre .1 .0) (c .before .before .before .before .before .before .before .before .before .find-entry .ensures) (c .before .before .before .before .before .before .before .before .before .before .before .before .before .before .before .before .before .before .before .before .before .pre .1 .1 .0)) (c .before .before .before .before .found .given .1), (c .before .before .before .before .before .before .before .before .before .before .before .before .before .before .before .before .before .before .before .before .before .pre .1 .1 .1 .0, c .before .before .before .before .before .before .before .before .before .find-entry .kept .1 .1 .1 .1 .1 .1 .0 ∙ c .before .before .before .before .before .before .before .before .before .before .before .before .before .before .before .before .before .before .before .before .before .pre .1 .1 .1 .1))))
 
--- src/write.rt:340:66
+-- src/write.rt:335:66
 write-match-enum-told : (t : ℕ) → write-match-lts.Need-enum-told (write-match-calls t) (write-match-at t) write-match.Post
 write-match-enum-told t c = search needs
 
--- src/write.rt:340:25
+-- src/write.rt:335:25
 write-match-create-requires : (t : ℕ) → write-match-lts.Need-create-requires (write-match-calls t) (write-match-at t) write-match.Post
 write-match-create-requires t c κs =
     (omega (arith, c .before .before .before .before .before .before .before .before .before .before .before .before .before .before .before .before .before .before .before .before .pre .0), (found-ready (c .before .before .before .before .before .before .before .before .before .before .before .before .before .before .before .before .before .before .before .before .pre .1 .0) (c .before .before .before .before .before .before .before .before .find-entry .ensures), (c .before .before .before .before .before .before .before .before .before .before .before .before .before .before .before .before .before .before .before .before .pre .1 .1 .0, (c .before .before .before .before .before .before .before .before .before .before .before .before .before .before .before .before .before .before .before .before .pre .1 .1 .1 .0, c .before .before .before .before .before .before .before .before .find-entry .kept .1 .1 .1 .1 .1 .1 .0 ∙ c .before .before .before .before .before .before .before .before .before .before .before .before .before .before .before .before .before .before .before .before .pre .1 .1 .1 .1))))
 
--- src/write.rt:315:1
+-- src/write.rt:310:1
 write-match-same-length : (t : ℕ) → write-match-lts.Need-same-length (write-match-calls t) (write-match-at t) write-match.Post
 write-match-same-length t c = search needs
 
--- src/write.rt:315:1
+-- src/write.rt:310:1
 write-match-same-length-2 : (t : ℕ) → write-match-lts.Need-same-length-2 (write-match-calls t) (write-match-at t) write-match.Post
 write-match-same-length-2 t c = search needs
 
--- src/write.rt:315:1
+-- src/write.rt:310:1
 write-match-same-length-3 : (t : ℕ) → write-match-lts.Need-same-length-3 (write-match-calls t) (write-match-at t) write-match.Post
 write-match-same-length-3 t c = search needs
 
--- src/write.rt:315:1
+-- src/write.rt:310:1
 write-match-returns : (t : ℕ) → write-match-lts.Need-returns (write-match-calls t) (write-match-at t) write-match.Post
 write-match-returns t c = match-writes (c .before .before .before .before .before .before .before .before .before .before .before .before .before .before .before .before .find-entry .ensures) (old-put (c .before .before .before .before .before .before .before .before .before .before .before .found .given .1) (c .before .before .before .before .before .before .put .ensures))
 
--- src/write.rt:315:1
+-- src/write.rt:310:1
 write-match-same-length-4 : (t : ℕ) → write-match-lts.Need-same-length-4 (write-match-calls t) (write-match-at t) write-match.Post
 write-match-same-length-4 t c = search needs
 
--- src/write.rt:315:1
+-- src/write.rt:310:1
 write-match-same-length-5 : (t : ℕ) → write-match-lts.Need-same-length-5 (write-match-calls t) (write-match-at t) write-match.Post
 write-match-same-length-5 t c = search needs
 
--- src/write.rt:315:1
+-- src/write.rt:310:1
 write-match-same-length-6 : (t : ℕ) → write-match-lts.Need-same-length-6 (write-match-calls t) (write-match-at t) write-match.Post
 write-match-same-length-6 t c = search needs
 
--- src/write.rt:315:1
+-- src/write.rt:310:1
 write-match-returns-2 : (t : ℕ) → write-match-lts.Need-returns-2 (write-match-calls t) (write-match-at t) write-match.Post
 write-match-returns-2 t c = match-writes (c .before .before .before .before .before .before .before .before .before .before .before .before .before .before .before .find-entry .ensures) (old-created (c .before .before .before .before .before .before .before .before .before .before .enum-told .given .1) (c .before .before .before .before .before .before .create .ensures))
 
@@ -843,15 +799,15 @@ write-parts-Inv-loop done₀ bytes prepared child new path₀ deck below card₀
 abbrev write-parts-μ-loop : write-parts-lts.MeasureT-loop
 write-parts-μ-loop done₀ bytes prepared child new path₀ deck below card₀ out₀ base part last first olds left₀ o₀ done path card out left o = length new - o
 
--- src/write.rt:235:55
+-- src/write.rt:230:55
 write-parts-old-base-requires : (t : ℕ) → write-parts-lts.Need-old-base-requires (write-parts-calls t) (write-parts-at t) write-parts.Post write-parts-Inv-loop write-parts-μ-loop
 write-parts-old-base-requires t c κs = search needs
 
--- src/write.rt:235:9
+-- src/write.rt:230:9
 write-parts-ends-of-requires : (t : ℕ) → write-parts-lts.Need-ends-of-requires (write-parts-calls t) (write-parts-at t) write-parts.Post write-parts-Inv-loop write-parts-μ-loop
 write-parts-ends-of-requires t c κs = node-words (child-below (c .before .before .before .before .before .before .before .before .before .before .before .pre .1 .0 .lens-node) (c .before .before .before .before .before .before .before .before .before .before .before .pre .1 .1 .0))
 
--- src/write.rt:238:5
+-- src/write.rt:233:5
 write-parts-loop-holds : (t : ℕ) → write-parts-lts.Need-loop-holds (write-parts-calls t) (write-parts-at t) write-parts.Post write-parts-Inv-loop write-parts-μ-loop
 write-parts-loop-holds t c =
     let given = c .before .before .before .before .before .before .before .before .before .before .before .before .pre .1 .1 .1 .1 .0 in (
@@ -869,59 +825,59 @@ write-parts-loop-holds t c =
       refl,
     )
 
--- src/write.rt:239:32
+-- src/write.rt:234:32
 write-parts-sub-first-loop : (t : ℕ) → write-parts-lts.Need-sub-first-loop (write-parts-calls t) (write-parts-at t) write-parts.Post write-parts-Inv-loop write-parts-μ-loop
 write-parts-sub-first-loop t c = omega (arith, more-path (c .before .loop .inv .0) (c .loop-test .taken))
 
--- src/write.rt:239:32
+-- src/write.rt:234:32
 write-parts-part-first-loop-start : (t : ℕ) → write-parts-lts.Need-part-first-loop-start (write-parts-calls t) (write-parts-at t) write-parts.Post write-parts-Inv-loop write-parts-μ-loop
 write-parts-part-first-loop-start t c = omega (arith, more-path (c .before .before .loop .inv .0) (c .before .loop-test .taken))
 
--- src/write.rt:239:32
+-- src/write.rt:234:32
 write-parts-part-first-loop-end : (t : ℕ) → write-parts-lts.Need-part-first-loop-end (write-parts-calls t) (write-parts-at t) write-parts.Post write-parts-Inv-loop write-parts-μ-loop
 write-parts-part-first-loop-end t c = omega (arith, more-path (c .before .before .loop .inv .0) (c .before .loop-test .taken))
 
--- src/write.rt:239:21
+-- src/write.rt:234:21
 write-parts-first-loop-requires : (t : ℕ) → write-parts-lts.Need-first-loop-requires (write-parts-calls t) (write-parts-at t) write-parts.Post write-parts-Inv-loop write-parts-μ-loop
 write-parts-first-loop-requires t c κs = more-lent (c .before .before .before .loop .inv .0) (c .before .before .loop-test .taken)
 
--- src/write.rt:239:17
+-- src/write.rt:234:17
 write-parts-add-e : (t : ℕ) → write-parts-lts.Need-add-e (write-parts-calls t) (write-parts-at t) write-parts.Post write-parts-Inv-loop write-parts-μ-loop
 write-parts-add-e t c = omega (arith, part-inside (c .before .before .before .before .loop .inv .0) (c .before .before .before .loop-test .taken) (c .first-loop .ensures), c .before .before .before .before .before .before .before .before .before .before .before .before .before .before .before .before .before .good)
 
--- src/write.rt:240:13
+-- src/write.rt:235:13
 write-parts-next-old-requires : (t : ℕ) → write-parts-lts.Need-next-old-requires (write-parts-calls t) (write-parts-at t) write-parts.Post write-parts-Inv-loop write-parts-μ-loop
 write-parts-next-old-requires t c κs = (old-inside (c .before .before .before .before .loop .inv .0 .left-fits), omega (arith, c .before .before .before .before .before .before .before .before .before .before .before .before .before .before .before .before .before .pre .1 .0 .looks-in .deck-room))
 
--- src/write.rt:243:21
+-- src/write.rt:238:21
 write-parts-sub-piece : (t : ℕ) → write-parts-lts.Need-sub-piece (write-parts-calls t) (write-parts-at t) write-parts.Post write-parts-Inv-loop write-parts-μ-loop
 write-parts-sub-piece t c = omega (arith, part-inside (c .before .before .before .before .before .loop .inv .0) (c .before .before .before .before .loop-test .taken) (c .before .first-loop .ensures))
 
--- src/write.rt:243:21
+-- src/write.rt:238:21
 write-parts-part-piece-start : (t : ℕ) → write-parts-lts.Need-part-piece-start (write-parts-calls t) (write-parts-at t) write-parts.Post write-parts-Inv-loop write-parts-μ-loop
 write-parts-part-piece-start t c = omega (arith, part-inside (c .before .before .before .before .before .loop .inv .0) (c .before .before .before .before .loop-test .taken) (c .before .first-loop .ensures))
 
--- src/write.rt:243:21
+-- src/write.rt:238:21
 write-parts-part-piece-end : (t : ℕ) → write-parts-lts.Need-part-piece-end (write-parts-calls t) (write-parts-at t) write-parts.Post write-parts-Inv-loop write-parts-μ-loop
 write-parts-part-piece-end t c = omega (arith, part-inside (c .before .before .before .before .before .loop .inv .0) (c .before .before .before .before .loop-test .taken) (c .before .first-loop .ensures))
 
--- src/write.rt:244:21
+-- src/write.rt:239:21
 write-parts-sub-track : (t : ℕ) → write-parts-lts.Need-sub-track (write-parts-calls t) (write-parts-at t) write-parts.Post write-parts-Inv-loop write-parts-μ-loop
 write-parts-sub-track t c = omega (arith, part-inside (c .before .before .before .before .before .before .loop .inv .0) (c .before .before .before .before .before .loop-test .taken) (c .before .before .first-loop .ensures))
 
--- src/write.rt:244:21
+-- src/write.rt:239:21
 write-parts-part-track-start : (t : ℕ) → write-parts-lts.Need-part-track-start (write-parts-calls t) (write-parts-at t) write-parts.Post write-parts-Inv-loop write-parts-μ-loop
 write-parts-part-track-start t c = omega (arith, part-inside (c .before .before .before .before .before .before .loop .inv .0) (c .before .before .before .before .before .loop-test .taken) (c .before .before .first-loop .ensures))
 
--- src/write.rt:244:21
+-- src/write.rt:239:21
 write-parts-part-track-end : (t : ℕ) → write-parts-lts.Need-part-track-end (write-parts-calls t) (write-parts-at t) write-parts.Post write-parts-Inv-loop write-parts-μ-loop
 write-parts-part-track-end t c = omega (arith, part-inside (c .before .before .before .before .before .before .loop .inv .0) (c .before .before .before .before .before .loop-test .taken) (c .before .before .first-loop .ensures))
 
--- src/write.rt:246:21
+-- src/write.rt:241:21
 write-parts-enum-known-kept : (t : ℕ) → write-parts-lts.Need-enum-known-kept (write-parts-calls t) (write-parts-at t) write-parts.Post write-parts-Inv-loop write-parts-μ-loop
 write-parts-enum-known-kept t c = search needs
 
--- src/write.rt:247:17
+-- src/write.rt:242:17
 write-parts-put-requires : (t : ℕ) → write-parts-lts.Need-put-requires (write-parts-calls t) (write-parts-at t) write-parts.Post write-parts-Inv-loop write-parts-μ-loop
 write-parts-put-requires t c κs =
     let parting = c .before .before .before .before .before .before .before .before .before .before .before .before .loop .inv .0 in
@@ -930,11 +886,11 @@ write-parts-put-requires t c κs =
     let sheet = part-given parting (c .before .before .before .before .before .before .before .before .before .before .before .loop-test .taken) (c .before .before .before .before .before .before .before .before .first-loop .ensures) given in
     (omega (arith, c .before .before .before .before .before .before .before .before .before .before .before .before .before .before .before .before .before .before .before .before .before .before .before .before .before .pre .0, one .lower), (ready-left (c .before .before .before .before .before .before .before .before .before .before .before .before .before .before .before .before .before .before .before .before .before .before .before .before .before .pre .1 .0) (child-below (c .before .before .before .before .before .before .before .before .before .before .before .before .before .before .before .before .before .before .before .before .before .before .before .before .before .pre .1 .0 .lens-node) one) (parting .kept .over) (parting .kept .same-entries), (given-at (record { sheet-given = sheet; old-fits = part-old parting (given .deck-room) (c .before .before .before .before .before .before .before .next-old .ensures) }) (c .before .before .before .kept .given .1), (parting .kept .within, c .before .before .before .before .before .before .before .before .before .before .before .before .loop .inv .2 ∙ c .before .before .before .before .before .before .before .before .before .before .before .before .before .before .before .before .before .before .before .before .before .before .before .before .before .pre .1 .1 .1 .1 .1 .1))))
 
--- src/write.rt:250:67
+-- src/write.rt:245:67
 write-parts-enum-told : (t : ℕ) → write-parts-lts.Need-enum-told (write-parts-calls t) (write-parts-at t) write-parts.Post write-parts-Inv-loop write-parts-μ-loop
 write-parts-enum-told t c = search needs
 
--- src/write.rt:250:17
+-- src/write.rt:245:17
 write-parts-create-requires : (t : ℕ) → write-parts-lts.Need-create-requires (write-parts-calls t) (write-parts-at t) write-parts.Post write-parts-Inv-loop write-parts-μ-loop
 write-parts-create-requires t c κs =
     let parting = c .before .before .before .before .before .before .before .before .before .before .before .loop .inv .0 in
@@ -943,11 +899,11 @@ write-parts-create-requires t c κs =
     let sheet = part-given parting (c .before .before .before .before .before .before .before .before .before .before .loop-test .taken) (c .before .before .before .before .before .before .before .first-loop .ensures) given in
     (omega (arith, c .before .before .before .before .before .before .before .before .before .before .before .before .before .before .before .before .before .before .before .before .before .before .before .before .pre .0, one .lower), (ready-left (c .before .before .before .before .before .before .before .before .before .before .before .before .before .before .before .before .before .before .before .before .before .before .before .before .pre .1 .0) (child-below (c .before .before .before .before .before .before .before .before .before .before .before .before .before .before .before .before .before .before .before .before .before .before .before .before .pre .1 .0 .lens-node) one) (parting .kept .over) (parting .kept .same-entries), (sheet, (parting .kept .within, c .before .before .before .before .before .before .before .before .before .before .before .loop .inv .2 ∙ c .before .before .before .before .before .before .before .before .before .before .before .before .before .before .before .before .before .before .before .before .before .before .before .before .pre .1 .1 .1 .1 .1 .1))))
 
--- src/write.rt:238:5
+-- src/write.rt:233:5
 write-parts-loop-less : (t : ℕ) → write-parts-lts.Need-loop-less (write-parts-calls t) (write-parts-at t) write-parts.Post write-parts-Inv-loop write-parts-μ-loop
 write-parts-loop-less t c = omega (arith, part-inside (c .before .before .before .before .before .before .before .before .before .before .before .before .before .before .before .before .before .before .before .loop .inv .0) (c .before .before .before .before .before .before .before .before .before .before .before .before .before .before .before .before .before .before .loop-test .taken) (c .before .before .before .before .before .before .before .before .before .before .before .before .before .before .before .first-loop .ensures))
 
--- src/write.rt:238:5
+-- src/write.rt:233:5
 write-parts-loop-again : (t : ℕ) → write-parts-lts.Need-loop-again (write-parts-calls t) (write-parts-at t) write-parts.Post write-parts-Inv-loop write-parts-μ-loop
 write-parts-loop-again t c =
     let parting = c .before .before .before .before .before .before .before .before .before .before .before .before .before .before .before .before .before .before .before .loop .inv .0 in
@@ -960,11 +916,11 @@ write-parts-loop-again t c =
       c .before .before .before .before .before .before .put .kept .1 .1 .1 .1 .1 .1 .1 .1 .1 .1 .0 ∙ c .before .before .before .before .before .before .before .before .before .before .before .before .before .before .before .before .before .before .before .loop .inv .3,
     )
 
--- src/write.rt:238:5
+-- src/write.rt:233:5
 write-parts-loop-less-2 : (t : ℕ) → write-parts-lts.Need-loop-less-2 (write-parts-calls t) (write-parts-at t) write-parts.Post write-parts-Inv-loop write-parts-μ-loop
 write-parts-loop-less-2 t c = omega (arith, part-inside (c .before .before .before .before .before .before .before .before .before .before .before .before .before .before .before .before .before .before .loop .inv .0) (c .before .before .before .before .before .before .before .before .before .before .before .before .before .before .before .before .before .loop-test .taken) (c .before .before .before .before .before .before .before .before .before .before .before .before .before .before .first-loop .ensures))
 
--- src/write.rt:238:5
+-- src/write.rt:233:5
 write-parts-loop-again-2 : (t : ℕ) → write-parts-lts.Need-loop-again-2 (write-parts-calls t) (write-parts-at t) write-parts.Post write-parts-Inv-loop write-parts-μ-loop
 write-parts-loop-again-2 t c =
     let parting = c .before .before .before .before .before .before .before .before .before .before .before .before .before .before .before .before .before .before .loop .inv .0 in
@@ -977,37 +933,37 @@ write-parts-loop-again-2 t c =
       c .before .before .before .before .before .before .create .kept .1 .1 .1 .1 .1 .1 .1 .1 .1 .0 ∙ c .before .before .before .before .before .before .before .before .before .before .before .before .before .before .before .before .before .before .loop .inv .3,
     )
 
--- src/write.rt:209:1
+-- src/write.rt:204:1
 write-parts-same-length : (t : ℕ) → write-parts-lts.Need-same-length (write-parts-calls t) (write-parts-at t) write-parts.Post write-parts-Inv-loop write-parts-μ-loop
 write-parts-same-length t c = c .before .loop .inv .1
 
--- src/write.rt:209:1
+-- src/write.rt:204:1
 write-parts-same-length-2 : (t : ℕ) → write-parts-lts.Need-same-length-2 (write-parts-calls t) (write-parts-at t) write-parts.Post write-parts-Inv-loop write-parts-μ-loop
 write-parts-same-length-2 t c = c .before .loop .inv .2
 
--- src/write.rt:209:1
+-- src/write.rt:204:1
 write-parts-same-length-3 : (t : ℕ) → write-parts-lts.Need-same-length-3 (write-parts-calls t) (write-parts-at t) write-parts.Post write-parts-Inv-loop write-parts-μ-loop
 write-parts-same-length-3 t c = c .before .loop .inv .3
 
--- src/write.rt:209:1
+-- src/write.rt:204:1
 write-parts-returns : (t : ℕ) → write-parts-lts.Need-returns (write-parts-calls t) (write-parts-at t) write-parts.Post write-parts-Inv-loop write-parts-μ-loop
 write-parts-returns t c = parting-ends (c .before .loop .inv .0) (c .before .before .before .before .before .before .before .before .before .before .before .before .before .before .pre .1 .1 .0) (omega (arith, c .loop-test .left))
 
--- src/write.rt:280:9
+-- src/write.rt:275:9
 write-repeat-ends-of-requires : (t : ℕ) → write-repeat-lts.Need-ends-of-requires (write-repeat-calls t) (write-repeat-at t) write-repeat.Post
 write-repeat-ends-of-requires t c κs = node-words (child-below (c .before .before .before .before .before .before .before .before .pre .1 .0 .lens-node) (c .before .before .before .before .before .before .before .before .pre .1 .1 .0))
 
--- src/write.rt:281:9
+-- src/write.rt:276:9
 write-repeat-node-requires : (t : ℕ) → write-repeat-lts.Need-node-requires (write-repeat-calls t) (write-repeat-at t) write-repeat.Post
 write-repeat-node-requires t c κs =
     let known = child-below (c .before .before .before .before .before .before .before .before .before .pre .1 .0 .lens-node) (c .before .before .before .before .before .before .before .before .before .pre .1 .1 .0) in
     (known .built .sized, known .inside)
 
--- src/write.rt:283:33
+-- src/write.rt:278:33
 write-repeat-enum-known-kind : (t : ℕ) → write-repeat-lts.Need-enum-known-kind (write-repeat-calls t) (write-repeat-at t) write-repeat.Post
 write-repeat-enum-known-kind t c = search needs
 
--- src/write.rt:285:9
+-- src/write.rt:280:9
 write-repeat-write-matches-requires : (t : ℕ) → write-repeat-lts.Need-write-matches-requires (write-repeat-calls t) (write-repeat-at t) write-repeat.Post
 write-repeat-write-matches-requires t c κs = (
   c .before .before .before .before .before .before .before .before .before .before .before .before .before .before .before .before .pre .1 .0,
@@ -1017,39 +973,39 @@ write-repeat-write-matches-requires t c κs = (
   ),
 )
 
--- src/write.rt:285:9
+-- src/write.rt:280:9
 write-repeat-same-length : (t : ℕ) → write-repeat-lts.Need-same-length (write-repeat-calls t) (write-repeat-at t) write-repeat.Post
 write-repeat-same-length t c = search needs
 
--- src/write.rt:285:9
+-- src/write.rt:280:9
 write-repeat-same-length-2 : (t : ℕ) → write-repeat-lts.Need-same-length-2 (write-repeat-calls t) (write-repeat-at t) write-repeat.Post
 write-repeat-same-length-2 t c = search needs
 
--- src/write.rt:285:9
+-- src/write.rt:280:9
 write-repeat-same-length-3 : (t : ℕ) → write-repeat-lts.Need-same-length-3 (write-repeat-calls t) (write-repeat-at t) write-repeat.Post
 write-repeat-same-length-3 t c = search needs
 
--- src/write.rt:285:9
+-- src/write.rt:280:9
 write-repeat-returns : (t : ℕ) → write-repeat-lts.Need-returns (write-repeat-calls t) (write-repeat-at t) write-repeat.Post
 write-repeat-returns t c = c .before .before .before .before .before .before .write-matches .ensures .writes _
 
--- src/write.rt:287:5
+-- src/write.rt:282:5
 write-repeat-write-parts-requires : (t : ℕ) → write-repeat-lts.Need-write-parts-requires (write-repeat-calls t) (write-repeat-at t) write-repeat.Post
 write-repeat-write-parts-requires t c κs = (omega (arith, c .before .before .before .before .before .before .before .before .before .before .before .before .before .before .pre .0), (c .before .before .before .before .before .before .before .before .before .before .before .before .before .before .pre .1 .0, (c .before .before .before .before .before .before .before .before .before .before .before .before .before .before .pre .1 .1 .0, (c .before .before .before .before .before .ends-of .ensures, (c .before .before .before .before .before .before .before .before .before .before .before .before .before .before .pre .1 .1 .1 .0, c .before .before .before .before .before .before .before .before .before .before .before .before .before .before .pre .1 .1 .1 .1)))))
 
--- src/write.rt:259:1
+-- src/write.rt:254:1
 write-repeat-same-length-4 : (t : ℕ) → write-repeat-lts.Need-same-length-4 (write-repeat-calls t) (write-repeat-at t) write-repeat.Post
 write-repeat-same-length-4 t c = search needs
 
--- src/write.rt:259:1
+-- src/write.rt:254:1
 write-repeat-same-length-5 : (t : ℕ) → write-repeat-lts.Need-same-length-5 (write-repeat-calls t) (write-repeat-at t) write-repeat.Post
 write-repeat-same-length-5 t c = search needs
 
--- src/write.rt:259:1
+-- src/write.rt:254:1
 write-repeat-same-length-6 : (t : ℕ) → write-repeat-lts.Need-same-length-6 (write-repeat-calls t) (write-repeat-at t) write-repeat.Post
 write-repeat-same-length-6 t c = search needs
 
--- src/write.rt:259:1
+-- src/write.rt:254:1
 write-repeat-returns-2 : (t : ℕ) → write-repeat-lts.Need-returns-2 (write-repeat-calls t) (write-repeat-at t) write-repeat.Post
 write-repeat-returns-2 t c = c .before .before .before .before .before .before .write-parts .ensures
 
@@ -1081,10 +1037,7 @@ pub +create+put+write-match+write-parts+write-repeat-spec : {M : Type 1} → sta
     (create-part-track-end-2 t)
     (create-create-requires-2 t)
     (create-enum-known-kind-2 t)
-    (create-choose-requires t)
-    (create-enum-known-kept t)
-    (create-put-requires t)
-    (create-enum-told t)
+    (create-choose-new-requires t)
     (create-create-requires-3 t)
     (create-enum-known-kind-3 t)
     (create-write-repeat-requires t)
@@ -1109,11 +1062,7 @@ pub +create+put+write-match+write-parts+write-repeat-spec : {M : Type 1} → sta
     (create-returns-5 t)
     (create-same-length-15 t)
     (create-same-length-16 t)
-    (create-same-length-17 t)
-    (create-returns-6 t)
-    (create-same-length-18 t)
-    (create-same-length-19 t)
-    (create-returns-7 t))
+    (create-returns-6 t))
     (λ t. put-lts.spec (put-calls t)
     (put-at t)
     put.Post

@@ -7,19 +7,19 @@ use Rattle.writer.proofs.write.plain_behind.Reads as reads
 use Rattle.writer.proofs.write.plain_behind.Lts as lts
 use Rattle.writer.proofs.write.next_plain.Reads as next-plain-reads
 
--- src/write.rt:85:9
+-- src/write.rt:86:9
 next-plain-requires : tie.Need-next-plain-requires
 next-plain-requires c κs = search needs
 
--- src/write.rt:66:1
+-- src/write.rt:67:1
 same-length : tie.Need-same-length
 same-length c = search needs
 
--- src/write.rt:66:1
+-- src/write.rt:67:1
 same-length-2 : tie.Need-same-length-2
 same-length-2 c = search needs
 
--- src/write.rt:66:1
+-- src/write.rt:67:1
 returns : tie.Need-returns
 returns c =
     let ready = c .before .before .before .before .before .before .before .before .before .before .before .before .before .before .before .pre .0 in

@@ -47,7 +47,7 @@ Inv-loop bytes prepared child part new path₀ deck below card₀ out₀ last fi
 abbrev μ-loop : tie.MeasureT-loop
 μ-loop bytes prepared child part new path₀ deck below card₀ out₀ last first book₀ wrote₀ o₀ path card out book wrote o = length new - o
 
--- src/write.rt:373:5
+-- src/write.rt:368:5
 loop-holds : tie.Need-loop-holds Inv-loop μ-loop
 loop-holds c =
     let ready = c .before .before .before .before .before .before .before .before .before .before .before .pre .0 in
@@ -58,76 +58,76 @@ loop-holds c =
       refl,
     )
 
--- src/write.rt:374:32
+-- src/write.rt:369:32
 sub-first-loop : tie.Need-sub-first-loop Inv-loop μ-loop
 sub-first-loop c = omega (arith, more-path (c .before .loop .inv .0) (c .loop-test .taken))
 
--- src/write.rt:374:32
+-- src/write.rt:369:32
 part-first-loop-start : tie.Need-part-first-loop-start Inv-loop μ-loop
 part-first-loop-start c = omega (arith, more-path (c .before .before .loop .inv .0) (c .before .loop-test .taken))
 
--- src/write.rt:374:32
+-- src/write.rt:369:32
 part-first-loop-end : tie.Need-part-first-loop-end Inv-loop μ-loop
 part-first-loop-end c = omega (arith, more-path (c .before .before .loop .inv .0) (c .before .loop-test .taken))
 
--- src/write.rt:374:21
+-- src/write.rt:369:21
 first-loop-requires : tie.Need-first-loop-requires Inv-loop μ-loop
 first-loop-requires c κs = more-lent (c .before .before .before .loop .inv .0) (c .before .before .loop-test .taken)
 
--- src/write.rt:374:17
+-- src/write.rt:369:17
 add-e : tie.Need-add-e Inv-loop μ-loop
 add-e c = omega (arith, part-inside (c .before .before .before .before .loop .inv .0) (c .before .before .before .loop-test .taken) (c .first-loop .ensures), c .before .before .before .before .before .before .before .before .before .before .before .before .before .before .before .before .good)
 
--- src/write.rt:375:21
+-- src/write.rt:370:21
 sub-piece : tie.Need-sub-piece Inv-loop μ-loop
 sub-piece c = omega (arith, part-inside (c .before .before .before .before .loop .inv .0) (c .before .before .before .loop-test .taken) (c .first-loop .ensures))
 
--- src/write.rt:375:21
+-- src/write.rt:370:21
 part-piece-start : tie.Need-part-piece-start Inv-loop μ-loop
 part-piece-start c = omega (arith, part-inside (c .before .before .before .before .loop .inv .0) (c .before .before .before .loop-test .taken) (c .first-loop .ensures))
 
--- src/write.rt:375:21
+-- src/write.rt:370:21
 part-piece-end : tie.Need-part-piece-end Inv-loop μ-loop
 part-piece-end c = omega (arith, part-inside (c .before .before .before .before .loop .inv .0) (c .before .before .before .loop-test .taken) (c .first-loop .ensures))
 
--- src/write.rt:376:21
+-- src/write.rt:371:21
 sub-track : tie.Need-sub-track Inv-loop μ-loop
 sub-track c = omega (arith, part-inside (c .before .before .before .before .before .loop .inv .0) (c .before .before .before .before .loop-test .taken) (c .before .first-loop .ensures))
 
--- src/write.rt:376:21
+-- src/write.rt:371:21
 part-track-start : tie.Need-part-track-start Inv-loop μ-loop
 part-track-start c = omega (arith, part-inside (c .before .before .before .before .before .loop .inv .0) (c .before .before .before .before .loop-test .taken) (c .before .first-loop .ensures))
 
--- src/write.rt:376:21
+-- src/write.rt:371:21
 part-track-end : tie.Need-part-track-end Inv-loop μ-loop
 part-track-end c = omega (arith, part-inside (c .before .before .before .before .before .loop .inv .0) (c .before .before .before .before .loop-test .taken) (c .before .first-loop .ensures))
 
--- src/write.rt:378:13
+-- src/write.rt:373:13
 card-of-requires : tie.Need-card-of-requires Inv-loop μ-loop
 card-of-requires c κs =
     let inner = c .before .before .before .before .before .before .before .before .before .before .before .before .before .before .before .before .before .before .before .before .pre .1 .1 .0 .0 in
     let given = given-match (part-given (c .before .before .before .before .before .before .before .before .loop .inv .0) (c .before .before .before .before .before .before .before .loop-test .taken) (c .before .before .before .before .first-loop .ensures) (c .before .before .before .before .before .before .before .before .before .before .before .before .before .before .before .before .before .before .before .before .pre .1 .1 .1 .1 .0)) inner in
     (child-below (child-below (c .before .before .before .before .before .before .before .before .before .before .before .before .before .before .before .before .before .before .before .before .pre .0 .lens-node) (c .before .before .before .before .before .before .before .before .before .before .before .before .before .before .before .before .before .before .before .before .pre .1 .0)) inner, (given .parsed, (given .new-short, c .before .before .before .before .before .before .before .before .loop .inv .2 ∙ c .before .before .before .before .before .before .before .before .before .before .before .before .before .before .before .before .before .before .before .before .pre .1 .1 .1 .1 .1 .1)))
 
--- src/write.rt:380:55
+-- src/write.rt:375:55
 sub-take : tie.Need-sub-take Inv-loop μ-loop
 sub-take c = omega arith
 
--- src/write.rt:380:55
+-- src/write.rt:375:55
 part-take-start : tie.Need-part-take-start Inv-loop μ-loop
 part-take-start c = omega arith
 
--- src/write.rt:380:55
+-- src/write.rt:375:55
 part-take-end : tie.Need-part-take-end Inv-loop μ-loop
 part-take-end c = c .before .before .before .card-of .ensures .within
 
--- src/write.rt:380:13
+-- src/write.rt:375:13
 take-requires : tie.Need-take-requires Inv-loop μ-loop
 take-requires c κs =
     let known = child-below (child-below (c .before .before .before .before .before .before .before .before .before .before .before .before .before .before .before .before .before .before .before .before .before .before .before .before .before .pre .0 .lens-node) (c .before .before .before .before .before .before .before .before .before .before .before .before .before .before .before .before .before .before .before .before .before .before .before .before .before .pre .1 .0)) (c .before .before .before .before .before .before .before .before .before .before .before .before .before .before .before .before .before .before .before .before .before .before .before .before .before .pre .1 .1 .0 .0) in
     may-take known (looks-left (c .before .before .before .before .before .before .before .before .before .before .before .before .before .before .before .before .before .before .before .before .before .before .before .before .before .pre .0 .looks-in) (c .before .before .before .before .before .before .before .before .before .before .before .before .before .loop .inv .0 .kept .over) (c .before .before .before .before .before .before .before .before .before .before .before .before .before .loop .inv .0 .kept .same-entries))
 
--- src/write.rt:383:9
+-- src/write.rt:378:9
 next-plain-requires : tie.Need-next-plain-requires Inv-loop μ-loop
 next-plain-requires c κs =
     let parting = c .before .before .before .before .before .before .before .before .before .before .before .before .before .before .before .before .loop .inv .0 in
@@ -139,11 +139,11 @@ next-plain-requires c κs =
     let looked = entry .found (inner .child) (inner .at-child) in
     (known, (record { sheet-given = given-match given inner; old-fits = found-fits looks looked }, parting .kept .within))
 
--- src/write.rt:373:5
+-- src/write.rt:368:5
 loop-less : tie.Need-loop-less Inv-loop μ-loop
 loop-less c = omega (arith, part-inside (c .before .before .before .before .before .before .before .before .before .before .before .before .before .before .before .before .before .before .before .before .before .loop .inv .0) (c .before .before .before .before .before .before .before .before .before .before .before .before .before .before .before .before .before .before .before .before .loop-test .taken) (c .before .before .before .before .before .before .before .before .before .before .before .before .before .before .before .before .before .first-loop .ensures))
 
--- src/write.rt:373:5
+-- src/write.rt:368:5
 loop-again : tie.Need-loop-again Inv-loop μ-loop
 loop-again c =
     let parting = c .before .before .before .before .before .before .before .before .before .before .before .before .before .before .before .before .before .before .before .before .before .loop .inv .0 in
@@ -169,19 +169,19 @@ loop-again c =
       c .before .before .before .before .next-plain .kept .1 .1 .1 .1 .1 .1 .1 .1 .0 ∙ c .before .before .before .before .before .before .before .before .before .before .before .before .before .before .before .before .before .before .before .before .before .loop .inv .3,
     )
 
--- src/write.rt:345:1
+-- src/write.rt:340:1
 same-length : tie.Need-same-length Inv-loop μ-loop
 same-length c = c .before .loop .inv .1
 
--- src/write.rt:345:1
+-- src/write.rt:340:1
 same-length-2 : tie.Need-same-length-2 Inv-loop μ-loop
 same-length-2 c = c .before .loop .inv .2
 
--- src/write.rt:345:1
+-- src/write.rt:340:1
 same-length-3 : tie.Need-same-length-3 Inv-loop μ-loop
 same-length-3 c = c .before .loop .inv .3
 
--- src/write.rt:345:1
+-- src/write.rt:340:1
 returns : tie.Need-returns Inv-loop μ-loop
 returns c = matches-written _ (c .before .before .before .before .before .before .before .before .before .before .before .before .before .pre .1 .0) (c .before .before .before .before .before .before .before .before .before .before .before .before .before .pre .1 .1 .0 .0) (parting-ends (c .before .loop .inv .0) (c .before .before .before .before .before .before .before .before .before .before .before .before .before .pre .1 .0) (omega (arith, c .loop-test .left)))
 

@@ -1,0 +1,210 @@
+-- Two calls, one after the other: what the second gives, from what the first gave.
+use mathlib.Core.Path.{_≡_, refl, sym, ap, _∙_, subst}
+use Prim.Native.Nat.{ℕ, _-_, _≤_}
+use native.Mathlib.Omega.{arith}
+use lib.ListN.{length, take, drop, length-append, length-replicate}
+use lib.Seq.{take-append-seam}
+use Rattle.semantics.specs.Text.{Text}
+use Rattle.semantics.specs.Calls.{gives, refuses, bufferAfter}
+use Rattle.semantics.specs.Calls.{Answer as Outcome}
+use Rattle.laws.specs.Basics.{never}
+use Rattle.laws.specs.Refusals.{Named}
+use Rattle.answers.specs.declared.Answer.{Answer}
+use Rattle.answers.specs.declared.Answer.the-variants.{Result, Refusal}
+use Rattle.answers.specs.Contracts.{answerFor, GivesText}
+use Rattle.engine.specs.Demand3.{Gave, gave-of, of-gave}
+use Rattle.noontrough.specs.declared.Numbers.{Numbers}
+use Rattle.noontrough.specs.Exports.{numbersOf, ExportsText}
+use Rattle.noontrough.specs.Numbers.{result-iff}
+use Rattle.demands.specs.declared.trips.TwoCalls.{TwoCalls}
+use Rattle.demands.specs.declared.linked.LinkedCalls.{LinkedCalls}
+use Rattle.demands.specs.Demands.{blank, thenCall, Made, LinkedMade}
+use Rattle.demands.specs.Following.{Held, Follows, LinkedHeld, LinkedFollows}
+
+-- by the law on any such list: counted at this length it would take seconds
+pub blank-length : length blank ≡ 4096
+unfolding blank
+blank-length = length-replicate {A = ℕ} 4096 0
+
+-- ---- The first call
+
+-- what it answered is its outcome
+result-is : (outcome : Outcome Text) (before after : Text) (answer : Answer) (n : ℕ) → GivesText outcome before after answer → answer ≡ Result n
+    → (t : Text) × (outcome ≡ gives t) × (length t ≡ n)
+unfolding answerFor
+result-is (gives t) before after answer n given e =
+    let lengths : Result (length t) ≡ Result n = sym (given .answer-is) ∙ e in
+    (t, refl, (cc))
+result-is (refuses number node) before after answer n given e =
+    let wrong : Refusal number node ≡ Result n = sym (given .answer-is) ∙ e in
+    never (cc)
+
+refusal-is :
+    (outcome : Outcome Text) (before after : Text) (answer : Answer) (number node : ℕ) → GivesText outcome before after answer → answer ≡ Refusal number node
+    → outcome ≡ refuses number node
+unfolding answerFor
+refusal-is (gives t) before after answer number node given e =
+    let wrong : Result (length t) ≡ Refusal number node = sym (given .answer-is) ∙ e in
+    never (cc)
+refusal-is (refuses number′ node′) before after answer number node given e =
+    let same : Refusal number′ node′ ≡ Refusal number node = sym (given .answer-is) ∙ e in
+    cc
+
+-- a text that was given is at the start of the buffer
+given-text : (t before after : Text) → after ≡ bufferAfter (gives t) before → (take (length t) after ≡ t) × (length t ≤ length after)
+unfolding bufferAfter
+given-text t before after e =
+    (ap (take (length t)) e ∙ take-append-seam t (drop (length t) before), omega (arith, ap length e, length-append t (drop (length t) before)))
+
+-- so is what it answered
+pub gives-held : {outcome : Outcome Text} {before after : Text} {answer : Answer} → GivesText outcome before after answer → Held after answer
+gives-held {outcome} {before} {after} {answer} given =
+    record {
+      within =
+          λ n e.
+          let (t, is, long) = result-is outcome before after answer n given e in
+          omega (arith, (given-text t before after (given .buffer-is ∙ ap (λ o. bufferAfter o before) is)) .1);
+    }
+
+-- ---- The second
+
+module _ {given : Text} {first : Answer} {second : Text → Outcome Text} {before after : Text} {answer : Answer} where
+  -- it got the first one's result
+  pub follows-result :
+      {n : ℕ} → first ≡ Result n → GivesText (second (take (n - 0) given)) before after answer
+      → Follows given first second before after answer
+  unfolding thenCall
+  follows-result {n} e made =
+      record {
+        follows =
+            λ outcome start h.
+            let (t, is, long) = result-is outcome start given first n h e in
+            let text = (given-text t start given (h .buffer-is ∙ ap (λ o. bufferAfter o start) is)) .0 in
+            let whole : n - 0 ≡ length t = omega arith in
+            let same : take (n - 0) given ≡ t = ap (λ k. take k given) whole ∙ text in
+            rw is (subst (λ u. GivesText (second u) before after answer) same made);
+      }
+
+  -- the first one's refusal stands for both
+  pub follows-refusal :
+      {number node : ℕ} → first ≡ Refusal number node → after ≡ before → answer ≡ Refusal number node
+      → Follows given first second before after answer
+  unfolding thenCall answerFor bufferAfter
+  follows-refusal {number} {node} e unchanged stands =
+      record {
+        follows = λ outcome start h. rw (refusal-is outcome start given first number node h e) (record { answer-is = stands; buffer-is = unchanged });
+      }
+
+-- ---- Both
+
+-- with blank buffers, however a call's outcome is answered
+both-made :
+    {N : Type 0} (Gives : Outcome Text → Text → Text → N → Type 0)
+    (first : ℕ → Outcome Text) (second : ℕ → Text → Outcome Text)
+    (x y given again : Text) (a b : N)
+    → x ≡ blank
+    → y ≡ blank
+    → Gives (first (length x)) x given a
+    → Gives (thenCall (first (length x)) (second (length y))) y again b
+    → Gives (first 4096) blank given a × Gives (thenCall (first 4096) (second 4096)) blank again b
+both-made Gives first second x y given again a b ex ey one two =
+    let room : length x ≡ 4096 = ap length ex ∙ blank-length in
+    let room′ : length y ≡ 4096 = ap length ey ∙ blank-length in
+    let one′ = subst (λ n. Gives (first n) x given a) room one in
+    let two′ = subst (λ n. Gives (thenCall (first n) (second (length y))) y again b) room two in
+    let two″ = subst (λ n. Gives (thenCall (first 4096) (second n)) y again b) room′ two′ in
+    (subst (λ z. Gives (first 4096) z given a) ex one′, subst (λ z. Gives (thenCall (first 4096) (second 4096)) z again b) ey two″)
+
+pub made :
+    (first : ℕ → Outcome Text) (second : ℕ → Text → Outcome Text) {x y : Text} {r : TwoCalls}
+    → x ≡ blank
+    → y ≡ blank
+    → GivesText (first (length x)) x (r .given) (r .first)
+    → Follows (r .given) (r .first) (second (length y)) y (r .again) (r .second)
+    → Made (first 4096) (second 4096) r
+made first second {x} {y} {r} ex ey given then =
+    let both = then .follows (first (length x)) x given in
+    let (one, two) = both-made GivesText first second x y (r .given) (r .again) (r .first) (r .second) ex ey given both in
+    record { first-made = one; second-made = two }
+
+-- where the definitions lead from what the first gives to what the second gives, the calls do
+pub second-gave :
+    {first : Outcome Text} {second : Text → Outcome Text} {r : TwoCalls} → Made first second r → (a b : Text) → (first ≡ gives a → second a ≡ gives b)
+    → Gave (r .given) (r .first) a
+    → Gave (r .again) (r .second) b
+unfolding thenCall
+second-gave {first} {second} {r} calls a b leads gave =
+    let is : first ≡ gives a = of-gave first a blank (r .given) (r .first) (calls .first-made) gave in
+    let then : thenCall first second ≡ gives b = rw is (leads is) in
+    gave-of (thenCall first second) b blank (r .again) (r .second) then (calls .second-made)
+
+-- ---- By numbers
+
+-- number 0 says that the first call gave a text
+module _ {outcome : Outcome Text} {start given : Text} {first : Numbers} (named : Named outcome) (exported : ExportsText outcome start given first) where
+  zero-text :
+      first .number ≡ 0
+      → (t : Text) × (outcome ≡ gives t) × (first .length ≡ length t) × (take (length t) given ≡ t) × (length t ≤ length given)
+  unfolding answerFor
+  zero-text zero =
+      let (t, is) = result-iff outcome start given first named exported .0 zero in
+      let lengths : first .length ≡ length t = ap (λ (n : Numbers). n .length) (exported .numbers-are ∙ ap (λ o. numbersOf (answerFor length o)) is) in
+      let text = given-text t start given (exported .buffer-is ∙ ap (λ o. bufferAfter o start) is) in
+      (t, is, lengths, text .0, text .1)
+
+  pub linked-held : LinkedHeld given first
+  linked-held = record { within = λ zero. let (t, is, lengths, text, held) = zero-text zero in omega arith }
+
+module _ {given : Text} {first : Numbers} {second : Text → Outcome Text} {before after : Text} {numbers : Numbers} where
+  pub linked-result :
+      first .number ≡ 0 → ExportsText (second (take (first .length - 0) given)) before after numbers
+      → LinkedFollows given first second before after numbers
+  unfolding thenCall
+  linked-result zero made =
+      record {
+        follows =
+            λ outcome start named h.
+            let (t, is, lengths, text, held) = zero-text named h zero in
+            let whole : first .length - 0 ≡ length t = omega arith in
+            let same : take (first .length - 0) given ≡ t = ap (λ k. take k given) whole ∙ text in
+            rw is (subst (λ u. ExportsText (second u) before after numbers) same made);
+      }
+
+  pub linked-refusal : (first .number ≡ 0 → ⊥) → after ≡ before → numbers ≡ first → LinkedFollows given first second before after numbers
+  unfolding thenCall bufferAfter
+  linked-refusal other unchanged stands = record { follows = go }
+    where
+      go :
+          (outcome : Outcome Text) (start : Text) → Named outcome → ExportsText outcome start given first
+          → ExportsText (thenCall outcome second) before after numbers
+      go (gives t) start named h = absurd (other (result-iff (gives t) start given first named h .1 (t, refl)))
+      go (refuses number node) start named h = record { numbers-are = stands ∙ h .numbers-are; buffer-is = unchanged }
+
+pub linked-made :
+    (first : ℕ → Outcome Text) (second : ℕ → Text → Outcome Text) {x y : Text} {r : LinkedCalls}
+    → x ≡ blank
+    → y ≡ blank
+    → Named (first (length x))
+    → ExportsText (first (length x)) x (r .given) (r .first)
+    → LinkedFollows (r .given) (r .first) (second (length y)) y (r .again) (r .second)
+    → LinkedMade (first 4096) (second 4096) r
+linked-made first second {x} {y} {r} ex ey named given then =
+    let both = then .follows (first (length x)) x named given in
+    let (one, two) = both-made ExportsText first second x y (r .given) (r .again) (r .first) (r .second) ex ey given both in
+    record { first-made = one; second-made = two }
+
+pub linked-gave :
+    {first : Outcome Text} {second : Text → Outcome Text} {r : LinkedCalls}
+    → LinkedMade first second r
+    → Named first
+    → (b : Text)
+    → ((a : Text) → first ≡ gives a → second a ≡ gives b)
+    → r .first .number ≡ 0
+    → (r .second ≡ record { number = 0; node = 0; length = length b }) × (take (length b) (r .again) ≡ b)
+unfolding thenCall answerFor
+linked-gave {first} {second} {r} calls named b leads zero =
+    let (a, is) = result-iff first blank (r .given) (r .first) named (calls .first-made) .0 zero in
+    let then : thenCall first second ≡ gives b = rw is (leads a is) in (
+      calls .second-made .numbers-are ∙ ap (λ o. numbersOf (answerFor length o)) then,
+      given-text b blank (r .again) (calls .second-made .buffer-is ∙ ap (λ o. bufferAfter o blank) then) .0,
+    )

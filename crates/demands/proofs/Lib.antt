@@ -1,0 +1,4 @@
+-- What the proofs of several functions cite.
+pub mod Following
+pub mod Parting
+pub mod Gathering

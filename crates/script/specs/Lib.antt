@@ -1,0 +1,2 @@
+-- What the functions on scripts return.
+pub mod Scripts
