@@ -1,0 +1,54 @@
+//! `include/noontrough.h` from C: a program that includes it makes each call, and the answers are those of document 01. It is compiled as C and
+//! as C++; where there is no compiler, the test says so and does nothing.
+
+use std::path::{Path, PathBuf};
+use std::process::Command;
+
+/// Number, node and length of each call, and its whole buffer of ten bytes afterwards.
+const ANSWERS: &str = "\
+check 0 0 15 []
+check 1 0 0 []
+get 0 0 5 [AB;C;-----]
+get 13 0 0 [----------]
+put 0 0 8 [C22;AB1;--]
+put 16 0 0 [----------]
+create 0 0 4 [AB0;------]
+create 14 0 0 [----------]
+";
+
+fn in_package(name: &str) -> PathBuf {
+    Path::new(env!("CARGO_MANIFEST_DIR")).join(name)
+}
+
+/// Compiles the program by that compiler, runs it, and removes it again.
+fn answers_by(compiler: &str, words: &[&str]) {
+    let program = std::env::temp_dir().join(format!("noontrough-header-{}-{compiler}", std::process::id()));
+    let built = Command::new(compiler)
+        .args(["-Wall", "-Wextra", "-Werror", "-I"])
+        .arg(in_package("../../include"))
+        .args(words)
+        .arg(in_package("tests/header.c"))
+        .args(["-x", "none"])
+        .arg(in_package("../../target/staticlib/libnoontrough.a"))
+        .arg("-o")
+        .arg(&program)
+        .status();
+    let Ok(built) = built else {
+        eprintln!("skipped: there is no {compiler}");
+        return;
+    };
+    assert!(built.success(), "{compiler} takes the header and links the library");
+    let output = Command::new(&program).output().expect("the program runs");
+    std::fs::remove_file(&program).expect("the program is there");
+    assert_eq!(String::from_utf8_lossy(&output.stdout), ANSWERS);
+}
+
+#[test]
+fn answers_from_c() {
+    answers_by("cc", &["-std=c99", "-x", "c"]);
+}
+
+#[test]
+fn answers_from_cplusplus() {
+    answers_by("c++", &["-std=c++11", "-x", "c++"]);
+}
