@@ -2,3 +2,4 @@
 mod CommandLines
 mod Outcomes
 mod Sentences
+mod TextBytes

@@ -3,3 +3,4 @@ pub mod Commands
 pub mod Files
 pub mod Replies
 pub mod Sentences
+pub mod Texts

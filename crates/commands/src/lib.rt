@@ -5,3 +5,4 @@ mod files;
 pub mod meanings;
 mod replies;
 pub mod run;
+mod texts;

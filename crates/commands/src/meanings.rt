@@ -1,17 +1,42 @@
 // What each refusal means and what to do, in a sentence. docs/GUIDE.md has an example of each.
+use crate::texts::is_text;
 ghost use mathlib.Core.Bool.{true};
 ghost use mathlib.Core.Path.{_≡_};
 ghost use Rattle.commands.specs.Sentences.{hasSentence};
+ghost use Rattle.commands.specs.Texts.{textRefused};
 
-// Writes the sentence of a refusal, and says whether the number has one. Whether the system could write it is left open, since no contract can say
-// what is read or written. First the sentences of the table's sizes and of the first round; the others follow.
-pub fn explain(fd: i32, number: usize) -> bool
+// Writes the sentence of a refusal of a call with this table, and says whether the number has one. Whether the system could write it is left open,
+// since no contract can say what is read or written. A text in the table's place has a sentence of its own: its sizes are not what is to be mended.
+pub fn explain_for(fd: i32, number: usize, table: &[u8]) -> bool
+    ensures { λ r. ⌜ r ≡ hasSentence 1 number ⌝ }
+{
+    if text_refused(number, table) {
+        return said(
+            fd,
+            b"This file is a text and no table: if it is a program's text, noontrough assemble makes its table, and noontrough takes both.\n",
+        );
+    }
+    explain(fd, number)
+}
+
+// Every text is refused with number 1 (`text-outcome` of specs/Texts.antt). The number comes first, so that only a refused table is read again.
+fn text_refused(number: usize, table: &[u8]) -> bool
+    ensures { λ r. ⌜ r ≡ textRefused number (now (table .entry)) ⌝ }
+{
+    if number != 1 {
+        return false;
+    }
+    is_text(table)
+}
+
+// First the sentences of the table's sizes and of the first round; the others follow.
+fn explain(fd: i32, number: usize) -> bool
     ensures { λ r. ⌜ r ≡ hasSentence 1 number ⌝ }
 {
     match number {
         1 => said(
             fd,
-            b"The sizes of the table are wrong, so it is no whole program: make it again with sheet-assemble, and copy it as binary.\n",
+            b"The sizes of the table are wrong, so it is no whole program: make it again with noontrough assemble, and copy it as binary.\n",
         ),
         2 => said(
             fd,

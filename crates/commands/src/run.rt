@@ -6,7 +6,7 @@ use crate::command::words_of;
 use crate::files::Contents;
 use crate::files::read;
 use crate::files::read_given;
-use crate::meanings::explain;
+use crate::meanings::explain_for;
 use crate::replies::Reply;
 use crate::replies::reply_to;
 use libc::STDERR_FILENO;
@@ -61,11 +61,11 @@ fn answer(command: Command, count: usize, first: &[u8], second: &[u8], third: &[
         &old_source[0..old_length],
         &mut out,
     );
-    show(reply, &out);
+    show(reply, &out, &table[0..table_length]);
 }
 
-// The reply to standard output, and what a refusal means to standard error.
-fn show(reply: Reply, out: &[u8])
+// The reply to standard output, and to standard error what a refusal means, which depends on the table too.
+fn show(reply: Reply, out: &[u8], table: &[u8])
     requires { ⌜ reply .length ≤ length (now out) ⌝ }
 {
     let length = reply.length;
@@ -76,5 +76,5 @@ fn show(reply: Reply, out: &[u8])
             b"sheet: not all of the answer could be written\n",
         );
     }
-    explain(STDERR_FILENO, number);
+    explain_for(STDERR_FILENO, number, table);
 }

@@ -1,7 +1,7 @@
 // Runs the command lines of a script on standard input as the program `sheet` would, each with what it writes to standard output, and then writes
 // the sentence of each refusal. The results and refusals that are expected are from the papers; the sentences are stored so that a change of one
 // is seen.
-use commands::meanings::explain;
+use commands::meanings::explain_for;
 use commands::run::run;
 use libc::STDIN_FILENO;
 use libc::STDOUT_FILENO;
@@ -14,6 +14,7 @@ fn main() {
     let n = io::read_full(STDIN_FILENO, &mut script);
     command_lines(&script[..n]);
     sentences();
+    sentence_for_a_text();
 }
 
 fn command_lines(script: &[u8]) {
@@ -73,8 +74,15 @@ fn sentences() {
     }
 }
 
+// The table has one byte that no text has, since number 1 has another sentence for a text.
 fn sentence(number: usize) {
     io::print_decimal(STDOUT_FILENO, number as u64);
     io::write_all(STDOUT_FILENO, b": ");
-    explain(STDOUT_FILENO, number);
+    explain_for(STDOUT_FILENO, number, b"\x1f");
+}
+
+// A text with each byte below 32 that a text can have.
+fn sentence_for_a_text() {
+    io::write_all(STDOUT_FILENO, b"1 of a text: ");
+    explain_for(STDOUT_FILENO, 1, b"end\t= copy \";\"\r\n");
 }

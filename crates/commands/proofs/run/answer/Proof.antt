@@ -97,8 +97,17 @@ reply-to-requires c κs = search needs
 slice-aggregate-show : tie.Need-slice-aggregate-show
 slice-aggregate-show c = search needs
 
+sub-show : tie.Need-sub-show
+sub-show c = search needs
+
+part-show-start : tie.Need-part-show-start
+part-show-start c = search needs
+
+part-show-end : tie.Need-part-show-end
+part-show-end c = c .before .before .before .before .before .before .before .before .before .before .before .before .before .before .before .before .before .before .before .before .before .before .before .before .before .before .before .before .before .before .read .ensures .within _ (c .before .before .before .before .before .before .before .before .before .before .before .before .before .before .before .before .before .before .before .before .before .before .before .before .before .before .before .contents .given .1)
+
 show-requires : tie.Need-show-requires
-show-requires c κs = reply-within (c .before .before .reply-to .ensures)
+show-requires c κs = reply-within (c .before .before .before .before .reply-to .ensures)
 
 returns-4 : tie.Need-returns-4
 returns-4 c = search needs
@@ -138,5 +147,8 @@ answer-spec =
     slice-aggregate-reply-to
     reply-to-requires
     slice-aggregate-show
+    sub-show
+    part-show-start
+    part-show-end
     show-requires
     returns-4)
