@@ -17,18 +17,20 @@
 //! assert_eq!(put(&table, b"av", b"AV", &mut out), Answer::Refusal { number: 14, node: 0 });
 //! ```
 //!
-//! All calls run in a thread of `std::thread` with its usual 2 MiB of stack.
+//! No call overflows a stack: where a thread has too little left, the call is made
+//! on a thread of its own. [`in_place`] has the calls without that.
+
+mod sentences;
+mod stack;
+
+pub use sentences::sentence;
 
 /// The stack that any call of any program keeps to.
 ///
 /// A call takes what its program needs. For a program like K of the repository's
 /// examples, check, get and create take under 64 KiB, and a put under 96 KiB. A
-/// thread of 2 MiB is enough for every call, and has 192 KiB left for its own work.
-///
-/// The main thread usually has 8 MiB. A thread of `std::thread` has 2 MiB unless
-/// it is started with `std::thread::Builder::stack_size`, or `RUST_MIN_STACK` is
-/// set: a smaller one needs this much and what its own frames take. A call that
-/// finds too little ends the process.
+/// thread of 2 MiB, as `std::thread` starts them, is enough for every call, and
+/// has 192 KiB left for its own work.
 ///
 /// The bound is measured on x86-64, not proved. `cargo test` fails if a call of
 /// the programs that take most passes it.
@@ -71,68 +73,102 @@ impl From<Numbers> for Answer {
     }
 }
 
-#[rustfmt::skip]
-extern "C" {
-    fn noontrough_check(table: *const u8, table_len: usize) -> Numbers;
-
-    fn noontrough_get(
-        table: *const u8, table_len: usize,
-        source: *const u8, source_len: usize,
-        out: *mut u8, out_len: usize,
-    ) -> Numbers;
-
-    fn noontrough_put(
-        table: *const u8, table_len: usize,
-        sheet: *const u8, sheet_len: usize,
-        source: *const u8, source_len: usize,
-        out: *mut u8, out_len: usize,
-    ) -> Numbers;
-
-    fn noontrough_create(
-        table: *const u8, table_len: usize,
-        sheet: *const u8, sheet_len: usize,
-        out: *mut u8, out_len: usize,
-    ) -> Numbers;
-}
-
-// For all four: the pointers come from slices, so they are not null, their
-// bytes can be read, and `out`, lent alone, overlaps none of the others. The
-// engine keeps none of them.
-
 /// Tests a program; the length is its number of nodes.
 pub fn check(table: &[u8]) -> Answer {
-    // SAFETY: as said above.
-    unsafe { noontrough_check(table.as_ptr(), table.len()) }.into()
+    stack::with_room(READ_STACK_BYTES, || in_place::check(table))
 }
 
 /// Gives the sheet of a source.
 pub fn get(table: &[u8], source: &[u8], out: &mut [u8]) -> Answer {
-    // SAFETY: as said above.
-    unsafe { noontrough_get(table.as_ptr(), table.len(), source.as_ptr(), source.len(), out.as_mut_ptr(), out.len()) }
-        .into()
+    stack::with_room(READ_STACK_BYTES, || in_place::get(table, source, out))
 }
 
 /// Gives a source from an edited sheet and the old source.
 pub fn put(table: &[u8], sheet: &[u8], source: &[u8], out: &mut [u8]) -> Answer {
-    // SAFETY: as said above.
-    unsafe {
-        noontrough_put(
-            table.as_ptr(),
-            table.len(),
-            sheet.as_ptr(),
-            sheet.len(),
-            source.as_ptr(),
-            source.len(),
-            out.as_mut_ptr(),
-            out.len(),
-        )
-    }
-    .into()
+    stack::with_room(STACK_BYTES, || in_place::put(table, sheet, source, out))
 }
 
 /// Gives a source from a sheet alone.
 pub fn create(table: &[u8], sheet: &[u8], out: &mut [u8]) -> Answer {
-    // SAFETY: as said above.
-    unsafe { noontrough_create(table.as_ptr(), table.len(), sheet.as_ptr(), sheet.len(), out.as_mut_ptr(), out.len()) }
+    stack::with_room(STACK_BYTES, || in_place::create(table, sheet, out))
+}
+
+/// The same calls on the stack of this thread, whatever it has left: for callers
+/// who know that there is room, and never want a thread to be started. A call
+/// that finds too little ends the process.
+pub mod in_place {
+    use crate::{Answer, Numbers};
+
+    #[rustfmt::skip]
+    extern "C" {
+        fn noontrough_check(table: *const u8, table_len: usize) -> Numbers;
+
+        fn noontrough_get(
+            table: *const u8, table_len: usize,
+            source: *const u8, source_len: usize,
+            out: *mut u8, out_len: usize,
+        ) -> Numbers;
+
+        fn noontrough_put(
+            table: *const u8, table_len: usize,
+            sheet: *const u8, sheet_len: usize,
+            source: *const u8, source_len: usize,
+            out: *mut u8, out_len: usize,
+        ) -> Numbers;
+
+        fn noontrough_create(
+            table: *const u8, table_len: usize,
+            sheet: *const u8, sheet_len: usize,
+            out: *mut u8, out_len: usize,
+        ) -> Numbers;
+    }
+
+    // For all four: the pointers come from slices, so they are not null, their
+    // bytes can be read, and `out`, lent alone, overlaps none of the others. The
+    // engine keeps none of them.
+
+    pub fn check(table: &[u8]) -> Answer {
+        // SAFETY: as said above.
+        unsafe { noontrough_check(table.as_ptr(), table.len()) }.into()
+    }
+
+    #[rustfmt::skip]
+    pub fn get(table: &[u8], source: &[u8], out: &mut [u8]) -> Answer {
+        // SAFETY: as said above.
+        unsafe {
+            noontrough_get(
+                table.as_ptr(), table.len(),
+                source.as_ptr(), source.len(),
+                out.as_mut_ptr(), out.len(),
+            )
+        }
         .into()
+    }
+
+    #[rustfmt::skip]
+    pub fn put(table: &[u8], sheet: &[u8], source: &[u8], out: &mut [u8]) -> Answer {
+        // SAFETY: as said above.
+        unsafe {
+            noontrough_put(
+                table.as_ptr(), table.len(),
+                sheet.as_ptr(), sheet.len(),
+                source.as_ptr(), source.len(),
+                out.as_mut_ptr(), out.len(),
+            )
+        }
+        .into()
+    }
+
+    #[rustfmt::skip]
+    pub fn create(table: &[u8], sheet: &[u8], out: &mut [u8]) -> Answer {
+        // SAFETY: as said above.
+        unsafe {
+            noontrough_create(
+                table.as_ptr(), table.len(),
+                sheet.as_ptr(), sheet.len(),
+                out.as_mut_ptr(), out.len(),
+            )
+        }
+        .into()
+    }
 }

@@ -1,6 +1,6 @@
 //! The program `sheet` itself: what it writes to standard output, and what it
 //! says on standard error. `rt check sheet` builds it; where it is not built,
-//! each test says so and does nothing.
+//! each test fails and says so.
 
 use std::path::{Path, PathBuf};
 use std::process::{Command, Output};
@@ -14,19 +14,15 @@ fn k(file: &str) -> String {
     in_repository("examples/k").join(file).display().to_string()
 }
 
-/// Runs the program, if it is built.
-fn run(arguments: &[&str]) -> Option<Output> {
+fn run(arguments: &[&str]) -> Output {
     let program = in_repository("target/bin/sheet");
-    if !program.is_file() {
-        eprintln!("skipped: {} is not built (rt check sheet)", program.display());
-        return None;
-    }
-    Some(Command::new(program).args(arguments).output().expect("the program runs"))
+    assert!(program.is_file(), "the program sheet is not built: run 'rt check sheet' in the repository's root");
+    Command::new(program).args(arguments).output().expect("the program runs")
 }
 
 /// What is written to standard output, and a part of what is said on standard error (nothing is said if it is empty).
 fn writes(arguments: &[&str], stdout: &[u8], said: &str) {
-    let Some(output) = run(arguments) else { return };
+    let output = run(arguments);
     let message = String::from_utf8_lossy(&output.stderr).into_owned();
     assert_eq!(String::from_utf8_lossy(&output.stdout), String::from_utf8_lossy(stdout), "{arguments:?}");
     assert!(message.contains(said) && message.is_empty() == said.is_empty(), "{arguments:?}: {message}");
@@ -74,12 +70,14 @@ fn explains_refusals() {
     let full = Scratch::new("full", &b"A;".repeat(2048));
     let long = Scratch::new("long", &[b'A'; 4097]);
     let longest = Scratch::new("longest", &[b'A'; 65_535]);
-    writes(&["check", &k("source")], b"refused 1 0\n", "The sizes of the table are wrong");
+    let torn = Scratch::new("torn", &[1, 0, 0]);
+    writes(&["check", torn.name()], b"refused 1 0\n", "The sizes of the table are wrong");
+    writes(&["check", &k("program.lens")], b"refused 1 0\n", "This file is a text and no table");
     writes(&["check", two_stars.name()], b"refused 7 3\n", "A source of this join");
     writes(&["get", two_stars.name(), &k("source")], b"refused 7 3\n", "A source of this join");
     writes(&["get", &table, long.name()], b"refused 12 0\n", "longer than 4,096 bytes");
     writes(&["get", &table, longest.name()], b"refused 12 0\n", "longer than 4,096 bytes");
-    writes(&["check", longest.name()], b"refused 1 0\n", "The sizes of the table are wrong");
+    writes(&["check", longest.name()], b"refused 1 0\n", "This file is a text and no table");
     writes(&["get", &table, &k("program.lens")], b"refused 13 0\n", "The source is none of this program");
     writes(&["create", &table, &k("source")], b"refused 14 0\n", "The sheet is none of this program");
     writes(&["put", &table, &k("sheet"), many.name()], b"refused 15 0\n", "more than 256 entries");

@@ -1,5 +1,5 @@
 //! `include/noontrough.h` from C: a program that includes it makes each call, and the answers are those of document 01. It is compiled as C and
-//! as C++; where there is no compiler, the test says so and does nothing.
+//! as C++; where there is no compiler, the test fails and says so.
 
 use std::path::{Path, PathBuf};
 use std::process::Command;
@@ -33,10 +33,7 @@ fn answers_by(compiler: &str, words: &[&str]) {
         .arg("-o")
         .arg(&program)
         .status();
-    let Ok(built) = built else {
-        eprintln!("skipped: there is no {compiler}");
-        return;
-    };
+    let built = built.unwrap_or_else(|error| panic!("this test needs the compiler {compiler}: {error}"));
     assert!(built.success(), "{compiler} takes the header and links the library");
     let output = Command::new(&program).output().expect("the program runs");
     std::fs::remove_file(&program).expect("the program is there");

@@ -1,13 +1,48 @@
 //! From text to the table's bytes.
 //!
-//! Nodes are numbered in the order of their lines, and a line names only nodes
-//! above it, so a child always has a lower number. Two short forms make more
-//! than one node of a line:
+//! Nodes are numbered in the order in which the lines make them, and a line
+//! names only nodes above it, so a child always has a lower number. The last
+//! node that a line makes is the one that its name stands for, and that is
+//! always a new one.
 //!
-//! - A text in quotes in the place of a child is a word node: the first one
-//!   above with this text, else a new one just before the line's own node.
-//! - `join` and `union` take more than two children: `join a b c` is a joined
-//!   with the join of b and c, which gets its node first.
+//! What a line makes beside it, in this order:
+//!
+//! - The operands, from left to right: a text in quotes is a word node, a set in
+//!   brackets one range or a union of several, an expression in parentheses a
+//!   node of its kind.
+//! - `join` and `union` with more than two operands: `join a b c` is a joined
+//!   with the join of b and c, which gets its node first. The unions of a set
+//!   are nested in the same way.
+//! - The nodes of a suffix, behind those of its operand x. Over a pattern they
+//!   are patterns, over a lens lenses:
+//!
+//! | Suffix | Stands for |
+//! |---|---|
+//! | `x*` | `repeat x` |
+//! | `x+` | `join x (repeat x)` |
+//! | `x?` | `union "" x`, for a lens `lens union (copy "") x` |
+//! | `x{4}` | `join x x x x` |
+//! | `x{2,}` | `join x x (repeat x)` |
+//! | `x{2,4}` | `join x x o` where `o` is `union "" (join x (union "" x))` |
+//!
+//! The options of `x{2,4}` are nested, since a row of `x?` would be ambiguous
+//! for a lens. `{0,}` is `*`, `{1,}` is `+`, `{0,4}` are the options alone and
+//! `{1}` is x itself.
+//!
+//! So `label = key [A-Z]+` makes a range, a repeat, a join and a key, as
+//!
+//! ```text
+//! capital  = range 'A' 'Z'
+//! capitals = repeat capital
+//! name     = join capital capitals
+//! label    = key name
+//! ```
+//!
+//! do. If a node equal to one of those beside the named one stands above, and no
+//! line has it for its name, the first such node is taken and no other is made; a
+//! text in quotes also takes a word that has a name. Not so for lenses other than
+//! copy, const and key, and for what is written right under a match: two matches
+//! with one child share their entries, which must be asked for by a name.
 //!
 //! A word's text is looked for in the pool as it stands so far. The first place
 //! that holds it is taken; if there is none, the text goes to the pool's end.
@@ -15,38 +50,35 @@
 //! `word "…" at 5` names the place.
 
 use std::collections::HashMap;
-use std::fmt;
 
-use crate::kinds::{by_words, Kind, Shape, KINDS, WORD};
-use crate::line::{tokens, Token};
+use crate::costs::{too_many, Line, MOST_COUNTED};
+use crate::draft::{Draft, Node, Role};
+use crate::kinds::{is_kind_word, is_lens, kind_words, Kind, Shape};
+use crate::kinds::{COPY, JOIN, LENS_JOIN, LENS_REPEAT, LENS_UNION, MATCH, RANGE, REPEAT, UNION};
+use crate::line::{Placed, Token};
+use crate::place::{Mistake, Place};
+use crate::statements::statements;
+use crate::syntax::{statement, Expression, Form, Operand, Part, Primary, Statement, Suffix};
+use crate::words::words;
 
-pub const MAX_NODES: usize = 96;
-pub const MAX_POOL: usize = 512;
+pub use crate::draft::{MAX_NODES, MAX_POOL};
 
-/// A line that has no bytes, and why.
-#[derive(Clone, Debug, PartialEq, Eq)]
-pub struct Mistake {
-    /// Counted from 1.
-    pub line: usize,
-    pub message: String,
-}
-
-impl fmt::Display for Mistake {
-    fn fmt(&self, f: &mut fmt::Formatter<'_>) -> fmt::Result {
-        write!(f, "line {}: {}", self.line, self.message)
-    }
-}
-
-/// Where a node comes from.
+/// Where a node comes from. A node that serves several times has the first
+/// place.
 #[derive(Clone, Debug, PartialEq, Eq)]
 pub struct Origin {
-    /// Counted from 1.
+    /// Where the node's expression begins, counted from 1.
     pub line: usize,
+    /// Counted from 1, in bytes.
+    pub column: usize,
     /// The name that the line gives.
     pub name: String,
-    /// Whether the name stands for this very node, and not for one that a short
-    /// form of the line made beside it.
+    /// Whether the name stands for this very node, and not for one that the line
+    /// made beside it.
     pub is_named: bool,
+    /// How a message may call the node: the name if it is the named one, else
+    /// the text's own words for it.
+    pub words: String,
 }
 
 #[derive(Clone, Debug, PartialEq, Eq)]
@@ -54,203 +86,283 @@ pub struct Assembled {
     pub table: Vec<u8>,
     /// One for each node.
     pub origins: Vec<Origin>,
+    /// For each node whether it only holds a part of a row, a set or a suffix
+    /// together.
+    pub(crate) is_inner: Vec<bool>,
 }
 
 /// The table of a program's text.
 pub fn assemble(text: &[u8]) -> Result<Assembled, Mistake> {
     let mut assembly = Assembly::default();
-    for (index, line) in text.split(|&byte| byte == b'\n').enumerate() {
-        assembly.line = index + 1;
-        let line = tokens(line).and_then(|tokens| assembly.statement(&tokens));
-        line.map_err(|message| Mistake { line: index + 1, message })?;
+    for tokens in statements(text) {
+        assembly.statement(&tokens?)?;
     }
-    if assembly.kinds.is_empty() {
-        return Err(Mistake { line: assembly.line, message: "the program has no node".to_string() });
+    if assembly.draft.nodes.is_empty() {
+        let line = text.split(|&byte| byte == b'\n').count();
+        return Err(Place { line, column: 1 }.mistake("the program has no node"));
     }
-    Ok(Assembled { table: assembly.table(), origins: assembly.origins })
+    if assembly.draft.nodes.len() > MAX_NODES {
+        return Err(assembly.too_many());
+    }
+    Ok(Assembled { table: assembly.draft.table(), origins: assembly.origins, is_inner: assembly.is_inner })
 }
 
 #[derive(Default)]
 struct Assembly {
-    /// The line that is being read.
-    line: usize,
-    kinds: Vec<u8>,
-    operands: Vec<[u8; 3]>,
-    pool: Vec<u8>,
+    draft: Draft,
+    /// Of the nodes that a table can have, and of the first one too many.
     origins: Vec<Origin>,
-    names: HashMap<String, u8>,
-    /// The first word node of each text.
-    words: HashMap<Vec<u8>, u8>,
+    is_inner: Vec<bool>,
+    names: HashMap<String, Named>,
+    lines: Vec<Line>,
+}
+
+#[derive(Clone, Copy)]
+struct Named {
+    node: usize,
+    line: usize,
 }
 
 impl Assembly {
-    fn table(&self) -> Vec<u8> {
-        let [high, low] = (self.pool.len() as u16).to_be_bytes();
-        let mut table = vec![self.kinds.len() as u8, high, low];
-        table.extend(&self.kinds);
-        table.extend(self.operands.iter().flatten());
-        table.extend(&self.pool);
-        table
+    fn statement(&mut self, tokens: &[Placed]) -> Result<(), Mistake> {
+        let made = self.make(tokens);
+        made.map_err(|mistake| self.missing_parentheses(tokens).unwrap_or(mistake))
     }
 
-    fn statement(&mut self, tokens: &[Token]) -> Result<(), String> {
-        match tokens {
-            [] => Ok(()),
-            [Token::Name(name), Token::Equals, definition @ ..] => {
-                if let Some(&node) = self.names.get(name) {
-                    let line = self.origins[usize::from(node)].line;
-                    return Err(format!("the name '{name}' is already used in line {line}"));
-                }
-                let node = self.definition(name, definition)?;
-                self.names.insert(name.clone(), node);
+    /// A kind's word where an operand belongs, and no line has that name: whatever
+    /// else is wrong comes of it.
+    fn missing_parentheses(&self, tokens: &[Placed]) -> Option<Mistake> {
+        let word_of = |placed: &Placed| match &placed.token {
+            Token::Name(word) if is_kind_word(word) && !self.names.contains_key(word) => Some(word.clone()),
+            _ => None,
+        };
+        let begins = |before: &Token| match before {
+            Token::Equals | Token::Mark(b'(') => true,
+            Token::Name(word) => word == "lens",
+            _ => false,
+        };
+        let pairs = tokens.windows(2).skip(1);
+        let (word, place) = pairs
+            .filter(|pair| !begins(&pair[0].token))
+            .find_map(|pair| word_of(&pair[1]).map(|word| (word, pair[1].place)))?;
+        let message = format!("'{word}' begins an expression of its own, which stands in parentheses here");
+        Some(place.mistake(message))
+    }
+
+    fn make(&mut self, tokens: &[Placed]) -> Result<(), Mistake> {
+        let place = tokens[0].place;
+        match statement(tokens)? {
+            Statement::Pool(_) if !self.draft.nodes.is_empty() => {
+                Err(place.mistake("the pool stands above the first node"))
+            }
+            Statement::Pool(text) => {
+                self.draft.append(text).map_err(|message| tokens[1].place.mistake(message))?;
                 Ok(())
             }
-            [Token::Name(word), Token::Text(text)] if word == "pool" => {
-                if !self.kinds.is_empty() {
-                    return Err("the pool stands above the first node".to_string());
+            Statement::Definition(name, expression) => {
+                if let Some(Named { line, .. }) = self.names.get(name) {
+                    return Err(place.mistake(format!("the name '{name}' is already used in line {line}")));
                 }
-                self.append(text).map(|_| ())
+                self.lines.push(Line { line: place.line, name: name.to_string(), first_node: self.draft.nodes.len() });
+                let node = Definition { assembly: self, name, tokens }.expression(&expression, Role::Named)?;
+                self.names.insert(name.to_string(), Named { node, line: place.line });
+                Ok(())
             }
-            _ => Err("a line is 'name = kind operands', or 'pool' and a text in quotes".to_string()),
         }
     }
 
-    /// Adds the nodes of a line and gives the one that the name stands for.
-    fn definition(&mut self, name: &str, definition: &[Token]) -> Result<u8, String> {
-        let (word, rest) = match definition {
-            [Token::Name(word), rest @ ..] => (word, rest),
-            _ => return Err(format!("a kind is missing; the kinds are {}", kind_words())),
+    /// There are more than [`MAX_NODES`] nodes.
+    fn too_many(&self) -> Mistake {
+        let first = &self.origins[MAX_NODES];
+        Place { line: first.line, column: first.column }.mistake(too_many(&self.lines, self.draft.nodes.len()))
+    }
+}
+
+/// A definition that is being turned into nodes.
+struct Definition<'a> {
+    assembly: &'a mut Assembly,
+    name: &'a str,
+    tokens: &'a [Placed<'a>],
+}
+
+impl Definition<'_> {
+    fn place(&self, token: usize) -> Place {
+        self.tokens[token].place
+    }
+
+    /// Where the first text of a part stands.
+    fn text_place(&self, part: Part) -> Place {
+        let mut tokens = self.tokens[part.first..=part.last].iter();
+        let text = tokens.find(|placed| matches!(placed.token, Token::Text(_)));
+        text.map_or_else(|| self.place(part.first), |placed| placed.place)
+    }
+
+    fn expression(&mut self, expression: &Expression, role: Role) -> Result<usize, Mistake> {
+        let part = expression.part;
+        match &expression.form {
+            Form::Word(text, None) => self.text(text, part, role),
+            Form::Word(text, Some(start)) if self.assembly.draft.pool_holds(*start, text) => {
+                self.word(text, *start, part, role)
+            }
+            Form::Word(_, Some(start)) => {
+                Err(self.place(part.last).mistake(format!("the pool does not hold this text at {start}")))
+            }
+            Form::Bytes(kind, operands) => self.add(*kind, operands.map(usize::from), part, role),
+            Form::Of(kind, operands) => self.of_kind(kind, operands, part, role),
+            Form::Alone(operand) => self.operand(operand, role),
+        }
+    }
+
+    fn of_kind(&mut self, kind: &Kind, operands: &[Operand], part: Part, role: Role) -> Result<usize, Mistake> {
+        let below = if kind.byte == MATCH { Role::Entry } else { Role::Beside };
+        let children: Vec<usize> =
+            operands.iter().map(|operand| self.operand(operand, below)).collect::<Result<_, _>>()?;
+        if kind.shape == Shape::Row {
+            let inner = |place: usize| Part { first: operands[place].part.first, last: part.last };
+            return self.row(kind.byte, &children, |place| if place == 0 { part } else { inner(place) }, role);
+        }
+        let mut three = [0; 3];
+        three[..children.len()].copy_from_slice(&children);
+        self.add(kind.byte, three, part, role)
+    }
+
+    /// One or more children, nested from the right. The outermost node has the
+    /// role; `part` says which part of the text the node makes that begins with
+    /// a child.
+    fn row(
+        &mut self,
+        kind: u8,
+        children: &[usize],
+        part: impl Fn(usize) -> Part,
+        role: Role,
+    ) -> Result<usize, Mistake> {
+        let (&last, before) = children.split_last().expect("a row has a child");
+        before.iter().enumerate().rev().try_fold(last, |node, (place, &child)| {
+            let role = if place == 0 { role } else { Role::Inner };
+            self.add(kind, [child, node, 0], part(place), role)
+        })
+    }
+
+    fn operand(&mut self, operand: &Operand, role: Role) -> Result<usize, Mistake> {
+        let (last, before) = match operand.suffixes.split_last() {
+            Some(suffixes) => suffixes,
+            None => return self.primary(&operand.primary, operand.part, role),
         };
-        match (word.as_str(), rest) {
-            ("raw", operands) => self.raw(name, operands),
-            ("lens", [Token::Name(second), operands @ ..]) => match by_words(&format!("lens {second}")) {
-                Some(kind) => self.of_kind(name, kind, operands),
-                None => Err("'lens' is followed by join, union or repeat".to_string()),
-            },
-            ("lens", _) => Err("'lens' is followed by join, union or repeat".to_string()),
-            (word, operands) => match by_words(word) {
-                Some(kind) => self.of_kind(name, kind, operands),
-                None => Err(format!("there is no kind '{word}'; the kinds are {}", kind_words())),
-            },
-        }
+        let node = self.primary(&operand.primary, operand.part, Role::Beside)?;
+        let first = operand.part.first;
+        let node = before.iter().try_fold(node, |node, suffix| self.suffix(node, suffix, first, Role::Beside))?;
+        self.suffix(node, last, first, role)
     }
 
-    fn of_kind(&mut self, name: &str, kind: &Kind, operands: &[Token]) -> Result<u8, String> {
-        let wrong_count = || format!("'{}' takes {}", kind.words, kind.takes);
-        match (kind.shape, operands) {
-            (Shape::Word, [Token::Text(text)]) => {
-                let start = self.place(text)?;
-                self.word(name, true, start, text)
+    fn primary(&mut self, primary: &Primary, part: Part, role: Role) -> Result<usize, Mistake> {
+        match primary {
+            Primary::Name(name) => self.named(name, part, role),
+            Primary::Text(text) => self.text(text, part, role),
+            Primary::Group(expression) => self.expression(expression, role),
+            Primary::Set(ranges) => {
+                let below = if ranges.len() == 1 { role } else { Role::Beside };
+                let bytes = ranges.iter().map(|&(first, last)| [first.into(), last.into(), 0]);
+                let children: Vec<usize> =
+                    bytes.map(|ends| self.add(RANGE, ends, part, below)).collect::<Result<_, _>>()?;
+                self.row(UNION, &children, |_| part, role)
             }
-            (Shape::Word, [Token::Text(text), Token::Name(at), Token::Number(start)]) if at == "at" => {
-                let held = self.pool.get(*start..).is_some_and(|rest| rest.starts_with(text));
-                if !held {
-                    return Err(format!("the pool does not hold this text at {start}"));
-                }
-                self.word(name, true, *start, text)
+        }
+    }
+
+    fn named(&mut self, name: &str, part: Part, role: Role) -> Result<usize, Mistake> {
+        let wrong = |message| Err(self.place(part.first).mistake(message));
+        match (self.assembly.names.get(name), role) {
+            (Some(_), Role::Named) => {
+                let message = "would only be another name for";
+                wrong(format!("'{}' {message} '{name}', and a line makes a node of its own", self.name))
             }
-            (Shape::Range, [first, last]) => {
-                let ends = [byte(first).ok_or_else(wrong_count)?, byte(last).ok_or_else(wrong_count)?, 0];
-                self.add(name, true, kind.byte, ends)
+            (Some(named), _) => Ok(named.node),
+            (None, Role::Named) => {
+                let message = format!("there is no node '{name}' above this line, nor a kind of this name");
+                wrong(format!("{message}; the kinds are {}", kind_words()))
             }
-            (Shape::Children(count), _) if operands.len() == count => {
-                let mut children = [0; 3];
-                for (child, operand) in children.iter_mut().zip(operands) {
-                    *child = self.child(name, operand)?;
-                }
-                self.add(name, true, kind.byte, children)
-            }
-            (Shape::Row, [_, _, ..]) => {
-                let children: Vec<u8> =
-                    operands.iter().map(|operand| self.child(name, operand)).collect::<Result<_, _>>()?;
-                self.row(name, kind.byte, &children)
-            }
-            _ => Err(wrong_count()),
+            (None, _) => wrong(format!("there is no node '{name}' above this line")),
         }
     }
 
-    /// Two or more children, nested from the right; only the outermost node has
-    /// the line's name.
-    fn row(&mut self, name: &str, kind: u8, children: &[u8]) -> Result<u8, String> {
-        let (&last, before) = children.split_last().expect("a row has two children");
-        let mut node = last;
-        for (place, &child) in before.iter().enumerate().rev() {
-            node = self.add(name, place == 0, kind, [child, node, 0])?;
+    /// So often the node, as the module's text says.
+    fn suffix(&mut self, node: usize, suffix: &Suffix, first: usize, role: Role) -> Result<usize, Mistake> {
+        let part = Part { first, last: suffix.last };
+        let is_lens = is_lens(self.assembly.draft.nodes[node].kind);
+        let (join, repeat) = if is_lens { (LENS_JOIN, LENS_REPEAT) } else { (JOIN, REPEAT) };
+        let least = suffix.times.least;
+        let tail_role = if least == 0 { role } else { Role::Inner };
+        let mut children = vec![node; least];
+        match suffix.times.most {
+            None => children.push(self.add(repeat, [node, 0, 0], part, tail_role)?),
+            Some(most) if most > least => children.push(self.options(node, most - least, part, tail_role)?),
+            Some(_) => (),
         }
-        Ok(node)
+        self.row(join, &children, |_| part, role)
     }
 
-    /// Kind and operands as numbers, for tables that no other line can give.
-    fn raw(&mut self, name: &str, operands: &[Token]) -> Result<u8, String> {
-        let bytes: Option<Vec<u8>> = operands.iter().map(byte).collect();
-        match bytes.as_deref() {
-            Some(&[kind, a, b, c]) => self.add(name, true, kind, [a, b, c]),
-            _ => Err("'raw' takes four bytes: the kind and the operands a, b and c".to_string()),
+    /// None to so many of the node, one within the other.
+    fn options(&mut self, node: usize, most: usize, part: Part, role: Role) -> Result<usize, Mistake> {
+        let is_lens = is_lens(self.assembly.draft.nodes[node].kind);
+        let (join, union) = if is_lens { (LENS_JOIN, LENS_UNION) } else { (JOIN, UNION) };
+        let word = self.text(b"", part, Role::Beside)?;
+        let nothing = if is_lens { self.add(COPY, [word, 0, 0], part, Role::Beside)? } else { word };
+        self.call_nothing(word, "\"\"");
+        self.call_nothing(nothing, if is_lens { "copy \"\"" } else { "\"\"" });
+        (1..=most).try_fold(node, |inside, number| {
+            let some = if number == 1 { node } else { self.add(join, [node, inside, 0], part, Role::Inner)? };
+            let role = if number == most { role } else { Role::Inner };
+            self.add(union, [nothing, some, 0], part, role)
+        })
+    }
+
+    /// The empty text of an option stands nowhere in the program, so it does not
+    /// go by the words that made it.
+    fn call_nothing(&mut self, node: usize, words: &str) {
+        if let Some(origin) = self.assembly.origins.get_mut(node).filter(|origin| !origin.is_named) {
+            origin.words = words.to_string();
         }
     }
 
-    fn child(&mut self, name: &str, operand: &Token) -> Result<u8, String> {
-        match operand {
-            Token::Name(child) => {
-                self.names.get(child).copied().ok_or_else(|| format!("there is no node '{child}' above this line"))
-            }
-            Token::Text(text) => match self.words.get(text) {
-                Some(&node) => Ok(node),
-                None => {
-                    let start = self.place(text)?;
-                    self.word(name, false, start, text)
-                }
-            },
-            Token::Number(number) => Err(format!("nodes go by name here, and {number} is a number")),
-            Token::Byte(_) => Err("a single byte is a range's end; a word stands in double quotes".to_string()),
-            Token::Equals => Err("a second '=' stands in this line".to_string()),
+    fn text(&mut self, text: &[u8], part: Part, role: Role) -> Result<usize, Mistake> {
+        if let Some(node) = self.assembly.draft.shared_word(role, text) {
+            return Ok(node);
         }
+        let place = self.text_place(part);
+        let start = self.assembly.draft.place(text).map_err(|message| place.mistake(message))?;
+        self.word(text, start, part, role)
     }
 
-    /// Where the pool holds a text; it is added if it is not there.
-    fn place(&mut self, text: &[u8]) -> Result<usize, String> {
-        let found = (0..=self.pool.len()).find(|&start| self.pool[start..].starts_with(text));
-        found.map_or_else(|| self.append(text), Ok)
+    fn word(&mut self, text: &[u8], start: usize, part: Part, role: Role) -> Result<usize, Mistake> {
+        let node = Draft::word(start, text).map_err(|message| self.text_place(part).mistake(message))?;
+        let number = self.add(node.kind, node.operands, part, role)?;
+        self.assembly.draft.remember_word(text, number);
+        Ok(number)
     }
 
-    fn append(&mut self, text: &[u8]) -> Result<usize, String> {
-        let start = self.pool.len();
-        if start + text.len() > MAX_POOL {
-            return Err(format!("the pool would have more than {MAX_POOL} bytes"));
+    /// The node of this kind and these operands, made by a part of the text.
+    fn add(&mut self, kind: u8, operands: [usize; 3], part: Part, role: Role) -> Result<usize, Mistake> {
+        let node = Node { kind, operands };
+        if let Some(number) = self.assembly.draft.shared(role, &node) {
+            return Ok(number);
         }
-        self.pool.extend(text);
-        Ok(start)
-    }
-
-    fn word(&mut self, name: &str, is_named: bool, start: usize, text: &[u8]) -> Result<u8, String> {
-        let [high, low] = (start as u16).to_be_bytes();
-        let length = u8::try_from(text.len()).map_err(|_| "a word has at most 64 bytes".to_string())?;
-        let node = self.add(name, is_named, WORD.byte, [high, low, length])?;
-        self.words.entry(text.to_vec()).or_insert(node);
-        Ok(node)
-    }
-
-    fn add(&mut self, name: &str, is_named: bool, kind: u8, operands: [u8; 3]) -> Result<u8, String> {
-        let node = self.kinds.len();
-        if node == MAX_NODES {
-            return Err(format!("the program would have more than {MAX_NODES} nodes"));
+        let number = self.assembly.draft.add(role, node);
+        if number <= MAX_NODES {
+            let origin = self.origin(part, role);
+            self.assembly.origins.push(origin);
+            self.assembly.is_inner.push(role == Role::Inner);
         }
-        self.kinds.push(kind);
-        self.operands.push(operands);
-        self.origins.push(Origin { line: self.line, name: name.to_string(), is_named });
-        Ok(node as u8)
+        if number == MOST_COUNTED {
+            return Err(self.assembly.too_many());
+        }
+        Ok(number)
     }
-}
 
-fn byte(token: &Token) -> Option<u8> {
-    match token {
-        Token::Byte(byte) => Some(*byte),
-        Token::Number(number) => u8::try_from(*number).ok(),
-        _ => None,
+    fn origin(&self, part: Part, role: Role) -> Origin {
+        let Place { line, column } = self.place(part.first);
+        let is_named = role == Role::Named;
+        let written = || words(&self.tokens[part.first..=part.last]);
+        let words = if is_named { self.name.to_string() } else { written() };
+        Origin { line, column, name: self.name.to_string(), is_named, words }
     }
-}
-
-fn kind_words() -> String {
-    let words: Vec<&str> = KINDS.iter().map(|kind| kind.words).collect();
-    words.join(", ")
 }

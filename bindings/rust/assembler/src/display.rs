@@ -8,7 +8,7 @@
 
 use std::fmt;
 
-use crate::assembly::{MAX_NODES, MAX_POOL};
+use crate::draft::{MAX_NODES, MAX_POOL};
 use crate::kinds::{by_byte, Shape};
 use crate::line::{quote_byte, quote_text};
 
@@ -57,14 +57,14 @@ enum Shown<'a> {
 }
 
 /// The arrays of a table whose sizes are right.
-struct Parts<'a> {
-    kinds: &'a [u8],
-    operands: &'a [u8],
+pub(crate) struct Parts<'a> {
+    pub kinds: &'a [u8],
+    pub operands: &'a [u8],
     pool: &'a [u8],
 }
 
 impl<'a> Parts<'a> {
-    fn of(table: &'a [u8]) -> Result<Parts<'a>, String> {
+    pub fn of(table: &'a [u8]) -> Result<Parts<'a>, String> {
         let (sizes, rest) = match table {
             [count, high, low, rest @ ..] => {
                 ([usize::from(*count), usize::from(*high) * 256 + usize::from(*low)], rest)

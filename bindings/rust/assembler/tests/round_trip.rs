@@ -1,7 +1,10 @@
 //! Assembling what was shown gives the same bytes, for every table whose sizes
 //! are right, whether the engine takes it or not.
 
-use noontrough_assembler::{assemble, show};
+mod common;
+
+use common::*;
+use noontrough_assembler::{assemble, show, too_large};
 use noontrough_reference::generator::faults::{mutated, refused, PROGRAM_REFUSALS};
 use noontrough_reference::generator::programs::accepted;
 use noontrough_reference::generator::random::Random;
@@ -88,39 +91,90 @@ fn every_byte_in_quotes() {
     comes_back(&table);
 }
 
-/// Whatever the text is, it is told what is wrong, or it makes a table whose
-/// sizes are right.
+/// A text with some bytes changed, cut out or put in.
+fn garbled(random: &mut Random, mut text: Vec<u8>) -> Vec<u8> {
+    for _ in 0..random.between(1, 4) {
+        let place = random.below(text.len());
+        match random.below(5) {
+            0 => text[place] = random.byte(),
+            1 => text[place] = *random.pick(b"\"'\\#= \n0n()[]{}*+?,-^"),
+            2 => text.insert(place, *random.pick(b"()[]{}*+?,-^\"\n12")),
+            3 => text.truncate(place + 1),
+            _ => {
+                let end = random.between(place, text.len());
+                text.drain(place..end.min(text.len() - 1));
+            }
+        }
+    }
+    text
+}
+
+/// Whatever the text is, it is told what is wrong, at a place inside of it, or it
+/// makes a table whose sizes are right. Whether it made one.
+fn makes_a_table(text: &[u8]) -> bool {
+    match assemble(text) {
+        Ok(assembled) => {
+            comes_back(&assembled.table);
+            assert_eq!(assembled.origins.len(), usize::from(assembled.table[0]));
+            for node in 0..=assembled.origins.len() {
+                too_large(&assembled, node);
+            }
+            true
+        }
+        Err(mistake) => {
+            let line = text.split(|&byte| byte == b'\n').nth(mistake.line - 1);
+            let line = line.unwrap_or_else(|| panic!("there is no such line: {mistake}"));
+            assert!((1..=line.len() + 1).contains(&mistake.column) && !mistake.message.is_empty(), "{mistake}");
+            false
+        }
+    }
+}
+
 #[test]
 fn garbled_texts() {
     let mut random = Random::new(5);
     let (mut made, mut turned_down) = (0, 0);
     for _ in 0..3000 {
-        let mut text = show(&any_table(&mut random)).expect("the sizes are right").into_bytes();
-        for _ in 0..random.between(1, 4) {
-            let place = random.below(text.len());
-            match random.below(4) {
-                0 => text[place] = random.byte(),
-                1 => text[place] = *random.pick(b"\"'\\#= \n0n"),
-                2 => text.truncate(place + 1),
-                _ => {
-                    let end = random.between(place, text.len());
-                    text.drain(place..end.min(text.len() - 1));
-                }
-            }
-        }
-        match assemble(&text) {
-            Ok(assembled) => {
-                comes_back(&assembled.table);
-                made += 1;
-            }
-            Err(mistake) => {
-                let lines = text.split(|&byte| byte == b'\n').count();
-                assert!((1..=lines).contains(&mistake.line) && !mistake.message.is_empty(), "{mistake}");
-                turned_down += 1;
-            }
-        }
+        let text = show(&any_table(&mut random)).expect("the sizes are right").into_bytes();
+        let is_made = makes_a_table(&garbled(&mut random, text));
+        *(if is_made { &mut made } else { &mut turned_down }) += 1;
     }
     assert!(made > 100 && turned_down > 100, "{made} made, {turned_down} turned down");
+}
+
+#[test]
+fn garbled_short_forms() {
+    let programs: Vec<Vec<u8>> = ["composers.lens", "kerning.lens"]
+        .iter()
+        .map(|name| read(&in_repository("bindings/rust/assembler/tests/data").join(name)))
+        .chain([b"a = copy ([^a-z\\]-]{2,4}+? | \"x\")\nb = (lens union (match a) (key [-0]))*".to_vec()])
+        .collect();
+    let mut random = Random::new(6);
+    let (mut made, mut turned_down) = (0, 0);
+    for _ in 0..20_000 {
+        let text = random.pick(&programs).clone();
+        let is_made = makes_a_table(&garbled(&mut random, text));
+        *(if is_made { &mut made } else { &mut turned_down }) += 1;
+    }
+    assert!(made > 1000 && turned_down > 1000, "{made} made, {turned_down} turned down");
+}
+
+/// Texts of nothing but the form's own tokens.
+#[test]
+fn tokens_at_random() {
+    let tokens = "a|b| = |\n|(|)|(|)|*|+|?|{|}|{2}|{1,3}|{2,}|{0}|,|1|200|\"x\"|\"\"|'x'|[a-z]|[^x]|[|]|#| |\
+        join |lens |copy |match |key |const |raw |word |range |pool |at |\nc = |\nd = copy |\ne = lens join ";
+    let tokens: Vec<&str> = tokens.split('|').collect();
+    let mut random = Random::new(7);
+    let mut made = 0;
+    for _ in 0..40_000 {
+        let mut text = String::from("a = [a-z]\nb = copy a\nf = ");
+        for _ in 0..random.between(1, 12) {
+            text += *random.pick(&tokens);
+        }
+        made += usize::from(makes_a_table(text.as_bytes()));
+    }
+    assert!(made > 500, "{made} made");
 }
 
 /// A text is not changed by a second turn.

@@ -23,9 +23,15 @@ impl Reading {
         self.first <= byte && byte <= self.last
     }
 
+    /// The first and the last byte that both moves take, if they share any.
+    pub fn shared(&self, other: &Reading) -> Option<(u8, u8)> {
+        let (first, last) = (self.first.max(other.first), self.last.min(other.last));
+        (first <= last).then_some((first, last))
+    }
+
     /// Whether some byte is taken by both moves.
     pub fn meets(&self, other: &Reading) -> bool {
-        self.first.max(other.first) <= self.last.min(other.last)
+        self.shared(other).is_some()
     }
 }
 
@@ -215,7 +221,7 @@ impl Builder<'_> {
 }
 
 /// The states that the bytes read so far can lead to.
-struct Run<'a> {
+pub(crate) struct Run<'a> {
     states: &'a [State],
     active: Vec<usize>,
     is_active: Vec<bool>,
@@ -224,7 +230,7 @@ struct Run<'a> {
 }
 
 impl<'a> Run<'a> {
-    fn new(states: &'a [State], start: usize) -> Run<'a> {
+    pub(crate) fn new(states: &'a [State], start: usize) -> Run<'a> {
         let mut run = Run { states, active: Vec::new(), is_active: vec![false; states.len()], before: Vec::new() };
         run.enter(start);
         run.follow_free_moves();
@@ -251,7 +257,7 @@ impl<'a> Run<'a> {
         }
     }
 
-    fn step(&mut self, byte: u8) {
+    pub(crate) fn step(&mut self, byte: u8) {
         std::mem::swap(&mut self.active, &mut self.before);
         self.active.clear();
         for &state in &self.before {
@@ -267,12 +273,16 @@ impl<'a> Run<'a> {
         self.follow_free_moves();
     }
 
-    fn count_readers(&self, byte: u8) -> usize {
-        let readings = self.active.iter().filter_map(|&state| self.states[state].reading);
-        readings.filter(|reading| reading.takes(byte)).count()
+    /// The reading moves that can come next.
+    pub(crate) fn readings(&self) -> impl Iterator<Item = Reading> + '_ {
+        self.active.iter().filter_map(|&state| self.states[state].reading)
     }
 
-    fn is_at(&self, state: usize) -> bool {
+    fn count_readers(&self, byte: u8) -> usize {
+        self.readings().filter(|reading| reading.takes(byte)).count()
+    }
+
+    pub(crate) fn is_at(&self, state: usize) -> bool {
         self.is_active[state]
     }
 

@@ -17,6 +17,8 @@
 //! | [`ambiguity`] | two cuts of one text, and texts of two languages |
 //! | [`program`] | the second round (6 to 11); the only cut of a text |
 //! | [`lens`] | get, key, book, put and create |
+//! | [`clash`] | the text that shows a refusal 7 to 11 |
+//! | [`reach`] | how far a text that does not fit could be read |
 //! | [`calls`] | the four calls and their order of refusals (12 to 16) |
 //! | [`generator`] | seeded random programs, texts and calls |
 //! | [`walk`] | the parts of a text by the nodes that read them |
@@ -29,10 +31,12 @@ pub mod answer;
 pub mod automaton;
 pub mod calls;
 pub mod census;
+pub mod clash;
 pub mod demand3;
 pub mod generator;
 pub mod lens;
 pub mod program;
+pub mod reach;
 pub mod table;
 pub mod trial;
 pub mod walk;

@@ -9,7 +9,8 @@ use crate::answer::*;
 use crate::automaton::Automaton;
 use crate::table::{Node, Side, Table, SIDES};
 
-/// An accepted program.
+/// An accepted program. Only inside this crate one may be met that is refused in
+/// the second round, so that the refusal can be looked into.
 pub struct Program {
     table: Table,
     automata: Automata,
@@ -18,11 +19,15 @@ pub struct Program {
 impl Program {
     /// Reads and checks a table: the refusals 1 to 11.
     pub fn read(bytes: &[u8]) -> Result<Program, Refusal> {
+        let program = Program::after_first_round(bytes)?;
+        program.first_typing_fault().map_or(Ok(program), Err)
+    }
+
+    /// Reads a table with the refusals 1 to 5 only.
+    pub(crate) fn after_first_round(bytes: &[u8]) -> Result<Program, Refusal> {
         let table = Table::read(bytes)?;
         let automata = Automata::new(table.nodes.len());
-        let program = Program { table, automata };
-        program.second_round()?;
-        Ok(program)
+        Ok(Program { table, automata })
     }
 
     pub fn table(&self) -> &Table {
@@ -47,11 +52,11 @@ impl Program {
         self.automaton(node, side).contains(text)
     }
 
-    fn second_round(&self) -> Result<(), Refusal> {
-        for number in 0..self.table.nodes.len() {
-            self.typing_fault(number).map_or(Ok(()), |refusal| Err(Refusal::at(refusal, number)))?;
-        }
-        Ok(())
+    /// The second round, the refusals 6 to 11: that of the lowest node that
+    /// breaks a typing rule.
+    pub(crate) fn first_typing_fault(&self) -> Option<Refusal> {
+        let at_node = |node| self.typing_fault(node).map(|number| Refusal::at(number, node));
+        (0..self.table.nodes.len()).find_map(at_node)
     }
 
     /// The typing rule that a node breaks. On nodes that break it on both sides

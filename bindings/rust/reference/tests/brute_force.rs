@@ -1,10 +1,12 @@
 //! The automata and the ambiguity checks against lists of all short texts,
 //! worked out from the patterns with no automaton at all.
 
+mod common;
+
 use std::collections::BTreeSet;
 
-use noontrough_reference::generator::draft::{Draft, NodeNumber};
-use noontrough_reference::generator::programs::{grown, two_kinds, Room};
+use common::with_new_root;
+use noontrough_reference::generator::programs::{grown, Room};
 use noontrough_reference::generator::random::Random;
 use noontrough_reference::table::{Node, Side, Table, SIDES};
 use noontrough_reference::{Calls, Program, Reference, Refusal};
@@ -86,19 +88,6 @@ fn shown_fault(table: &Table) -> Option<Option<u8>> {
     let (in_source, in_sheet) = (fails(Side::Source)?, fails(Side::Sheet)?);
     let fault = if in_source { Some(numbers[0]) } else { in_sheet.then_some(numbers[1]) };
     Some(fault)
-}
-
-/// An accepted program with one more join, union or repeat on top.
-fn with_new_root(random: &mut Random) -> Draft {
-    let mut draft = if random.once_in(4) { two_kinds(random) } else { grown(random, Room::SMALL) };
-    let lenses: Vec<NodeNumber> = draft.lenses();
-    let (a, b) = (*random.pick(&lenses), *random.pick(&lenses));
-    match random.below(5) {
-        0 | 1 => draft.lens_join(a, b),
-        2 => draft.lens_union(a, b),
-        _ => draft.lens_repeat(a),
-    };
-    draft
 }
 
 #[test]

@@ -141,28 +141,6 @@ fn automata_are_not_made_deterministic() {
     assert_eq!(get(&table, &source), refused(13));
 }
 
-/// Parts `c (a^p)*`, `c a (a^q)* d` and `d`: two cuts exactly if some number is
-/// 0 modulo p and 1 modulo q.
-fn two_moduli(p: usize, q: usize) -> Vec<u8> {
-    let mut draft = Draft::new();
-    let power = |draft: &mut Draft, count: usize| {
-        let text = b"a".repeat(count);
-        let word = draft.word(&text);
-        draft.pattern_repeat(word)
-    };
-    let c = draft.copy_word(b"c");
-    let (by_p, by_q) = (power(&mut draft, p), power(&mut draft, q));
-    let (by_p, by_q) = (draft.copy(by_p), draft.copy(by_q));
-    let d = draft.copy_word(b"d");
-    let ca = draft.copy_word(b"ca");
-    let first = draft.lens_join(c, by_p);
-    let second = draft.lens_row(&[ca, by_q, d]);
-    let arms = draft.lens_union(first, second);
-    let part = draft.lens_union(arms, d);
-    draft.lens_repeat(part);
-    draft.table()
-}
-
 #[test]
 fn long_texts_with_two_cuts_are_found() {
     // The shortest has 3,723 bytes; with both moduli even there is none.
@@ -171,15 +149,8 @@ fn long_texts_with_two_cuts_are_found() {
     let table = two_moduli(60, 62);
     assert_eq!(check(&table), Ok(usize::from(table[0])));
     // One cut at 0 and one at 4,095, and no other.
-    let mut draft = Draft::new();
-    let powers = [63, 65].map(|count| {
-        let (half, rest) = (draft.word(&b"a".repeat(count / 2)), draft.word(&b"a".repeat(count - count / 2)));
-        let word = draft.pattern_join(half, rest);
-        let many = draft.pattern_repeat(word);
-        draft.copy(many)
-    });
-    let join = draft.lens_join(powers[0], powers[1]);
-    assert_eq!(check(&draft.table()), refuses(7, join));
+    let table = joined_powers(63, 65);
+    assert_eq!(check(&table), refuses(7, table[0] - 1));
 }
 
 #[test]

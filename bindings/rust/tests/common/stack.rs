@@ -5,7 +5,8 @@
 //! far down it went. A frame may reserve a little below the lowest word that it
 //! writes, so a thread needs a few kilobytes more than the figure.
 
-use noontrough::{check, create, get, put, Answer, MAX_TEXT};
+use noontrough::in_place::{check, create, get, put};
+use noontrough::{Answer, MAX_TEXT};
 use noontrough_reference::generator::draft::{Draft, NodeNumber};
 
 /// The stack of the thread that measures, and how much of it is painted: more
@@ -34,13 +35,13 @@ pub const CALLS: [Call; 4] = [Call::Check, Call::Get, Call::Put, Call::Create];
 /// A program, and texts with which all its calls give a result.
 pub struct Case {
     pub name: String,
-    table: Vec<u8>,
+    pub table: Vec<u8>,
     /// The source of get.
-    source: Vec<u8>,
+    pub source: Vec<u8>,
     /// The old source of put.
-    old: Vec<u8>,
+    pub old: Vec<u8>,
     /// The sheet of put and create.
-    sheet: Vec<u8>,
+    pub sheet: Vec<u8>,
 }
 
 impl Case {
@@ -271,7 +272,8 @@ fn wide_entry(draft: &mut Draft) {
 }
 
 /// The joins inside the entry: its sheet is made, and the key read, at their foot.
-fn joins_inside_a_long_sheet() -> Case {
+/// No put is known that takes more stack.
+pub fn joins_inside_a_long_sheet() -> Case {
     let mut draft = Draft::new();
     let nothing = draft.copy_word(b"");
     wide_entry(&mut draft);

@@ -4,6 +4,8 @@
 
 use noontrough_reference::generator::cases::{Call, Case};
 use noontrough_reference::generator::draft::{Draft, NodeNumber};
+use noontrough_reference::generator::programs::{grown, two_kinds, Room};
+use noontrough_reference::generator::random::Random;
 use noontrough_reference::trial::{run, Outcome};
 use noontrough_reference::{Answer, Calls, Reference, Refusal};
 
@@ -28,6 +30,55 @@ pub fn dollar(draft: &mut Draft) -> NodeNumber {
     let tail = draft.pattern_join(zs, end);
     let row = [draft.key(xs), draft.delete(ys, b""), draft.copy(tail)];
     draft.lens_row(&row)
+}
+
+/// Parts `c (a^p)*`, `c a (a^q)* d` and `d`: two cuts exactly if some number is
+/// 0 modulo p and 1 modulo q.
+pub fn two_moduli(p: usize, q: usize) -> Vec<u8> {
+    let mut draft = Draft::new();
+    let power = |draft: &mut Draft, count: usize| {
+        let text = b"a".repeat(count);
+        let word = draft.word(&text);
+        draft.pattern_repeat(word)
+    };
+    let c = draft.copy_word(b"c");
+    let (by_p, by_q) = (power(&mut draft, p), power(&mut draft, q));
+    let (by_p, by_q) = (draft.copy(by_p), draft.copy(by_q));
+    let d = draft.copy_word(b"d");
+    let ca = draft.copy_word(b"ca");
+    let first = draft.lens_join(c, by_p);
+    let second = draft.lens_row(&[ca, by_q, d]);
+    let arms = draft.lens_union(first, second);
+    let part = draft.lens_union(arms, d);
+    draft.lens_repeat(part);
+    draft.table()
+}
+
+/// The join of `(a^p)*` and `(a^q)*`. If p and q have no common divisor, no text
+/// shorter than p times q bytes has two cuts.
+pub fn joined_powers(p: usize, q: usize) -> Vec<u8> {
+    let mut draft = Draft::new();
+    let [first, second] = [p, q].map(|count| {
+        let (half, rest) = (draft.word(&b"a".repeat(count / 2)), draft.word(&b"a".repeat(count - count / 2)));
+        let word = draft.pattern_join(half, rest);
+        let many = draft.pattern_repeat(word);
+        draft.copy(many)
+    });
+    draft.lens_join(first, second);
+    draft.table()
+}
+
+/// An accepted program with one more join, union or repeat on top.
+pub fn with_new_root(random: &mut Random) -> Draft {
+    let mut draft = if random.once_in(4) { two_kinds(random) } else { grown(random, Room::SMALL) };
+    let lenses: Vec<NodeNumber> = draft.lenses();
+    let (a, b) = (*random.pick(&lenses), *random.pick(&lenses));
+    match random.below(5) {
+        0 | 1 => draft.lens_join(a, b),
+        2 => draft.lens_union(a, b),
+        _ => draft.lens_repeat(a),
+    };
+    draft
 }
 
 pub fn check(table: &[u8]) -> Answer {

@@ -14,18 +14,27 @@
 //!
 //! `in both` says which line of the text made the node. `into 2` lends a buffer
 //! of 2 bytes; otherwise it is 4,096 bytes long. A line that ends in a backslash
-//! goes on in the next. Of a block marked `sh` the lines of `sheet-assemble` are
-//! run in a copy of the folder examples/k.
+//! goes on in the next. Each call is made on the linked engine and on the
+//! reference, and both must do what the line says.
+//!
+//! A block marked `console k` is run in a copy of the folder examples/k: each line
+//! behind `$ ` is a command, and below it stands all that it writes, standard
+//! output first and then standard error.
 
 mod common;
+#[allow(dead_code)] // Other tests run on a thread of its making.
+#[path = "../../tests/common/mod.rs"]
+mod linked;
 
 use std::collections::BTreeSet;
-use std::process::Command;
 
 use common::*;
+use linked::Engine;
 use noontrough_assembler::line::{quote_text, tokens, Token};
 use noontrough_assembler::{assemble, Origin};
 use noontrough_reference::{Calls, Reference, Refusal};
+
+const BUFFER: usize = 4096;
 
 struct Block {
     /// The line in the guide where it begins.
@@ -36,8 +45,8 @@ struct Block {
     heading: Option<u8>,
 }
 
-fn guide() -> String {
-    String::from_utf8(read(&in_repository("docs/GUIDE.md"))).expect("the guide is UTF-8")
+fn page(name: &str) -> String {
+    String::from_utf8(read(&in_repository(name))).expect("the page is UTF-8")
 }
 
 fn blocks(guide: &str) -> Vec<Block> {
@@ -131,25 +140,41 @@ impl Reader<'_> {
     }
 }
 
-/// What comes of the call at the start of a line.
-fn outcome(reader: &mut Reader, table: &[u8]) -> Saying {
-    let text = |result: Result<Vec<u8>, Refusal>| result.map_or_else(Saying::Refused, Saying::Gives);
+/// A call of a line, with its texts and the length of the lent buffer.
+enum Wanted {
+    Check,
+    Get(Vec<u8>, usize),
+    Put(Vec<u8>, Vec<u8>, usize),
+    Create(Vec<u8>, usize),
+}
+
+/// The call at the start of a line.
+fn wanted(reader: &mut Reader) -> Wanted {
     if reader.word("check") {
-        Reference.check(table).map_or_else(Saying::Refused, Saying::Ok)
+        Wanted::Check
     } else if reader.word("get") {
-        let source = reader.text();
-        text(get(table, &source, reader.lent()))
+        Wanted::Get(reader.text(), reader.lent())
     } else if reader.word("put") {
         let sheet = reader.text();
         assert!(reader.word("on"), "'on' is wanted: {:?}", reader.rest);
-        let source = reader.text();
-        text(put(table, &sheet, &source, reader.lent()))
+        Wanted::Put(sheet, reader.text(), reader.lent())
     } else if reader.word("create") {
-        let sheet = reader.text();
-        text(create(table, &sheet, reader.lent()))
+        Wanted::Create(reader.text(), reader.lent())
     } else {
         panic!("a call is wanted: {:?}", reader.rest)
     }
+}
+
+/// What comes of a call.
+fn outcome(calls: &dyn Calls, table: &[u8], wanted: &Wanted) -> Saying {
+    let mut out = vec![b'?'; BUFFER.max(8192)];
+    let answer = match wanted {
+        Wanted::Check => return calls.check(table).map_or_else(Saying::Refused, Saying::Ok),
+        Wanted::Get(source, lent) => calls.get(table, source, &mut out[..*lent]),
+        Wanted::Put(sheet, source, lent) => calls.put(table, sheet, source, &mut out[..*lent]),
+        Wanted::Create(sheet, lent) => calls.create(table, sheet, &mut out[..*lent]),
+    };
+    answer.map_or_else(Saying::Refused, |length| Saying::Gives(out[..length].to_vec()))
 }
 
 /// What the rest of a line says; a refusal of a node must name its line.
@@ -189,54 +214,63 @@ fn told(saying: &Saying) -> String {
     }
 }
 
+/// What came of the calls of the guide so far.
+#[derive(Default)]
+struct Tally {
+    count: usize,
+    faults: Vec<String>,
+    /// The refusals that were shown under a heading with their number.
+    shown: BTreeSet<u8>,
+}
+
+impl Tally {
+    fn run(&mut self, block: &Block, subject: &Subject, call: &str) {
+        let tokens = tokens(call.as_bytes()).unwrap_or_else(|error| panic!("{call}: {error}"));
+        if tokens.is_empty() {
+            return;
+        }
+        self.count += 1;
+        let mut reader = Reader { rest: &tokens };
+        let wanted = wanted(&mut reader);
+        let happened = outcome(&Engine, &subject.table, &wanted);
+        assert_eq!(happened, outcome(&Reference, &subject.table, &wanted), "{call}: by the reference");
+        if let (Saying::Refused(refusal), Some(heading)) = (&happened, block.heading) {
+            self.shown.extend((refusal.number == heading).then_some(heading));
+        }
+        let wrong = match saying(&mut reader, subject) {
+            Ok(said) if said == happened => return,
+            Ok(_) => "but".to_string(),
+            Err(error) => format!("{error};"),
+        };
+        self.faults.push(format!("behind line {}: {call}\n    {wrong} it {}", block.line, told(&happened)));
+    }
+}
+
 #[test]
 fn programs_and_calls() {
+    let mut tally = Tally::default();
     let mut subject: Option<Subject> = None;
     let mut waiting = false;
-    let mut faults = Vec::new();
-    let mut shown = BTreeSet::new();
-    let mut count = 0;
-    for block in blocks(&guide()) {
-        let line = block.line;
+    for block in blocks(&page("docs/GUIDE.md")) {
         match block.language.as_str() {
             "lens" | "table" => {
-                assert!(!waiting, "line {line}: the program before has no calls");
+                assert!(!waiting, "line {}: the program before has no calls", block.line);
                 waiting = true;
                 subject = Some(read_program(&block));
             }
             "calls" => {
                 waiting = false;
-                let subject = subject.as_ref().unwrap_or_else(|| panic!("line {line}: no program stands above"));
-                for call in block.text.replace("\\\n", " ").lines() {
-                    let tokens = tokens(call.as_bytes()).unwrap_or_else(|error| panic!("{call}: {error}"));
-                    if tokens.is_empty() {
-                        continue;
-                    }
-                    count += 1;
-                    let mut reader = Reader { rest: &tokens };
-                    let happened = outcome(&mut reader, &subject.table);
-                    if let (Saying::Refused(refusal), Some(heading)) = (&happened, block.heading) {
-                        if refusal.number == heading {
-                            shown.insert(heading);
-                        }
-                    }
-                    match saying(&mut reader, subject) {
-                        Ok(said) if said == happened => (),
-                        Ok(_) => faults.push(format!("behind line {line}: {call}\n    but it {}", told(&happened))),
-                        Err(error) => {
-                            faults.push(format!("behind line {line}: {call}\n    {error}; it {}", told(&happened)))
-                        }
-                    }
-                }
+                let subject = subject.as_ref().expect("a program stands above the calls");
+                block.text.replace("\\\n", " ").lines().for_each(|call| tally.run(&block, subject, call));
             }
-            "sh" => (),
-            other => panic!("line {line}: a block marked '{other}' is not run"),
+            console if console.starts_with("console ") => (),
+            other => panic!("line {}: a block marked '{other}' is not run", block.line),
         }
     }
     assert!(!waiting, "the last program has no calls");
-    assert!(faults.is_empty(), "\n{}", faults.join("\n"));
-    assert_eq!(shown, (1..=16).collect(), "every refusal is shown under its own heading");
-    println!("{count} calls");
+    assert!(tally.faults.is_empty(), "\n{}", tally.faults.join("\n"));
+    assert_eq!(tally.shown, (1..=16).collect(), "every refusal is shown under its own heading");
+    println!("{} calls", tally.count);
 }
 
 fn read_program(block: &Block) -> Subject {
@@ -250,24 +284,33 @@ fn read_program(block: &Block) -> Subject {
     }
 }
 
+/// What a command writes, as the guide prints it.
+fn printed(folder: &Folder, command: &str) -> String {
+    let done = folder.sh(command);
+    let mut both = done.stdout;
+    if !both.is_empty() && !both.ends_with('\n') {
+        both.push('\n');
+    }
+    both + &done.stderr
+}
+
+/// Runs the commands of a block one after the other in one folder.
+fn run_console(block: &Block, example: &str) {
+    let folder = Folder::of_example(example);
+    let mut happened = String::new();
+    for command in block.text.lines().filter_map(|line| line.strip_prefix("$ ")) {
+        happened += &format!("$ {command}\n{}", printed(&folder, command));
+    }
+    assert_eq!(happened, block.text, "the block behind line {}", block.line);
+}
+
+fn console_blocks(page: &str) -> usize {
+    let blocks = blocks(page);
+    let consoles = blocks.iter().filter_map(|block| block.language.strip_prefix("console ").map(|name| (block, name)));
+    consoles.map(|(block, example)| run_console(block, example)).count()
+}
+
 #[test]
 fn commands() {
-    let folder = std::env::temp_dir().join(format!("noontrough-guide-{}", std::process::id()));
-    std::fs::create_dir_all(&folder).expect("a folder for the commands");
-    for file in ["program.lens", "source", "edited"] {
-        std::fs::copy(in_repository("examples/k").join(file), folder.join(file)).expect("the example is there");
-    }
-    let program = env!("CARGO_BIN_EXE_sheet-assemble");
-    let mut count = 0;
-    for block in blocks(&guide()).iter().filter(|block| block.language == "sh") {
-        for command in block.text.lines().filter(|line| line.starts_with("sheet-assemble ")) {
-            let command = command.replacen("sheet-assemble", "\"$0\"", 1);
-            let status = Command::new("sh").args(["-c", &command, program]).current_dir(&folder).output();
-            assert!(status.expect("sh runs").status.success(), "{command}");
-            count += 1;
-        }
-    }
-    assert_eq!(read(&folder.join("program.table")), read(&in_repository("examples/k/program.table")));
-    assert!(count >= 2);
-    std::fs::remove_dir_all(&folder).expect("the folder can go");
+    assert!(console_blocks(&page("docs/GUIDE.md")) >= 5);
 }

@@ -1,0 +1,271 @@
+"""Kerning sources as plain sheets, and edited sheets back as sources.
+
+A lens program, given as a table of bytes, says how a source and its sheet
+belong together. Every text is bytes, and every call checks the program itself:
+
+    check(table)                gives the number of nodes
+    get(table, source)          gives the sheet of a source
+    put(table, sheet, source)   gives the new source for an edited sheet
+    create(table, sheet)        gives a source for a sheet alone
+
+What the engine turns down is raised as a Refusal. This module only hands the
+bytes over; the engine is a shared library, which bindings/python/build makes.
+"""
+
+from __future__ import annotations
+
+import ctypes
+import functools
+import os
+import threading
+from concurrent.futures import Future
+from typing import Callable, Dict, Union
+
+__all__ = ["MAX_TEXT", "SENTENCES", "Refusal", "check", "create", "get", "put"]
+
+#: The longest source, sheet and result, in bytes.
+MAX_TEXT = 4096
+
+#: What each refusal means and what to do, in the words of the command line.
+SENTENCES: Dict[int, str] = {
+    1: "The sizes of the table are wrong, so it is no whole program:"
+       " make it again with noontrough assemble, and copy it as binary.",
+    2: "This node is of a kind that the engine does not know:"
+       " the table was damaged or made for another engine, so make it again.",
+    3: "An operand of this node breaks a rule, or the last node is no lens:"
+       " see what each kind takes, and put the whole program last.",
+    4: "This node is a match that holds another match:"
+       " decide which of the two is the entry, and take the other match away.",
+    5: "This node passes size 512 or 128 positions a side:"
+       " use ranges and repeats for long words, and say once what arms share.",
+    6: "The default of this const is no text of its pattern:"
+       " give a default that fits, or let the pattern take this one.",
+    7: "A source of this join can be cut in two ways:"
+       " put a mark between the halves, or make one lens of both.",
+    8: "A sheet of this join can be cut in two ways:"
+       " show a mark between the halves, or make one lens of both.",
+    9: "A text is a source of both arms of this union:"
+       " write arms that share no source, or make one lens of both.",
+    10: "A source of this repeat can be cut into parts in two ways, or a part can be empty:"
+        " give each part an end of its own.",
+    11: "A sheet of this repeat can be cut into parts in two ways, or a part can be empty:"
+        " end each part with a mark that the sheet shows.",
+    12: "The source or the sheet is longer than 4,096 bytes:"
+        " divide it at the ends of entries.",
+    13: "The source is none of this program:"
+        " correct what the program does not foresee, often a newline at the end of the file.",
+    14: "The sheet is none of this program:"
+        " correct what the program does not foresee, often a newline at the end of the file.",
+    15: "The old source has more than 256 entries:"
+        " divide it, or let match mark larger pieces.",
+    16: "The result would be longer than 4,096 bytes:"
+        " divide the sheet or the source.",
+}
+
+BytesLike = Union[bytes, bytearray, memoryview]
+
+
+class Refusal(Exception):
+    """The engine's answer where it gives no result.
+
+    `number` is from 1 to 16. `node` is the node concerned for 2 to 11, counted
+    from 0, and else 0. `sentence` says what the number means and what to do;
+    docs/GUIDE.md has an example of each.
+    """
+
+    def __init__(self, number: int, node: int) -> None:
+        # Both go to Exception as they came, so that a refusal can be pickled.
+        super().__init__(number, node)
+        self.number = number
+        self.node = node
+        self.sentence = SENTENCES.get(number, "The engine gave a number that this module does not know.")
+
+    def __str__(self) -> str:
+        return f"refused {self.number} {self.node}: {self.sentence}"
+
+
+def check(table: BytesLike) -> int:
+    """Tests a program, and gives its number of nodes."""
+    return _length("noontrough_check", _READ_STACK, _copied("table", table))
+
+
+def get(table: BytesLike, source: BytesLike) -> bytes:
+    """Gives the sheet of a source."""
+    return _text("noontrough_get", _READ_STACK, _copied("table", table), _copied("source", source))
+
+
+def put(table: BytesLike, sheet: BytesLike, source: BytesLike) -> bytes:
+    """Gives the new source for an edited sheet and the old source.
+
+    Entries are found by their keys, and what the sheet does not show comes from
+    the old source.
+    """
+    slices = _copied("table", table), _copied("sheet", sheet), _copied("source", source)
+    return _text("noontrough_put", _WRITE_STACK, *slices)
+
+
+def create(table: BytesLike, sheet: BytesLike) -> bytes:
+    """Gives a source for a sheet alone, with the program's defaults for the rest."""
+    return _text("noontrough_create", _WRITE_STACK, _copied("table", table), _copied("sheet", sheet))
+
+
+def _copied(name: str, value: BytesLike) -> bytes:
+    """The bytes of an argument, as an object that no other thread can change during the call."""
+    if type(value) is bytes:
+        return value
+    if isinstance(value, str):
+        raise TypeError(
+            f"{name} is a str, and the engine takes bytes: encode it, or read the file in binary, as open(path, 'rb') does"
+        )
+    try:
+        view = memoryview(value)
+    except TypeError:
+        raise TypeError(f"{name} must be bytes-like, not {type(value).__name__}") from None
+    return view.tobytes()
+
+
+def _text(function: str, stack: int, *slices: bytes) -> bytes:
+    """Makes a call that gives a text. Every result fits the buffer, and no two calls share one."""
+    out = ctypes.create_string_buffer(MAX_TEXT)
+    length = _length(function, stack, *slices, out)
+    return ctypes.string_at(out, length)
+
+
+def _length(function: str, stack: int, *slices: Union[bytes, ctypes.Array]) -> int:
+    """Makes a call and gives the length that it answers.
+
+    An empty bytes object has an address too, so no pointer is null.
+    """
+    arguments = [part for each in slices for part in (each, len(each))]
+    made = getattr(_library(), function)
+    answer = _with_stack(stack, lambda: made(*arguments))
+    if answer.number:
+        raise Refusal(answer.number, answer.node)
+    return answer.length
+
+
+# The library
+
+class _Answer(ctypes.Structure):
+    """struct noontrough_answer of include/noontrough.h."""
+
+    _fields_ = [("number", ctypes.c_uint64), ("node", ctypes.c_uint64), ("length", ctypes.c_uint64)]
+
+
+#: How many slices each function takes, the buffer for the result included.
+_FUNCTIONS = {"noontrough_check": 1, "noontrough_get": 3, "noontrough_put": 4, "noontrough_create": 3}
+
+_FOLDER = os.path.dirname(os.path.abspath(__file__))
+
+
+@functools.lru_cache(maxsize=None)
+def _library() -> ctypes.CDLL:
+    """The engine's library, loaded by the first call, so that the module can be imported without it."""
+    named = os.environ.get("NOONTROUGH_LIBRARY")
+    path = os.path.abspath(named or os.path.join(_FOLDER, "libnoontrough.so"))
+    if not os.path.isfile(path):
+        raise ImportError(f"The engine's shared library is missing: {path}. {_advice(named)}")
+    try:
+        library = ctypes.CDLL(path)
+        for name, slices in _FUNCTIONS.items():
+            function = getattr(library, name)
+            function.argtypes = [ctypes.c_char_p, ctypes.c_size_t] * slices
+            function.restype = _Answer
+    except (OSError, AttributeError) as error:
+        raise ImportError(f"The engine's shared library can't be used: {path} ({error}). {_advice(named)}") from error
+    return library
+
+
+def _advice(named: Union[str, None]) -> str:
+    """What to do about a library that is missing or wrong."""
+    if named:
+        return "NOONTROUGH_LIBRARY names it: correct that, or unset it to use the library beside the module."
+    script = os.path.join(os.path.dirname(_FOLDER), "build")
+    if os.path.isfile(script):
+        return f"Build it with this command: {script}"
+    return "Run bindings/python/build in the repository and install the module again, or name a library in NOONTROUGH_LIBRARY."
+
+
+# The stack
+#
+# A call that finds too little stack ends the process. So a call is made on a
+# thread of its own where the caller's stack is small, or its size unknown.
+
+#: The most that check and get take, and the most that any call takes (include/noontrough.h).
+_READ_STACK = 704 * 1024
+_WRITE_STACK = 1840 * 1024
+
+#: What the caller's own frames may hold already: over 2 MiB have been seen within Python's usual limit of recursion.
+_IN_USE = 4096 * 1024
+
+#: The stack of a thread that is started for one call. It is only reserved, and has room for what Python itself takes.
+_THREAD_STACK = 4096 * 1024
+
+_Call = Callable[[], _Answer]
+
+_here = threading.local()
+_starting = threading.Lock()
+
+
+def _with_stack(stack: int, call: _Call) -> _Answer:
+    """Makes a call where it has so many bytes of stack."""
+    if _stack_here() >= stack + _IN_USE:
+        return call()
+    return _on_a_thread(call)
+
+
+def _stack_here() -> int:
+    """The size of this thread's stack. It is asked for once, since the main thread's takes a while to find."""
+    try:
+        return _here.stack
+    except AttributeError:
+        _here.stack = _find_stack()
+        return _here.stack
+
+
+def _find_stack() -> int:
+    """The size of this thread's stack, and 0 where the system does not tell."""
+    try:
+        system = ctypes.CDLL(None)
+        names = "pthread_self", "pthread_getattr_np", "pthread_attr_getstack", "pthread_attr_destroy"
+        this, read, stack_of, destroy = [getattr(system, name) for name in names]
+    except (OSError, AttributeError, TypeError):
+        return 0
+    this.restype = ctypes.c_void_p
+    attributes = (ctypes.c_uint64 * 64)()  # more than a pthread_attr_t takes anywhere
+    low, size = ctypes.c_void_p(), ctypes.c_size_t()
+    if read(ctypes.c_void_p(this()), attributes) != 0:
+        return 0
+    failed = stack_of(attributes, ctypes.byref(low), ctypes.byref(size))
+    destroy(attributes)
+    return 0 if failed else size.value
+
+
+def _on_a_thread(call: _Call) -> _Answer:
+    """Makes a call on a thread of its own, and waits for it."""
+    answer: Future = Future()
+
+    def run() -> None:
+        try:
+            answer.set_result(call())
+        except BaseException as error:  # whatever it is, the caller is the one to know
+            answer.set_exception(error)
+
+    thread = threading.Thread(target=run, name="noontrough")
+    _start(thread)
+    thread.join()
+    return answer.result()
+
+
+def _start(thread: threading.Thread) -> None:
+    """Starts a thread with a stack that is large enough.
+
+    The size for new threads is one for the whole process, so it is set and put
+    back by one thread at a time.
+    """
+    with _starting:
+        before = threading.stack_size(_THREAD_STACK)
+        try:
+            thread.start()
+        finally:
+            threading.stack_size(before)

@@ -1,0 +1,74 @@
+//! No call overflows a stack, whatever thread it is made from.
+//!
+//! The program is the one whose put takes most. A stack that overflows ends the
+//! process, so a call that finds no room fails the whole test file.
+
+#[allow(dead_code)] // Other test files measure the stack by it.
+#[path = "common/stack.rs"]
+mod stack;
+
+use noontrough::{check, create, get, put, Answer, MAX_TEXT};
+use stack::{joins_inside_a_long_sheet as largest, Case};
+
+/// Far less than the call takes.
+const SMALL: usize = 64 * 1024;
+
+/// Makes each call through the safe wrappers; all must give results.
+fn make_all(case: &Case) {
+    let mut out = vec![0; MAX_TEXT];
+    let answers = [
+        check(&case.table),
+        get(&case.table, &case.source, &mut out),
+        put(&case.table, &case.sheet, &case.old, &mut out),
+        create(&case.table, &case.sheet, &mut out),
+    ];
+    for answer in answers {
+        assert!(matches!(answer, Answer::Result { .. }), "{answer:?}");
+    }
+}
+
+#[test]
+fn from_a_test() {
+    make_all(&largest());
+}
+
+#[test]
+fn from_a_plain_thread() {
+    let case = largest();
+    std::thread::spawn(move || make_all(&case)).join().expect("the calls give results");
+}
+
+#[test]
+fn from_a_thread_with_a_small_stack() {
+    let case = largest();
+    let thread = std::thread::Builder::new().stack_size(SMALL);
+    thread.spawn(move || make_all(&case)).expect("a thread can be started").join().expect("the calls give results");
+}
+
+/// Each turn takes a part of the stack, until little is left of a default
+/// thread's; the calls are made on the way down.
+#[inline(never)]
+fn down(case: &Case, turns: usize) -> u8 {
+    let frame = std::hint::black_box([turns as u8; 120 * 1024]);
+    make_all(case);
+    let below = if turns > 0 { down(case, turns - 1) } else { 0 };
+    frame[turns] ^ below
+}
+
+#[test]
+fn from_a_deep_recursion() {
+    let case = largest();
+    std::thread::spawn(move || down(&case, 14)).join().expect("the calls give results");
+}
+
+/// Many threads at once, each with too little for its calls.
+#[test]
+fn from_many_small_threads() {
+    let case = largest();
+    std::thread::scope(|scope| {
+        for _ in 0..16 {
+            let thread = std::thread::Builder::new().stack_size(SMALL);
+            thread.spawn_scoped(scope, || make_all(&case)).expect("a thread can be started");
+        }
+    });
+}

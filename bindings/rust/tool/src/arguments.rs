@@ -1,0 +1,247 @@
+//! The command line: commands, options, and what is wrong with it.
+
+use std::ffi::{OsStr, OsString};
+use std::os::unix::ffi::OsStrExt;
+
+use crate::failure::Failure;
+use crate::files::Place;
+
+#[derive(Clone, Copy, Debug, PartialEq, Eq)]
+pub enum Command {
+    Check,
+    Get,
+    Put,
+    Create,
+    Assemble,
+    Show,
+    Where,
+}
+
+/// A command's name, what stands behind it, and what it does.
+struct Form {
+    command: Command,
+    name: &'static str,
+    operands: &'static [&'static str],
+    brief: &'static str,
+    help: &'static str,
+}
+
+/// Every other operand is a file.
+const NODE: &str = "NODE";
+
+#[rustfmt::skip]
+const FORMS: [Form; 7] = [
+    Form {
+        command: Command::Check,
+        name: "check",
+        operands: &["PROGRAM"],
+        brief: "tells whether the engine takes a program",
+        help: "Writes 'ok', the number of nodes, and the positions of the whole program in the\n\
+               source and in the sheet. A program that is refused is told with its line, and an\n\
+               ambiguous one with a text that can be read in two ways.",
+    },
+    Form {
+        command: Command::Get,
+        name: "get",
+        operands: &["PROGRAM", "SOURCE"],
+        brief: "takes the sheet from a source",
+        help: "Writes the sheet, byte for byte.",
+    },
+    Form {
+        command: Command::Put,
+        name: "put",
+        operands: &["PROGRAM", "SHEET", "SOURCE"],
+        brief: "puts an edited sheet back onto its source",
+        help: "Writes the new source, byte for byte. To replace the old one:\n\
+               noontrough put PROGRAM SHEET SOURCE -o SOURCE",
+    },
+    Form {
+        command: Command::Create,
+        name: "create",
+        operands: &["PROGRAM", "SHEET"],
+        brief: "makes a source from a sheet alone",
+        help: "Writes the source, byte for byte, with the defaults for what the sheet hides.",
+    },
+    Form {
+        command: Command::Assemble,
+        name: "assemble",
+        operands: &["PROGRAM"],
+        brief: "makes the table of a program's text",
+        help: "Writes the table's bytes. Whether the program is right is for 'check' to say.",
+    },
+    Form {
+        command: Command::Show,
+        name: "show",
+        operands: &["PROGRAM"],
+        brief: "writes a program as text, a node a line",
+        help: "Writes one line for each node, n0, n1 and so on; assembling it gives the same table.\n\
+               For a program's text it shows what its short forms stand for.",
+    },
+    Form {
+        command: Command::Where,
+        name: "where",
+        operands: &["PROGRAM", NODE],
+        brief: "tells which line of a program made a node",
+        help: "Writes the place in the program's text, and the name.",
+    },
+];
+
+const FILES: &str = "\
+PROGRAM is a program's text (program.lens) or its table (program.table): which of them
+is told by its bytes. '-' is standard input, for one of the files.";
+
+const OPTIONS: &str = "  -o, --output FILE   write the result to FILE ('-': standard output, as without it).
+                      FILE is replaced whole, and only by a result; otherwise it stays
+                      as it was. A file that the result is made from is not replaced,
+                      save the SOURCE of put
+  -h, --help          this text";
+
+const VERSION: &str = "  -V, --version       the version";
+
+const STATUS: &str = "\
+Exit status: 0 a result, 1 a refusal (nothing is written), 2 wrong usage or a file that
+can't be read or written. What was refused, and where, is told on standard error.";
+
+/// A command with its operands.
+#[derive(Debug)]
+pub struct Call {
+    pub command: Command,
+    pub files: Vec<Place>,
+    /// Only `where` has one.
+    pub node: Option<usize>,
+    pub output: Place,
+}
+
+#[derive(Debug)]
+pub enum Request {
+    /// Help or the version.
+    Tell(String),
+    Run(Call),
+}
+
+pub fn read(words: &[OsString]) -> Result<Request, Failure> {
+    let Some((first, rest)) = words.split_first() else {
+        return Err(Failure::Trouble(format!("noontrough: a command is missing\n{}", usage_of_all())));
+    };
+    if is_one_of(first, ["-h", "--help", "help"]) {
+        let form = rest.first().and_then(|name| FORMS.iter().find(|form| name == form.name));
+        return Ok(Request::Tell(form.map_or_else(help_of_all, help_of)));
+    }
+    if is_one_of(first, ["-V", "--version", "version"]) {
+        return Ok(Request::Tell(format!("noontrough {}\n", env!("CARGO_PKG_VERSION"))));
+    }
+    match FORMS.iter().find(|form| first == form.name) {
+        Some(form) => read_call(form, rest),
+        None => Err(Failure::Trouble(format!("noontrough: {}\n{}", no_command(first), usage_of_all()))),
+    }
+}
+
+fn no_command(word: &OsStr) -> String {
+    let word = word.to_string_lossy();
+    if word.starts_with('-') {
+        return format!("'{word}' stands before the command; options come behind it");
+    }
+    format!("there is no command '{word}'")
+}
+
+/// What a command's words say, before it is known whether they are right.
+#[derive(Default)]
+struct Words<'a> {
+    operands: Vec<&'a OsStr>,
+    outputs: Vec<&'a OsStr>,
+    is_help: bool,
+}
+
+fn read_call(form: &Form, words: &[OsString]) -> Result<Request, Failure> {
+    let wrong = |message: String| Failure::Trouble(format!("noontrough {}: {message}\n{}", form.name, usage(form)));
+    let found = sort(words).map_err(wrong)?;
+    if found.is_help {
+        return Ok(Request::Tell(help_of(form)));
+    }
+    if let Some(missing) = form.operands.get(found.operands.len()) {
+        return Err(wrong(format!("{missing} is missing")));
+    }
+    if let Some(extra) = found.operands.get(form.operands.len()) {
+        return Err(wrong(format!("'{}' is one argument too many", extra.to_string_lossy())));
+    }
+    if let [_, second, ..] = found.outputs[..] {
+        return Err(wrong(format!("a second -o, '{}', and there is one result", second.to_string_lossy())));
+    }
+    let output = found.outputs.first().map_or(Place::Standard, |file| Place::of(file));
+    let (files, node) = operands(form, &found.operands).map_err(wrong)?;
+    Ok(Request::Run(Call { command: form.command, files, node, output }))
+}
+
+/// Options and operands told apart; behind `--` all are operands.
+fn sort(words: &[OsString]) -> Result<Words<'_>, String> {
+    let mut found = Words::default();
+    let mut rest = words.iter();
+    while let Some(word) = rest.next() {
+        let shown = word.to_string_lossy();
+        if word == "--" {
+            found.operands.extend(rest.by_ref().map(OsString::as_os_str));
+        } else if is_one_of(word, ["-h", "--help"]) {
+            found.is_help = true;
+        } else if is_one_of(word, ["-o", "--output"]) {
+            let file = rest.next().filter(|file| !file.is_empty());
+            found.outputs.push(file.ok_or(format!("behind {shown} a file is missing"))?);
+        } else if let Some(file) = word.as_bytes().strip_prefix(b"--output=") {
+            found.outputs.push(OsStr::from_bytes(file));
+        } else if shown.starts_with('-') && word != "-" {
+            return Err(format!("there is no option '{shown}' (a file of that name is './{shown}')"));
+        } else {
+            found.operands.push(word);
+        }
+    }
+    Ok(found)
+}
+
+fn operands(form: &Form, words: &[&OsStr]) -> Result<(Vec<Place>, Option<usize>), String> {
+    let named = || form.operands.iter().zip(words);
+    let files: Vec<Place> = named().filter(|(name, _)| **name != NODE).map(|(_, word)| Place::of(word)).collect();
+    let on_standard: Vec<&str> = named().filter(|(_, word)| **word == "-").map(|(name, _)| *name).collect();
+    if let [first, second, ..] = on_standard[..] {
+        return Err(format!("'-' stands for {first} and {second}, and standard input is one file"));
+    }
+    let node = named().find(|(name, _)| **name == NODE).map(|(_, word)| word.to_string_lossy());
+    match node.as_ref().map(|word| word.parse()) {
+        Some(Err(_)) => Err(format!("'{}' is no node's number", node.unwrap_or_default())),
+        Some(Ok(number)) => Ok((files, Some(number))),
+        None => Ok((files, None)),
+    }
+}
+
+fn is_one_of<const N: usize>(word: &OsStr, words: [&str; N]) -> bool {
+    words.iter().any(|one| word == *one)
+}
+
+fn usage(form: &Form) -> String {
+    format!("usage: noontrough {} {} [-o FILE]", form.name, form.operands.join(" "))
+}
+
+fn usage_of_all() -> String {
+    let names: Vec<&str> = FORMS.iter().map(|form| form.name).collect();
+    format!("usage: noontrough {} ...\n       noontrough --help", names.join("|"))
+}
+
+fn help_of(form: &Form) -> String {
+    let brief = sentence_case(form.brief);
+    format!("{}\n{brief}.\n\n{}\n\n{FILES}\n\n{OPTIONS}\n\n{STATUS}\n", usage(form), form.help)
+}
+
+fn help_of_all() -> String {
+    let lines: Vec<String> = FORMS
+        .iter()
+        .map(|form| format!("  {:32}{}", format!("{} {}", form.name, form.operands.join(" ")), form.brief))
+        .collect();
+    format!(
+        "usage: noontrough COMMAND ... [-o FILE]\nSheets from kerning sources, and edited sheets back into sources.\n\n{}\n\n\
+         'noontrough COMMAND --help' tells more of a command.\n\n{FILES}\n\n{OPTIONS}\n{VERSION}\n\n{STATUS}\n",
+        lines.join("\n")
+    )
+}
+
+fn sentence_case(words: &str) -> String {
+    let mut letters = words.chars();
+    letters.next().map_or_else(String::new, |first| first.to_uppercase().chain(letters).collect())
+}

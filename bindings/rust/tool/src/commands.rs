@@ -1,0 +1,125 @@
+//! What each command does.
+
+use noontrough::{Answer, MAX_TEXT};
+use noontrough_assembler::show;
+use noontrough_reference::table::Table;
+
+use crate::arguments::{Call, Command};
+use crate::failure::Failure;
+use crate::files::{self, Place};
+use crate::program::{self, Program};
+use crate::refusals::{told, wrong_sizes, Text, Texts};
+
+/// What is to be written.
+pub fn run(call: &Call) -> Result<Vec<u8>, Failure> {
+    spare_inputs(call)?;
+    let program = program::load(&call.files[0])?;
+    match call.command {
+        Command::Check => check(&program),
+        Command::Get => get(&program, &call.files[1]),
+        Command::Put => put(&program, &call.files[1], &call.files[2]),
+        Command::Create => create(&program, &call.files[1]),
+        Command::Assemble => assemble(program),
+        Command::Show => shown(&program),
+        Command::Where => origin(&program, call.node.unwrap_or(0)),
+    }
+}
+
+/// The result must not take the place of a file that it was made from: a sheet in
+/// the place of its source would lose what it hides. Only a new source may take
+/// that of the old one, and not by the shell, which empties it first.
+fn spare_inputs(call: &Call) -> Result<(), Failure> {
+    let is_old_source = |index: usize| call.command == Command::Put && index == 2;
+    let may_be_replaced = |index: usize| is_old_source(index) && call.output != Place::Standard;
+    let lost = call
+        .files
+        .iter()
+        .enumerate()
+        .find(|&(index, input)| !may_be_replaced(index) && files::is_same_file(&call.output, input));
+    match (lost, &call.output) {
+        (None, _) => Ok(()),
+        (Some((_, input)), Place::File(_)) => {
+            Err(Failure::Trouble(format!("noontrough: the result would replace {}, which it is made from", input.name())))
+        }
+        (Some((_, input)), Place::Standard) => Err(Failure::Trouble(format!(
+            "noontrough: standard output goes into {}, which the result is made from; a shell's '>' empties a file first, so use -o",
+            input.name()
+        ))),
+    }
+}
+
+fn check(program: &Program) -> Result<Vec<u8>, Failure> {
+    let count = length(program, &Texts::default(), noontrough::check(&program.table))?;
+    // The engine has said that the program is right, so the reference reads it too.
+    let table = Table::read(&program.table).ok();
+    let positions = table.and_then(|table| table.measures.last().copied());
+    let sides = positions.map_or_else(String::new, |m| format!(" {} {}", m.source_positions, m.sheet_positions));
+    Ok(format!("ok {count}{sides}\n").into_bytes())
+}
+
+fn get(program: &Program, source: &Place) -> Result<Vec<u8>, Failure> {
+    let texts = Texts { source: Some(text(source)?), sheet: None };
+    given(program, &texts, |out| noontrough::get(&program.table, texts.source(), out))
+}
+
+fn put(program: &Program, sheet: &Place, source: &Place) -> Result<Vec<u8>, Failure> {
+    let texts = Texts { sheet: Some(text(sheet)?), source: Some(text(source)?) };
+    given(program, &texts, |out| noontrough::put(&program.table, texts.sheet(), texts.source(), out))
+}
+
+fn create(program: &Program, sheet: &Place) -> Result<Vec<u8>, Failure> {
+    let texts = Texts { sheet: Some(text(sheet)?), source: None };
+    given(program, &texts, |out| noontrough::create(&program.table, texts.sheet(), out))
+}
+
+fn text(place: &Place) -> Result<Text, Failure> {
+    Ok(Text { name: place.name(), bytes: files::read(place)? })
+}
+
+/// The text that a call gives.
+fn given(program: &Program, texts: &Texts, call: impl FnOnce(&mut [u8]) -> Answer) -> Result<Vec<u8>, Failure> {
+    let mut out = vec![0; MAX_TEXT];
+    let length = length(program, texts, call(&mut out))?;
+    out.truncate(length);
+    Ok(out)
+}
+
+fn length(program: &Program, texts: &Texts, answer: Answer) -> Result<usize, Failure> {
+    match answer {
+        Answer::Result { length } => Ok(length),
+        Answer::Refusal { number, node } => Err(Failure::Refused(told(program, texts, number, node))),
+    }
+}
+
+fn assemble(program: Program) -> Result<Vec<u8>, Failure> {
+    if program.is_text() {
+        return Ok(program.table);
+    }
+    let no_text = || format!("{}: this is a table; 'show' writes its text", program.place.name());
+    Err(Failure::Refused(wrong_sizes(&program).unwrap_or_else(no_text)))
+}
+
+fn shown(program: &Program) -> Result<Vec<u8>, Failure> {
+    let text = show(&program.table);
+    text.map(String::into_bytes).map_err(|_| Failure::Refused(wrong_sizes(program).unwrap_or_default()))
+}
+
+fn origin(program: &Program, node: usize) -> Result<Vec<u8>, Failure> {
+    if let Some(wrong) = wrong_sizes(program) {
+        return Err(Failure::Refused(wrong));
+    }
+    let origins = program.assembled.as_ref().map_or(&[][..], |assembled| &assembled.origins);
+    let Some(origin) = origins.get(node) else {
+        let last = origins.len().saturating_sub(1);
+        let message = format!("{}: there is no node {node}; they are 0 to {last}", program.place.name());
+        return Err(Failure::Refused(message));
+    };
+    if !program.is_text() {
+        let shown = show(&program.table).unwrap_or_default();
+        let line = shown.lines().nth(origin.line - 1).unwrap_or_default();
+        return Ok(format!("{}: node {node} is '{line}'\n", program.place.name()).into_bytes());
+    }
+    let beside =
+        if origin.is_named { String::new() } else { format!(", which '{}' makes beside its own", origin.name) };
+    Ok(format!("{}: node {node} is {}{beside}\n", program.place_of(node), program.name_of(node)).into_bytes())
+}

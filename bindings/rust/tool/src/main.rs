@@ -1,0 +1,56 @@
+//! `noontrough`: lens programs, sheets and sources on the command line.
+//!
+//! The answers are the linked engine's, which is proved. What this program adds
+//! is told on standard error: where a refusal comes from, worked out by the
+//! reference, which is not.
+//!
+//! It never harms a file. The exit status is 0 for a result, 1 for a refusal and
+//! 2 for wrong usage or a file that can't be read or written; standard output and
+//! the file of `-o` get a whole result or nothing.
+//!
+//! | Module | Holds |
+//! |---|---|
+//! | [`arguments`] | the command line: commands, options, and what is wrong with it |
+//! | [`files`] | files read and written, standard input and output among them |
+//! | [`descriptors`] | what the system's descriptors are |
+//! | [`program`] | a program from a file, as a table or as text |
+//! | [`commands`] | what each command does |
+//! | [`refusals`] | what is told of a refusal |
+//! | [`programs`] | where in a program a refusal comes from, and what shows it |
+//! | [`texts`] | how far a text could be read, and what could have followed |
+//! | [`words`] | bytes, names and lists in words |
+//! | [`failure`] | why there is no result, and the exit status for it |
+
+mod arguments;
+mod commands;
+mod descriptors;
+mod failure;
+mod files;
+mod program;
+mod programs;
+mod refusals;
+mod texts;
+mod words;
+
+use std::ffi::OsString;
+use std::process::ExitCode;
+
+use arguments::Request;
+use failure::Failure;
+use files::Place;
+
+fn main() -> ExitCode {
+    descriptors::let_writes_fail();
+    let words: Vec<OsString> = std::env::args_os().skip(1).collect();
+    match run(&words) {
+        Ok(()) => ExitCode::SUCCESS,
+        Err(failure) => failure.tell(),
+    }
+}
+
+fn run(words: &[OsString]) -> Result<(), Failure> {
+    match arguments::read(words)? {
+        Request::Tell(text) => files::write(&Place::Standard, text.as_bytes()),
+        Request::Run(call) => files::write(&call.output, &commands::run(&call)?),
+    }
+}

@@ -1,0 +1,152 @@
+//! Where in a program a refusal from 2 to 11 comes from, and what shows it.
+
+use noontrough_assembler::kinds::{by_byte, is_lens, Kind, Sort, MATCH, RANGE, WORD};
+use noontrough_assembler::line::quote_byte;
+use noontrough_assembler::too_large;
+use noontrough_reference::clash::{clash, parts_from, Clash};
+use noontrough_reference::table::Side;
+
+use crate::program::Program;
+use crate::words::{list, quote_shortened};
+
+const MAX_WORD: usize = 64;
+
+/// The place, the node's name and what is wrong there.
+pub fn told(program: &Program, number: u64, node: usize) -> Option<String> {
+    let what = match number {
+        2 => unknown_kind(program, node),
+        3 => wrong_operand(program, node),
+        4 => inner_match(program, node),
+        5 => program.assembled.as_ref().and_then(|assembled| too_large(assembled, node)),
+        6 => wrong_default(program, node),
+        _ => clashing(program, number, node),
+    };
+    let what = what.unwrap_or_else(|| program.name_of(node));
+    Some(format!("{}: {what}", program.place_of(node)))
+}
+
+fn unknown_kind(program: &Program, node: usize) -> Option<String> {
+    let (kind, _) = program.record(node)?;
+    Some(format!("{} is of kind {kind}", program.name_of(node)))
+}
+
+/// The first operand that breaks a rule.
+fn wrong_operand(program: &Program, node: usize) -> Option<String> {
+    let (kind, operands) = program.record(node)?;
+    let kind = by_byte(kind)?;
+    let children = kind.sorts().iter().zip(operands);
+    let wrong_child = || children.clone().find_map(|(&sort, child)| wrong_child(program, node, kind, sort, child));
+    let unused = || operands[kind.operands()..].iter().any(|&operand| operand != 0);
+    let wrong = wrong_leaf(program, node, kind.byte, operands)
+        .or_else(wrong_child)
+        .or_else(|| unused().then(|| "an operand that is not used is not 0".to_string()))
+        .unwrap_or_else(|| "the last line is the whole program, and this is a pattern and no lens".to_string());
+    Some(format!("{}: {wrong}", program.name_of(node)))
+}
+
+/// What can be wrong with a word or a range.
+fn wrong_leaf(program: &Program, node: usize, kind: u8, [a, b, c]: [usize; 3]) -> Option<String> {
+    let byte = |value: usize| quote_byte(value as u8);
+    match kind {
+        WORD if c > MAX_WORD => Some(format!("a word of {c} bytes, and {MAX_WORD} are the most")),
+        WORD if program.word(node).is_none() => Some("a word that lies outside the pool".to_string()),
+        RANGE if a > b => Some(format!("{} comes behind {}, so no byte lies between", byte(a), byte(b))),
+        _ => None,
+    }
+}
+
+fn wrong_child(program: &Program, node: usize, kind: &Kind, sort: Sort, child: usize) -> Option<String> {
+    if child >= node {
+        return Some(format!("its child {child} is no node above it"));
+    }
+    let (found, _) = program.record(child)?;
+    let fits = match sort {
+        Sort::Word => found == WORD,
+        Sort::Pattern => !is_lens(found),
+        Sort::Lens => is_lens(found),
+    };
+    let found = if is_lens(found) { "a lens" } else { "a pattern" };
+    let wanted = match sort {
+        Sort::Word => "a word",
+        Sort::Pattern => "a pattern",
+        Sort::Lens => "a lens",
+    };
+    let advice = match (sort, found) {
+        (Sort::Lens, _) => ": put 'copy' or 'key' over it",
+        (Sort::Pattern, "a lens") if !is_lens(kind.byte) => ": 'lens join', 'lens union' and 'lens repeat' take lenses",
+        _ => "",
+    };
+    let name = program.name_of(child);
+    (!fits).then(|| format!("{name} is {found}, and '{}' takes {wanted} there{advice}", kind.words))
+}
+
+fn inner_match(program: &Program, node: usize) -> Option<String> {
+    let (_, [child, ..]) = program.record(node)?;
+    let inner = first_match(program, child)?;
+    Some(format!("{} is a match, and holds the match {}", program.name_of(node), program.name_of(inner)))
+}
+
+/// The first match at or below a lens.
+fn first_match(program: &Program, node: usize) -> Option<usize> {
+    let (kind, operands) = program.record(node)?;
+    if kind == MATCH {
+        return Some(node);
+    }
+    let children = by_byte(kind)?.sorts().iter().zip(operands);
+    children.filter(|(&sort, _)| sort == Sort::Lens).find_map(|(_, child)| first_match(program, child))
+}
+
+fn wrong_default(program: &Program, node: usize) -> Option<String> {
+    let (_, [pattern, _, default]) = program.record(node)?;
+    let text = quote_shortened(program.word(default)?);
+    Some(format!("{}: the default {text} is no text of {}", program.name_of(node), program.name_of(pattern)))
+}
+
+/// The halves, arms or parts by their names, with a text that shows it.
+fn clashing(program: &Program, number: u64, node: usize) -> Option<String> {
+    let (refusal, clash) = clash(&program.table)?;
+    if (u64::from(refusal.number), usize::from(refusal.node)) != (number, node) {
+        return None;
+    }
+    let (_, operands) = program.record(node)?;
+    let name = program.name_of(node);
+    let side = if clash.side == Side::Source { "source" } else { "sheet" };
+    let shown = match number {
+        9 => both_arms(program, &clash, operands),
+        7 | 8 => both_cuts(program, &clash, operands),
+        _ => both_lists(program, &clash, node, operands[0]),
+    };
+    Some(format!("{name}, in the {side}: {shown}"))
+}
+
+fn both_arms(program: &Program, clash: &Clash, [a, b, _]: [usize; 3]) -> String {
+    format!("{} is of {} and of {}", quote_shortened(&clash.text), program.name_of(a), program.name_of(b))
+}
+
+fn both_cuts(program: &Program, clash: &Clash, [a, b, _]: [usize; 3]) -> String {
+    let cut = |end: usize| {
+        let (first, second) = clash.text.split_at(end);
+        let [first, second] = [first, second].map(quote_shortened);
+        format!("{} {first} and {} {second}", program.name_of(a), program.name_of(b))
+    };
+    let [early, late] = clash.numbers.map(cut);
+    format!("{} is {early}, or {late}", quote_shortened(&clash.text))
+}
+
+/// How many parts of a list are shown.
+const PARTS: usize = 6;
+
+fn both_lists(program: &Program, clash: &Clash, node: usize, part: usize) -> String {
+    let name = program.name_of(part);
+    if clash.text.is_empty() {
+        return format!("the empty text is one of {name}, so nobody could count the parts");
+    }
+    let parts = |end: usize| {
+        let cuts = parts_from(&program.table, node, clash.side, &clash.text, end).unwrap_or_default();
+        let shown = cuts.iter().take(PARTS).map(|cut| quote_shortened(&clash.text[cut.clone()]));
+        let more = (cuts.len() > PARTS).then(|| format!("{} more", cuts.len() - PARTS));
+        list(&shown.chain(more).collect::<Vec<String>>(), "and")
+    };
+    let [early, late] = clash.numbers.map(parts);
+    format!("{} is the parts {early} of {name}, or {late}", quote_shortened(&clash.text))
+}

@@ -1,0 +1,50 @@
+//! What the repository shows a newcomer: `./demo`, and the example at the top of
+//! the README.
+
+mod common;
+
+use common::*;
+
+/// The README's source, between the lines that the program of examples/kerning
+/// asks for.
+#[test]
+fn the_example_of_the_readme() {
+    let readme = String::from_utf8(read(&in_repository("README.md"))).expect("it is UTF-8");
+    let mut blocks = readme.split("\n\n").filter(|block| block.starts_with("    "));
+    let mut block = || -> Vec<&str> {
+        blocks.next().expect("the README begins with three blocks").lines().map(|line| &line[4..]).collect()
+    };
+    let (source, sheets, result) = (block(), block(), block());
+    let column = |side: usize| -> String {
+        let cells = sheets.iter().filter_map(|line| line.split_whitespace().nth(side));
+        cells.map(|cell| format!("{cell}\n")).collect()
+    };
+    let between = |lines: &[&str]| format!("begin\n{}\nend\n", lines.join("\n"));
+
+    let folder = Folder::of_example("kerning");
+    folder.write("source", between(&source));
+    folder.gives("noontrough get program.lens source", &column(0));
+    folder.write("edited", column(1));
+    folder.gives("noontrough put program.lens edited source", &between(&result));
+}
+
+/// Each step, and the source that is left, worked out from the example's files.
+#[test]
+fn the_demo() {
+    let folder = Folder::new();
+    let demo = in_repository("demo");
+    let tool = env!("CARGO_BIN_EXE_noontrough");
+    let done = folder.sh(&format!("NOONTROUGH='{tool}' '{}'", demo.display()));
+    assert_eq!(done.status, 0, "{}", done.stderr);
+    let moved = "@A;Y    -95\n@O;T    -35\n\n# seen at 7 pt by the night shift\nA;V     -80\n\n# quotes stand off\n\
+        L;quoteright 12\nT;comma -115  # not below -120\nV;A -75\nf.alt;l 0  # checked, leave it\n";
+    for shown in ["A;V     -80\nA;W     -60  # was -65\n", "A;V;-80\nA;W;-60\n", "T;comma;-115\nV;A;-75\n", moved] {
+        assert!(done.stdout.contains(shown), "{shown} is not in\n{}", done.stdout);
+    }
+    assert!(
+        done.stdout.ends_with("$ noontrough put program.lens wrong source -o source\n(exit status 1)\n"),
+        "{}",
+        done.stdout
+    );
+    assert!(done.stderr.contains("wrong:5:6: 'A;V;- 80' cannot go on here; '1' to '9' could"), "{}", done.stderr);
+}
