@@ -3,8 +3,8 @@
  *
  * A lens program turns a source into a sheet (get), and an edited sheet back
  * into a source (put, create). A program is a table of bytes, made for instance
- * by `noontrough assemble`; docs/GUIDE.md says how to write one. Texts are bytes, with
- * no terminating zero: a zero byte is a byte like any other.
+ * by `noontrough assemble`; docs/GUIDE.md says how to write one. Texts are
+ * bytes, with no terminating zero: a zero byte is a byte like any other.
  *
  * What holds for every call:
  *
