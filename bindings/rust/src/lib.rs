@@ -18,7 +18,8 @@
 //! ```
 //!
 //! No call overflows a stack: where a thread has too little left, the call is made
-//! on a thread of its own. [`in_place`] has the calls without that.
+//! on a thread of its own, and panics if none can be started. [`in_place`] has the
+//! calls without that.
 
 mod sentences;
 mod stack;
@@ -74,21 +75,37 @@ impl From<Numbers> for Answer {
 }
 
 /// Tests a program; the length is its number of nodes.
+///
+/// # Panics
+///
+/// If the thread has too little stack left and no other can be started.
 pub fn check(table: &[u8]) -> Answer {
     stack::with_room(READ_STACK_BYTES, || in_place::check(table))
 }
 
 /// Gives the sheet of a source.
+///
+/// # Panics
+///
+/// If the thread has too little stack left and no other can be started.
 pub fn get(table: &[u8], source: &[u8], out: &mut [u8]) -> Answer {
     stack::with_room(READ_STACK_BYTES, || in_place::get(table, source, out))
 }
 
 /// Gives a source from an edited sheet and the old source.
+///
+/// # Panics
+///
+/// If the thread has too little stack left and no other can be started.
 pub fn put(table: &[u8], sheet: &[u8], source: &[u8], out: &mut [u8]) -> Answer {
     stack::with_room(STACK_BYTES, || in_place::put(table, sheet, source, out))
 }
 
 /// Gives a source from a sheet alone.
+///
+/// # Panics
+///
+/// If the thread has too little stack left and no other can be started.
 pub fn create(table: &[u8], sheet: &[u8], out: &mut [u8]) -> Answer {
     stack::with_room(STACK_BYTES, || in_place::create(table, sheet, out))
 }

@@ -1,9 +1,10 @@
 //! Room on the stack: a call is made where it stands if its thread has enough
 //! left, and on a thread of its own otherwise.
 //!
-//! A thread of `std::thread` has enough for every call. One that was started
-//! with less, a deep recursion, or a main thread under a small `ulimit -s` may
-//! not have it, and a stack that overflows ends the process.
+//! A thread of `std::thread` usually has enough for every call. One that was
+//! started with less, a deep recursion, large thread-local variables, which lie in
+//! a thread's stack too, or a main thread under a small `ulimit -s` may not, and a
+//! stack that overflows ends the process.
 
 use std::cell::Cell;
 use std::ops::Range;
@@ -11,10 +12,15 @@ use std::thread::{scope, Builder};
 
 /// For the frames between the test for room and the engine, and for a guard page
 /// that some C libraries count as part of the stack.
-const MARGIN: usize = 32 * 1024;
+const MARGIN: usize = 16 * 1024;
+
+/// For what else may lie in the stack of a new thread. It is reserved and not
+/// used, so it costs nothing.
+const RESERVE: usize = 1 << 20;
 
 thread_local! {
-    /// Where this thread's stack lies; an empty range if that is not known.
+    /// Where this thread's stack lies, once it was asked for; an empty range if
+    /// that is not known.
     static STACK: Cell<Option<Range<usize>>> = const { Cell::new(None) };
 }
 
@@ -24,22 +30,35 @@ thread_local! {
 ///
 /// If there is too little room and no thread can be started.
 pub(crate) fn with_room<T: Send>(needed: usize, call: impl FnOnce() -> T + Send) -> T {
-    if left() >= needed + MARGIN {
-        return call();
+    match left() {
+        Some(left) if left >= needed + MARGIN => call(),
+        _ => on_a_thread(needed + RESERVE, needed, Box::new(call)),
     }
+}
+
+/// The same on a new thread with a stack of this size, or of more, if the new
+/// thread finds that too little of it is left. (The call is boxed, so that one
+/// function serves however often it is tried.)
+fn on_a_thread<T: Send>(size: usize, needed: usize, call: Box<dyn FnOnce() -> T + Send + '_>) -> T {
+    let made = move || match left() {
+        Some(left) if left < needed + MARGIN => on_a_thread(2 * size, needed, call),
+        _ => call(),
+    };
     scope(|scope| {
-        let thread = Builder::new().stack_size(needed + 2 * MARGIN).spawn_scoped(scope, call);
+        let thread = Builder::new().stack_size(size).spawn_scoped(scope, made);
         thread.expect("a thread for the call can be started").join().expect("the engine does not panic")
     })
 }
 
-/// The bytes of stack below this frame; 0 if that can't be told.
-fn left() -> usize {
+/// The bytes of stack below this frame, if that can be told. The stack of a thread
+/// is asked for once: a main thread whose limit is lowered after its first call is
+/// not noticed.
+fn left() -> Option<usize> {
     let local = 0u8;
     let here = std::hint::black_box(&local) as *const u8 as usize;
     let stack = STACK.take().unwrap_or_else(|| of_this_thread().unwrap_or(0..0));
     // A stack of somebody's own making, such as a coroutine's, lies elsewhere.
-    let left = if stack.contains(&here) { here - stack.start } else { 0 };
+    let left = stack.contains(&here).then(|| here - stack.start);
     STACK.set(Some(stack));
     left
 }

@@ -58,8 +58,8 @@ use crate::kinds::{COPY, JOIN, LENS_JOIN, LENS_REPEAT, LENS_UNION, MATCH, RANGE,
 use crate::line::{Placed, Token};
 use crate::place::{Mistake, Place};
 use crate::statements::statements;
-use crate::syntax::{statement, Expression, Form, Operand, Part, Primary, Statement, Suffix};
-use crate::words::words;
+use crate::syntax::{statement, Expression, Form, Operand, Part, Primary, Statement, Suffix, Times};
+use crate::words::{times_of, words};
 
 pub use crate::draft::{MAX_NODES, MAX_POOL};
 
@@ -290,15 +290,25 @@ impl Definition<'_> {
         let part = Part { first, last: suffix.last };
         let is_lens = is_lens(self.assembly.draft.nodes[node].kind);
         let (join, repeat) = if is_lens { (LENS_JOIN, LENS_REPEAT) } else { (JOIN, REPEAT) };
-        let least = suffix.times.least;
+        let Times { least, most } = suffix.times;
         let tail_role = if least == 0 { role } else { Role::Inner };
         let mut children = vec![node; least];
-        match suffix.times.most {
-            None => children.push(self.add(repeat, [node, 0, 0], part, tail_role)?),
+        match most {
+            None => {
+                let tail = self.add(repeat, [node, 0, 0], part, tail_role)?;
+                self.call(tail, tail_role, Times { least: 0, most }, node);
+                children.push(tail);
+            }
             Some(most) if most > least => children.push(self.options(node, most - least, part, tail_role)?),
             Some(_) => (),
         }
-        self.row(join, &children, |_| part, role)
+        let (&last, before) = children.split_last().expect("a suffix leaves something");
+        before.iter().enumerate().rev().try_fold(last, |rest, (place, &child)| {
+            let role = if place == 0 { role } else { Role::Inner };
+            let some = self.add(join, [child, rest, 0], part, role)?;
+            self.call(some, role, Times { least: least - place, most: most.map(|most| most - place) }, node);
+            Ok(some)
+        })
     }
 
     /// None to so many of the node, one within the other.
@@ -310,10 +320,24 @@ impl Definition<'_> {
         self.call_nothing(word, "\"\"");
         self.call_nothing(nothing, if is_lens { "copy \"\"" } else { "\"\"" });
         (1..=most).try_fold(node, |inside, number| {
+            let up_to = |least| Times { least, most: Some(number) };
             let some = if number == 1 { node } else { self.add(join, [node, inside, 0], part, Role::Inner)? };
             let role = if number == most { role } else { Role::Inner };
-            self.add(union, [nothing, some, 0], part, role)
+            let option = self.add(union, [nothing, some, 0], part, role)?;
+            if number > 1 {
+                self.call(some, Role::Inner, up_to(1), node);
+            }
+            self.call(option, role, up_to(0), node);
+            Ok(option)
         })
+    }
+
+    /// What only holds a part of a suffix together does not go by the words of the
+    /// whole, but by how often it has the node.
+    fn call(&mut self, inner: usize, role: Role, times: Times, node: usize) {
+        if role == Role::Inner && self.assembly.is_inner.get(inner) == Some(&true) {
+            self.assembly.origins[inner].words = times_of(times, &self.assembly.origins[node].words);
+        }
     }
 
     /// The empty text of an option stands nowhere in the program, so it does not

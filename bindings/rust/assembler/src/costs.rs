@@ -37,7 +37,7 @@ pub(crate) fn too_many(lines: &[Line], total: usize) -> String {
     let is_one_left = costs.len() == costly + 1;
     let (named, others) = costs.split_at(costly + usize::from(is_one_left));
 
-    let count = if total > MOST_COUNTED { format!("more than {MOST_COUNTED}") } else { total.to_string() };
+    let count = if total > MOST_COUNTED { "more than 10,000".to_string() } else { total.to_string() };
     let mut told: Vec<String> =
         named.iter().map(|(line, nodes)| format!("line {} ({}) {nodes}", line.line, line.name)).collect();
     if let Some(first) = named.first() {

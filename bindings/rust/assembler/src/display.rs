@@ -57,13 +57,26 @@ enum Shown<'a> {
 }
 
 /// The arrays of a table whose sizes are right.
-pub(crate) struct Parts<'a> {
+pub struct Parts<'a> {
     pub kinds: &'a [u8],
     pub operands: &'a [u8],
     pool: &'a [u8],
 }
 
 impl<'a> Parts<'a> {
+    /// The kind and the operands of a node.
+    pub fn record(&self, node: usize) -> Option<(u8, [u8; 3])> {
+        let operands = self.operands.get(3 * node..3 * node + 3)?;
+        Some((*self.kinds.get(node)?, operands.try_into().ok()?))
+    }
+
+    /// The text of a word with these operands, if it lies in the pool.
+    pub fn word(&self, [high, low, length]: [u8; 3]) -> Option<&'a [u8]> {
+        let start = usize::from(high) * 256 + usize::from(low);
+        self.pool.get(start..start + usize::from(length))
+    }
+
+    /// Or a sentence that says which size is wrong.
     pub fn of(table: &'a [u8]) -> Result<Parts<'a>, String> {
         let (sizes, rest) = match table {
             [count, high, low, rest @ ..] => {
@@ -97,7 +110,7 @@ impl<'a> Parts<'a> {
         };
         if form.shape == Shape::Word {
             let start = usize::from(a) * 256 + usize::from(b);
-            let part = self.pool.get(start..start + usize::from(c));
+            let part = self.word([a, b, c]);
             return part.map_or_else(|| raw("a word outside the pool"), |text| Shown::Word { start, text });
         }
         if form.shape == Shape::Range {

@@ -110,7 +110,7 @@ pub fn by_words(words: &str) -> Option<&'static Kind> {
 
 /// Whether an expression can begin with this word.
 pub fn is_kind_word(word: &str) -> bool {
-    word == "lens" || by_words(word).is_some()
+    matches!(word, "lens" | "raw") || by_words(word).is_some()
 }
 
 /// All kinds, for messages.

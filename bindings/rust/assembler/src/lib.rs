@@ -92,5 +92,5 @@ mod words;
 
 pub use assembly::{assemble, Assembled, Origin};
 pub use costs::too_large;
-pub use display::{show, WrongSizes};
+pub use display::{show, Parts, WrongSizes};
 pub use place::{Mistake, Place};

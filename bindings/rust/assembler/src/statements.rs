@@ -4,9 +4,9 @@
 use crate::line::{placed_tokens, Placed, Token};
 use crate::place::{Mistake, Place};
 
-/// The tree of a statement is walked by recursion, so its depth has a limit. No
-/// program with 96 nodes comes near it.
-const MOST_OPEN: usize = 64;
+/// The tree of a statement is walked by recursion, so its depth has a limit. A
+/// program has at most 96 nodes, so that only idle parentheses can pass it.
+const MOST_OPEN: usize = 128;
 
 /// The statements of a text, each with at least one token and with its
 /// parentheses closed. Lines with no token are left out.

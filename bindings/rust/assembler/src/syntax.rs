@@ -1,13 +1,5 @@
-//! From the tokens of a statement to a small tree.
-//!
-//! ```text
-//! statement  := name '=' expression | pool "text"
-//! expression := kind operand*
-//!             | operand
-//! operand    := primary suffix*
-//! primary    := name | "text" | [set] | ( expression )
-//! suffix     := '*' | '+' | '?' | {n} | {n,m} | {n,}
-//! ```
+//! From the tokens of a statement to a small tree, by the grammar of the crate's
+//! page.
 //!
 //! A name at the beginning of an expression is a kind if it is a kind's word,
 //! `lens` or `raw`; everywhere else names are those of nodes. The kinds `word`,

@@ -1,6 +1,7 @@
 //! The text's own words for a part of it, short enough for a message.
 
 use crate::line::Placed;
+use crate::syntax::Times;
 
 const MOST_BYTES: usize = 40;
 
@@ -35,4 +36,15 @@ fn printable(written: &[u8]) -> String {
 fn cut(words: &str) -> String {
     let end = (0..=MOST_BYTES).rev().find(|&end| words.is_char_boundary(end)).unwrap_or(0);
     format!("{}…", &words[..end])
+}
+
+/// So often what goes by these words.
+pub fn times_of(times: Times, words: &str) -> String {
+    match (times.least, times.most) {
+        (least, Some(most)) if least == most => format!("{least} of {words}"),
+        (0, Some(most)) => format!("up to {most} of {words}"),
+        (least, Some(most)) => format!("{least} to {most} of {words}"),
+        (0, None) => format!("any number of {words}"),
+        (least, None) => format!("{least} or more of {words}"),
+    }
 }

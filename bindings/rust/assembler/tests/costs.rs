@@ -74,7 +74,7 @@ fn texts_with_far_too_many_nodes() {
     assert_eq!(mistake.line, 121);
     has_too_many(
         &format!("x = \"x\"{}", "{128}".repeat(100_000)),
-        "1:5: the program has more than 10000 nodes, and 96 are the most: line 1 (x) makes 10001",
+        "1:5: the program has more than 10,000 nodes, and 96 are the most: line 1 (x) makes 10001",
     );
 }
 

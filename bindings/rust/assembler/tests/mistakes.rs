@@ -137,11 +137,11 @@ fn parentheses() {
     fails("a = copy (\n\nb = copy \"x\"", 1, 10, "this parenthesis is not closed before the next '=' in line 3");
     fails("a = copy \"x\")", 1, 13, "no parenthesis is open that this one could close");
     fails("a = copy (\n\"x\"))", 2, 5, "no parenthesis is open that this one could close");
-    fails(&format!("a = {}", "(".repeat(100_000)), 1, 69, "more than 64 parentheses are open here");
+    fails(&format!("a = {}", "(".repeat(100_000)), 1, 133, "more than 128 parentheses are open here");
     let deep = |depth| format!("a = {}copy \"x\"{}", "(".repeat(depth), ")".repeat(depth));
     let table = |text: &str| assemble(text.as_bytes()).expect("it has bytes").table;
-    assert_eq!(table(&deep(64)), table("a = copy \"x\""));
-    fails(&deep(65), 1, 69, "more than 64 parentheses are open here");
+    assert_eq!(table(&deep(128)), table("a = copy \"x\""));
+    fails(&deep(129), 1, 133, "more than 128 parentheses are open here");
 }
 
 #[test]

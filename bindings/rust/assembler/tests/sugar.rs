@@ -316,8 +316,18 @@ fn origins_of_rows_and_texts() {
 
 #[test]
 fn origins_of_short_forms() {
-    come_from("  name = key [A-Z]+", &[(1, 14, "[A-Z]"), (1, 14, "[A-Z]+"), (1, 14, "[A-Z]+"), (1, 10, "name")]);
-    come_from("a = [a-z]+", &[(1, 5, "[a-z]"), (1, 5, "[a-z]+"), (1, 5, "a")]);
+    come_from(
+        "  name = key [A-Z]+",
+        &[(1, 14, "[A-Z]"), (1, 14, "any number of [A-Z]"), (1, 14, "[A-Z]+"), (1, 10, "name")],
+    );
+    come_from("a = [a-z]+", &[(1, 5, "[a-z]"), (1, 5, "any number of [a-z]"), (1, 5, "a")]);
+    come_from("a = [a-z]{3}", &[(1, 5, "[a-z]"), (1, 5, "2 of [a-z]"), (1, 5, "a")]);
+    come_from(
+        "a = [a-z]{2,}",
+        &[(1, 5, "[a-z]"), (1, 5, "any number of [a-z]"), (1, 5, "1 or more of [a-z]"), (1, 5, "a")],
+    );
+    let options = ["[a-z]", "\"\"", "up to 1 of [a-z]", "1 to 2 of [a-z]", "up to 2 of [a-z]", "1 to 3 of [a-z]", "a"];
+    come_from("a = [a-z]{2,4}", &options.map(|words| (1, 5, words)));
     come_from("a = (copy [a-z])*", &[(1, 11, "[a-z]"), (1, 6, "copy [a-z]"), (1, 5, "a")]);
     come_from("a = ((copy \"x\"))", &[(1, 12, "\"x\""), (1, 7, "a")]);
     come_from("a = [ab0]", &[(1, 5, "[ab0]"), (1, 5, "[ab0]"), (1, 5, "a")]);

@@ -3,6 +3,7 @@
 use std::ffi::{OsStr, OsString};
 use std::os::unix::ffi::OsStrExt;
 
+use crate::descriptors::INPUT;
 use crate::failure::Failure;
 use crate::files::Place;
 
@@ -123,17 +124,28 @@ pub fn read(words: &[OsString]) -> Result<Request, Failure> {
     let Some((first, rest)) = words.split_first() else {
         return Err(Failure::Trouble(format!("noontrough: a command is missing\n{}", usage_of_all())));
     };
+    let only = |most: usize| rest.get(most).map_or(Ok(()), |extra| Err(too_many(extra)));
     if is_one_of(first, ["-h", "--help", "help"]) {
-        let form = rest.first().and_then(|name| FORMS.iter().find(|form| name == form.name));
-        return Ok(Request::Tell(form.map_or_else(help_of_all, help_of)));
+        only(1)?;
+        return rest
+            .first()
+            .map_or_else(|| Ok(Request::Tell(help_of_all())), |name| Ok(Request::Tell(help_of(form(name)?))));
     }
     if is_one_of(first, ["-V", "--version", "version"]) {
+        only(0)?;
         return Ok(Request::Tell(format!("noontrough {}\n", env!("CARGO_PKG_VERSION"))));
     }
-    match FORMS.iter().find(|form| first == form.name) {
-        Some(form) => read_call(form, rest),
-        None => Err(Failure::Trouble(format!("noontrough: {}\n{}", no_command(first), usage_of_all()))),
-    }
+    read_call(form(first)?, rest)
+}
+
+fn form(name: &OsStr) -> Result<&'static Form, Failure> {
+    let found = FORMS.iter().find(|form| name == form.name);
+    found.ok_or_else(|| Failure::Trouble(format!("noontrough: {}\n{}", no_command(name), usage_of_all())))
+}
+
+fn too_many(extra: &OsStr) -> Failure {
+    let extra = extra.to_string_lossy();
+    Failure::Trouble(format!("noontrough: '{extra}' is one argument too many\n{}", usage_of_all()))
 }
 
 fn no_command(word: &OsStr) -> String {
@@ -185,7 +197,7 @@ fn sort(words: &[OsString]) -> Result<Words<'_>, String> {
         } else if is_one_of(word, ["-o", "--output"]) {
             let file = rest.next().filter(|file| !file.is_empty());
             found.outputs.push(file.ok_or(format!("behind {shown} a file is missing"))?);
-        } else if let Some(file) = word.as_bytes().strip_prefix(b"--output=") {
+        } else if let Some(file) = word.as_bytes().strip_prefix(b"--output=").filter(|file| !file.is_empty()) {
             found.outputs.push(OsStr::from_bytes(file));
         } else if shown.starts_with('-') && word != "-" {
             return Err(format!("there is no option '{shown}' (a file of that name is './{shown}')"));
@@ -198,17 +210,20 @@ fn sort(words: &[OsString]) -> Result<Words<'_>, String> {
 
 fn operands(form: &Form, words: &[&OsStr]) -> Result<(Vec<Place>, Option<usize>), String> {
     let named = || form.operands.iter().zip(words);
-    let files: Vec<Place> = named().filter(|(name, _)| **name != NODE).map(|(_, word)| Place::of(word)).collect();
-    let on_standard: Vec<&str> = named().filter(|(_, word)| **word == "-").map(|(name, _)| *name).collect();
+    let files = || named().filter(|(name, _)| **name != NODE).map(|(name, word)| (*name, Place::of(word)));
+    let on_standard: Vec<&str> =
+        files().filter(|(_, place)| place.descriptor(INPUT) == Some(INPUT)).map(|(name, _)| name).collect();
     if let [first, second, ..] = on_standard[..] {
-        return Err(format!("'-' stands for {first} and {second}, and standard input is one file"));
+        return Err(format!("standard input is to be {first} and {second}, and is one file"));
     }
-    let node = named().find(|(name, _)| **name == NODE).map(|(_, word)| word.to_string_lossy());
-    match node.as_ref().map(|word| word.parse()) {
-        Some(Err(_)) => Err(format!("'{}' is no node's number", node.unwrap_or_default())),
-        Some(Ok(number)) => Ok((files, Some(number))),
-        None => Ok((files, None)),
-    }
+    let node = named().find(|(name, _)| **name == NODE).map(|(_, word)| node_number(&word.to_string_lossy()));
+    Ok((files().map(|(_, place)| place).collect(), node.transpose()?))
+}
+
+fn node_number(word: &str) -> Result<usize, String> {
+    let is_number = word.bytes().all(|byte| byte.is_ascii_digit());
+    let number = is_number.then(|| word.parse().ok()).flatten();
+    number.ok_or(format!("'{word}' is no node's number"))
 }
 
 fn is_one_of<const N: usize>(word: &OsStr, words: [&str; N]) -> bool {

@@ -5,6 +5,7 @@ use noontrough_assembler::show;
 use noontrough_reference::table::Table;
 
 use crate::arguments::{Call, Command};
+use crate::descriptors::OUTPUT;
 use crate::failure::Failure;
 use crate::files::{self, Place};
 use crate::program::{self, Program};
@@ -29,23 +30,23 @@ pub fn run(call: &Call) -> Result<Vec<u8>, Failure> {
 /// the place of its source would lose what it hides. Only a new source may take
 /// that of the old one, and not by the shell, which empties it first.
 fn spare_inputs(call: &Call) -> Result<(), Failure> {
-    let is_old_source = |index: usize| call.command == Command::Put && index == 2;
-    let may_be_replaced = |index: usize| is_old_source(index) && call.output != Place::Standard;
+    let is_renamed = call.output.descriptor(OUTPUT).is_none();
+    let may_be_replaced = |index: usize| call.command == Command::Put && index == 2 && is_renamed;
     let lost = call
         .files
         .iter()
         .enumerate()
         .find(|&(index, input)| !may_be_replaced(index) && files::is_same_file(&call.output, input));
-    match (lost, &call.output) {
-        (None, _) => Ok(()),
-        (Some((_, input)), Place::File(_)) => {
-            Err(Failure::Trouble(format!("noontrough: the result would replace {}, which it is made from", input.name())))
-        }
-        (Some((_, input)), Place::Standard) => Err(Failure::Trouble(format!(
-            "noontrough: standard output goes into {}, which the result is made from; a shell's '>' empties a file first, so use -o",
-            input.name()
-        ))),
-    }
+    let Some((_, input)) = lost else { return Ok(()) };
+    let name = input.name();
+    Err(Failure::Trouble(if is_renamed {
+        format!("noontrough: the result would replace {name}, which it is made from")
+    } else {
+        format!(
+            "noontrough: the output goes into {name}, which the result is made from; \
+             a shell's '>' empties a file first, so use -o and its name"
+        )
+    }))
 }
 
 fn check(program: &Program) -> Result<Vec<u8>, Failure> {

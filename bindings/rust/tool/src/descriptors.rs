@@ -11,6 +11,7 @@ use std::sync::atomic::{AtomicBool, Ordering};
 
 pub const INPUT: RawFd = 0;
 pub const OUTPUT: RawFd = 1;
+const ERRORS: RawFd = 2;
 
 extern "C" {
     fn fcntl(fd: c_int, command: c_int, ...) -> c_int;
@@ -22,8 +23,9 @@ const EBADF: i32 = 9;
 const SIGXFSZ: c_int = 25;
 const SIG_IGN: usize = 1;
 
-static INPUT_WAS_CLOSED: AtomicBool = AtomicBool::new(false);
-static OUTPUT_WAS_CLOSED: AtomicBool = AtomicBool::new(false);
+/// Of the three standard descriptors, whether it was closed when the program was
+/// started.
+static WAS_CLOSED: [AtomicBool; 3] = [const { AtomicBool::new(false) }; 3];
 
 /// Called by the system before Rust's own beginnings.
 #[used]
@@ -31,8 +33,9 @@ static OUTPUT_WAS_CLOSED: AtomicBool = AtomicBool::new(false);
 static LOOK: extern "C" fn() = look;
 
 extern "C" fn look() {
-    INPUT_WAS_CLOSED.store(!is_open(INPUT), Ordering::Relaxed);
-    OUTPUT_WAS_CLOSED.store(!is_open(OUTPUT), Ordering::Relaxed);
+    for (fd, was_closed) in [INPUT, OUTPUT, ERRORS].into_iter().zip(&WAS_CLOSED) {
+        was_closed.store(!is_open(fd), Ordering::Relaxed);
+    }
 }
 
 fn is_open(fd: RawFd) -> bool {
@@ -42,11 +45,8 @@ fn is_open(fd: RawFd) -> bool {
 
 /// A file onto a descriptor, which stays open when the file is closed.
 pub fn file(fd: RawFd) -> io::Result<File> {
-    let was_closed = match fd {
-        INPUT => INPUT_WAS_CLOSED.load(Ordering::Relaxed),
-        OUTPUT => OUTPUT_WAS_CLOSED.load(Ordering::Relaxed),
-        _ => false,
-    };
+    let flag = usize::try_from(fd).ok().and_then(|index| WAS_CLOSED.get(index));
+    let was_closed = flag.is_some_and(|flag| flag.load(Ordering::Relaxed));
     if was_closed || !is_open(fd) {
         return Err(io::Error::from_raw_os_error(EBADF));
     }
@@ -60,10 +60,11 @@ pub fn of_path(path: &Path) -> Option<RawFd> {
     match path.to_str()? {
         "/dev/stdin" => Some(INPUT),
         "/dev/stdout" => Some(OUTPUT),
-        "/dev/stderr" => Some(2),
+        "/dev/stderr" => Some(ERRORS),
         path => {
             let folders = ["/dev/fd/", "/proc/self/fd/"];
-            folders.iter().find_map(|folder| path.strip_prefix(folder))?.parse().ok()
+            let number = folders.iter().find_map(|folder| path.strip_prefix(folder))?;
+            number.bytes().all(|byte| byte.is_ascii_digit()).then(|| number.parse().ok())?
         }
     }
 }

@@ -4,9 +4,10 @@
 //! wrong, a full disk too, leaves it as it was.
 
 use std::ffi::OsStr;
-use std::fs::{self, File, Metadata, OpenOptions};
+use std::fs::{self, File, Metadata, OpenOptions, Permissions};
 use std::io::{self, Read, Write};
-use std::os::unix::fs::{fchown, MetadataExt, OpenOptionsExt};
+use std::os::fd::RawFd;
+use std::os::unix::fs::{fchown, FileTypeExt, MetadataExt, OpenOptionsExt, PermissionsExt};
 use std::path::{Path, PathBuf};
 use std::time::{SystemTime, UNIX_EPOCH};
 
@@ -30,11 +31,18 @@ impl Place {
         }
     }
 
-    /// How messages call it.
+    /// How messages call it: a line of them has one line, whatever the file's name.
     pub fn name(&self) -> String {
+        let path = self.path_or("-").to_string_lossy();
+        path.chars().map(|letter| if letter.is_control() { '?' } else { letter }).collect()
+    }
+
+    /// The descriptor that it stands for, if it is none that has a file of its own:
+    /// `-`, given the one that it is here, and names such as `/dev/stdout`.
+    pub fn descriptor(&self, standard: RawFd) -> Option<RawFd> {
         match self {
-            Place::Standard => "-".to_string(),
-            Place::File(path) => path.display().to_string(),
+            Place::Standard => Some(standard),
+            Place::File(path) => descriptors::of_path(&behind_links(path.clone())),
         }
     }
 
@@ -64,31 +72,24 @@ pub const MOST: usize = 1 << 20;
 /// The bytes of a file, or the first [`MOST`] and one of a longer one.
 pub fn read(place: &Place) -> Result<Vec<u8>, Failure> {
     let mut bytes = Vec::new();
-    let file = match place {
-        Place::Standard => descriptors::file(INPUT),
-        Place::File(path) => File::open(path),
+    let file = match place.descriptor(INPUT) {
+        Some(descriptor) => descriptors::file(descriptor),
+        None => File::open(place.path_or("-")),
     };
     let read = file.and_then(|file| file.take(MOST as u64 + 1).read_to_end(&mut bytes));
     read.map(|_| bytes).map_err(|error| Failure::to_read(place, &error))
 }
 
 pub fn write(place: &Place, bytes: &[u8]) -> Result<(), Failure> {
-    let written = match place {
-        Place::Standard => write_to(OUTPUT, bytes),
-        Place::File(path) => write_file(path, bytes),
+    let written = match place.descriptor(OUTPUT) {
+        Some(descriptor) => descriptors::file(descriptor).and_then(|mut file| file.write_all(bytes)),
+        None => write_file(place.path_or("-"), bytes),
     };
     written.map_err(|error| Failure::to_write(place, &error))
 }
 
-fn write_to(descriptor: i32, bytes: &[u8]) -> io::Result<()> {
-    descriptors::file(descriptor)?.write_all(bytes)
-}
-
 fn write_file(path: &Path, bytes: &[u8]) -> io::Result<()> {
     let target = behind_links(path.to_path_buf());
-    if let Some(descriptor) = descriptors::of_path(&target) {
-        return write_to(descriptor, bytes);
-    }
     let found = match fs::metadata(&target) {
         Err(error) if error.kind() == io::ErrorKind::NotFound => return replace(&target, None, bytes),
         found => found?,
@@ -96,10 +97,13 @@ fn write_file(path: &Path, bytes: &[u8]) -> io::Result<()> {
     if found.is_dir() {
         return Err(io::Error::from(io::ErrorKind::IsADirectory));
     }
+    if found.file_type().is_block_device() {
+        return Err(io::Error::other("is a block device"));
+    }
     // Whoever may not write a file may not replace it either. Nothing is changed by opening it.
     let mut opened = OpenOptions::new().write(true).open(&target)?;
     if !found.is_file() {
-        // A device or a pipe can't be replaced, and holds nothing that could be lost.
+        // A terminal or a pipe can't be replaced, and holds nothing that could be lost.
         return opened.write_all(bytes);
     }
     replace(&target, Some(&found), bytes)
@@ -125,7 +129,8 @@ fn replace(target: &Path, old: Option<&Metadata>, bytes: &[u8]) -> io::Result<()
     let fresh = beside(target)?;
     // Until it has the permissions of the old one, nobody else may read it.
     let mode = if old.is_some() { 0o600 } else { 0o666 };
-    let file = OpenOptions::new().write(true).create_new(true).mode(mode).open(&fresh)?;
+    let made = OpenOptions::new().write(true).create_new(true).mode(mode).open(&fresh);
+    let file = made.map_err(|error| io::Error::other(format!("its folder takes no new file: {error}")))?;
     let written = fill(file, old, bytes).and_then(|()| fs::rename(&fresh, target));
     if written.is_err() {
         // What went wrong is told; that this could not be undone would not help.
@@ -145,13 +150,16 @@ fn fill(mut file: File, old: Option<&Metadata>, bytes: &[u8]) -> io::Result<()> 
 
 /// Gives a file the owner, the group and the permissions of the one that it
 /// replaces. Only root may give a file away; if the owner changes, the group has
-/// to stay, or whoever shared the file could no longer write it.
+/// to stay, or whoever shared the file could no longer write it. If the group
+/// changes, the new one gets no rights that the old one had.
 fn take_after(file: &File, old: &Metadata) -> io::Result<()> {
     let kept = fchown(file, Some(old.uid()), Some(old.gid())).or_else(|_| fchown(file, None, Some(old.gid())));
-    if file.metadata()?.uid() != old.uid() {
+    let new = file.metadata()?;
+    if new.uid() != old.uid() {
         kept?;
     }
-    file.set_permissions(old.permissions())
+    let group = if new.gid() == old.gid() { 0o070 } else { 0 };
+    file.set_permissions(Permissions::from_mode(old.mode() & (0o7707 | group)))
 }
 
 /// A name in the folder of a file that no other run of this program uses, and

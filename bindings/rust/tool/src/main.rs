@@ -1,8 +1,9 @@
 //! `noontrough`: lens programs, sheets and sources on the command line.
 //!
 //! The answers are the linked engine's, which is proved. What this program adds
-//! is told on standard error: where a refusal comes from, worked out by the
-//! reference, which is not.
+//! is not: where a refusal comes from, told on standard error, and the two numbers
+//! of positions that `check` writes behind its `ok`. They are worked out by the
+//! reference, by the assembler and here.
 //!
 //! It never harms a file. The exit status is 0 for a result, 1 for a refusal and
 //! 2 for wrong usage or a file that can't be read or written; standard output and
@@ -33,6 +34,7 @@ mod texts;
 mod words;
 
 use std::ffi::OsString;
+use std::panic::catch_unwind;
 use std::process::ExitCode;
 
 use arguments::Request;
@@ -42,7 +44,10 @@ use files::Place;
 fn main() -> ExitCode {
     descriptors::let_writes_fail();
     let words: Vec<OsString> = std::env::args_os().skip(1).collect();
-    match run(&words) {
+    // A panic has been told when it comes here: a mistake of ours, or no memory for a thread.
+    let done =
+        catch_unwind(|| run(&words)).unwrap_or_else(|_| Err(Failure::Trouble("noontrough: no result".to_string())));
+    match done {
         Ok(()) => ExitCode::SUCCESS,
         Err(failure) => failure.tell(),
     }

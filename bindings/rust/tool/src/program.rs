@@ -1,10 +1,10 @@
 //! A program from a file, as a table or as text.
 
-use noontrough_assembler::{assemble, show, Assembled};
+use noontrough_assembler::{assemble, show, Assembled, Parts};
 
 use crate::failure::Failure;
 use crate::files::{self, Place, MOST};
-use crate::words::quote_name;
+use crate::words::{grouped, quote_name};
 
 pub struct Program {
     pub place: Place,
@@ -25,7 +25,7 @@ pub fn is_text(bytes: &[u8]) -> bool {
 pub fn load(place: &Place) -> Result<Program, Failure> {
     let bytes = files::read(place)?;
     if bytes.len() > MOST {
-        return Err(Failure::Trouble(format!("noontrough: {} has over {MOST} bytes", place.name())));
+        return Err(Failure::Trouble(format!("noontrough: {} has over {} bytes", place.name(), grouped(MOST))));
     }
     let place = place.clone();
     if is_text(&bytes) {
@@ -60,18 +60,14 @@ impl Program {
 
     /// The kind and the operands of a node.
     pub fn record(&self, node: usize) -> Option<(u8, [usize; 3])> {
-        let count = usize::from(*self.table.first()?);
-        let kind = *self.table.get(3 + node)?;
-        let start = 3 + count + 3 * node;
-        let operands = self.table.get(start..start + 3)?;
-        Some((kind, [0, 1, 2].map(|place| usize::from(operands[place]))))
+        let (kind, operands) = Parts::of(&self.table).ok()?.record(node)?;
+        Some((kind, operands.map(usize::from)))
     }
 
     /// The text of a word node.
     pub fn word(&self, node: usize) -> Option<&[u8]> {
-        let (_, [high, low, length]) = self.record(node)?;
-        let pool = self.table.get(3 + 4 * usize::from(self.table[0])..)?;
-        let start = 256 * high + low;
-        pool.get(start..start + length)
+        let parts = Parts::of(&self.table).ok()?;
+        let (_, operands) = parts.record(node)?;
+        parts.word(operands)
     }
 }

@@ -17,7 +17,12 @@ pub fn told(program: &Program, side: Side, text: &Text) -> Option<String> {
     let reach = reading.reach(side, &text.bytes)?;
     let other = if side == Side::Source { Side::Sheet } else { Side::Source };
     let is_other = reading.fits(reading.root(), other, &text.bytes);
-    let hint = if is_other { Some(swapped(side)) } else { hint(&text.bytes, &reach) };
+    let wants_newline = reading.fits(reading.root(), side, &[&text.bytes[..], b"\n"].concat());
+    let hint = match (is_other, wants_newline) {
+        (true, _) => Some(swapped(side)),
+        (_, true) => Some("The file has lost its last newline."),
+        _ => hint(&text.bytes, &reach),
+    };
     let hint = hint.map_or_else(String::new, |hint| format!("\n{hint}"));
     Some(format!("{}{hint}", stop(text, &reach)))
 }
@@ -73,7 +78,6 @@ fn could(reach: &Reach) -> String {
 
 /// The usual reasons, which are hard to see in an editor.
 fn hint(bytes: &[u8], reach: &Reach) -> Option<&'static str> {
-    let takes_newline = reach.could_follow.iter().any(|&(first, last)| (first..=last).contains(&b'\n'));
     match &bytes[reach.place..] {
         [0xEF, 0xBB, 0xBF, ..] if reach.place == 0 => {
             Some("The file begins with a byte order mark, which the program does not foresee: save it without one.")
@@ -83,7 +87,6 @@ fn hint(bytes: &[u8], reach: &Reach) -> Option<&'static str> {
         }
         [b'\r', ..] => Some("This line ends in CR, which the program does not foresee: save the file with LF."),
         [b'\n'] if reach.could_end => Some("The newline at the end of the file is one byte too many."),
-        [] if takes_newline => Some("The file may have lost its last newline."),
         _ => None,
     }
 }

@@ -6,12 +6,8 @@ use noontrough_assembler::line::{quote_byte, quote_text};
 const FIRST: usize = 40;
 const LAST: usize = 16;
 
-/// A name, or the words of a part, in single quotes. A text stands in quotes
-/// already.
+/// A name, or the words of a part, in single quotes.
 pub fn quote_name(words: &str) -> String {
-    if words.starts_with('"') {
-        return words.to_string();
-    }
     format!("'{words}'")
 }
 

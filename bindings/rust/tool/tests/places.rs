@@ -43,7 +43,7 @@ fn operands_that_break_a_rule() {
     );
     check(
         "text = copy \"x\"\nodd = raw 22 0 7 0\n",
-        &["p.lens:2:7: 'odd': \"x\" is a pattern, and 'match' takes a lens there"],
+        &["p.lens:2:7: 'odd': '\"x\"' is a pattern, and 'match' takes a lens there"],
     );
     check("text = copy \"x\"\nodd = raw 22 1 7 0\n", &["p.lens:2:7: 'odd': an operand that is not used is not 0"]);
     check("text = copy \"x\"\nodd = raw 22 9 0 0\n", &["p.lens:2:7: 'odd': its child 9 is no node above it"]);
@@ -169,7 +169,7 @@ fn how_far_a_source_could_be_read() {
     kerning.fails(
         "noontrough get program.lens cut",
         1,
-        &["cut:23:34: ", "' cannot end here; a newline", "lost its last newline"],
+        &["cut:23:34: ", "' cannot end here; a newline", "The file has lost its last newline."],
     );
     kerning.write("small", text.replace("A;W     -60", "A;W     -6O"));
     kerning.fails(
@@ -215,6 +215,10 @@ fn what_is_hard_to_see() {
         1,
         &[&format!("{line}{}^\n", " ".repeat("accents:2:5: 'B\u{e9};".chars().count()))],
     );
+    k.write("semicolon.lens", "text = copy (join [^;]* \";\")\n");
+    k.write("abc", "abc");
+    let done = k.sh("noontrough get semicolon.lens abc");
+    assert!(!done.stderr.contains("lost its last newline"), "a newline would not help: {}", done.stderr);
     k.write("open", "A\n");
     k.fails("noontrough get names.lens open", 1, &["open:1:2: 'A\\n' cannot go on here; any byte but a newline could"]);
 }
@@ -268,6 +272,18 @@ fn parts_go_by_their_own_words() {
         "v = lens join (copy \"a\") (copy \"b\"?)?\n",
         &["in the source: \"\" is of 'copy \"\"' and of 'copy \"b\"?'"],
     );
+}
+
+/// The nodes inside a suffix go by how often they have the part.
+#[test]
+fn suffixes_of_lenses() {
+    check("p = (copy [A-Z]+){3}\n", &[
+        "'2 of copy [A-Z]+', in the source: \"AAA\" is 'copy [A-Z]+' \"A\" and 'copy [A-Z]+' \"AA\", or 'copy [A-Z]+' \"AA\" and 'copy [A-Z]+' \"A\"",
+    ]);
+    check("p = (copy [A-Z]+)+\n", &["'any number of copy [A-Z]+', in the source: \"AA\" is the parts \"A\" and \"A\" of 'copy [A-Z]+', or \"AA\""]);
+    check("p = (copy [A-Z]+){1,3}\n", &[
+        "in the source: \"AA\" is 'copy [A-Z]+' \"A\" and 'up to 1 of copy [A-Z]+' \"A\", or 'copy [A-Z]+' \"AA\" and 'up to 1 of copy [A-Z]+' \"\"",
+    ]);
 }
 
 #[test]

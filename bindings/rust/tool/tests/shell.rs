@@ -39,7 +39,7 @@ fn programs_from_text_to_table_and_back() {
     }
     let k = Folder::of_example("k");
     k.write("short.lens", "all = lens join (key [A-Z]) (copy \";\")\n");
-    k.gives("noontrough where short.lens 2", "short.lens:1:35: node 2 is \";\", which 'all' makes beside its own\n");
+    k.gives("noontrough where short.lens 2", "short.lens:1:35: node 2 is '\";\"', which 'all' makes beside its own\n");
     k.gives("noontrough where program.lens 13", "program.lens:18:12: node 13 is 'entry'\n");
     k.gives("noontrough where program.table 13", "program.table: node 13 is 'n13 = match n12'\n");
     k.fails("noontrough where program.lens 15", 1, &["program.lens: there is no node 15; they are 0 to 14"]);
@@ -60,7 +60,11 @@ fn standard_input_and_output() {
         "cp source ./-odd && noontrough get program.lens ./-odd && noontrough get program.lens -- -odd",
         "AB;C;Z;A;A;AB;C;Z;A;A;",
     );
-    k.fails("noontrough get - - < source", 2, &["noontrough get: '-' stands for PROGRAM and SOURCE"]);
+    k.fails(
+        "noontrough get - - < source",
+        2,
+        &["noontrough get: standard input is to be PROGRAM and SOURCE, and is one file"],
+    );
 }
 
 #[test]
@@ -76,7 +80,7 @@ fn a_refusal_is_status_1_and_writes_nothing() {
     k.fails("noontrough get program.lens long", 1, &["refused 12 0", "long: 4,098 bytes"]);
     k.fails("noontrough get program.lens longest", 1, &["refused 12 0", "longest: 65,536 bytes"]);
     k.fails("noontrough get program.lens longer-still", 1, &["refused 12 0", "longer-still: over 1,048,576 bytes"]);
-    k.fails("noontrough check longer-still", 2, &["longer-still has over 1048576 bytes"]);
+    k.fails("noontrough check longer-still", 2, &["longer-still has over 1,048,576 bytes"]);
     k.fails("noontrough put program.lens sheet many", 1, &["refused 15 0", "many: 257 entries"]);
     k.fails("noontrough create program.lens full", 1, &["refused 16 0", "the result would have 6,144 bytes"]);
     k.write("short.table", &k.read("program.table")[..64]);
@@ -119,7 +123,11 @@ fn a_result_replaces_none_of_its_own_files() {
     k.fails("noontrough assemble program.lens -o ./program.lens", 2, &["the result would replace program.lens"]);
     assert_eq!(files.map(|file| k.read(file)), before);
     // What the shell has emptied is gone, but nobody takes it for a result.
-    k.fails("noontrough put program.lens edited source > source", 2, &["standard output goes into source"]);
+    k.fails(
+        "noontrough put program.lens edited source > source",
+        2,
+        &["the output goes into source, which the result is made from"],
+    );
     assert_eq!(k.read("source"), b"");
 }
 
@@ -134,12 +142,19 @@ fn a_redirection_is_no_way_around_that() {
         "noontrough put program.lens - source -o edited < edited",
         "noontrough put program.lens source source -o source",
         "noontrough assemble - -o program.lens < program.lens",
-        "noontrough get program.lens - -o /dev/fd/3 < source 3>> source",
     ] {
         k.fails(line, 2, &["the result would replace "]);
     }
-    k.fails("noontrough get program.lens - < source >> source", 2, &["standard output goes into -, which"]);
-    k.fails("noontrough get program.lens source 1<> source", 2, &["standard output goes into source"]);
+    for line in [
+        "noontrough get program.lens - < source >> source",
+        "noontrough get program.lens source 1<> source",
+        "noontrough get program.lens - -o /dev/fd/3 < source 3>> source",
+        "noontrough put program.lens edited source -o /dev/stdout >> source",
+        "noontrough put program.lens edited source -o /dev/fd/3 3<> source",
+        "noontrough put program.lens edited - -o /dev/stdout < source >> source",
+    ] {
+        k.fails(line, 2, &["the output goes into ", ", which the result is made from"]);
+    }
     assert_eq!(files.map(|file| k.read(file)), before);
 }
 
@@ -168,6 +183,13 @@ fn a_closed_descriptor_is_status_2() {
         &["standard output can't be written: Bad file descriptor"],
     );
     k.fails("noontrough get program.lens - <&-", 2, &["standard input can't be read: Bad file descriptor"]);
+    k.fails(
+        "noontrough put program.lens /dev/stdin source -o source <&-",
+        2,
+        &["/dev/stdin can't be read: Bad file descriptor"],
+    );
+    k.fails("noontrough get program.lens source -o /dev/stderr 2>&-", 2, &[]);
+    assert_eq!(k.read("source"), read(&in_repository("examples/k/source")));
     k.gives("noontrough get program.lens source > /dev/null", "");
     // Nothing is told, and the status still tells.
     k.fails("noontrough get program.lens no-such-file 2>&-", 2, &[]);
@@ -216,7 +238,7 @@ fn what_cannot_be_written_is_status_2() {
     k.fails(
         "noontrough get program.lens source -o no/such/folder",
         2,
-        &["no/such/folder can't be written: No such file"],
+        &["no/such/folder can't be written: its folder takes no new file: No such file"],
     );
     k.fails("noontrough get program.lens source -o ''", 2, &["behind -o a file is missing"]);
     let long = "x".repeat(255);
@@ -272,6 +294,12 @@ fn wrong_usage_names_the_argument() {
     let cases = [
         ("noontrough", "noontrough: a command is missing\nusage: noontrough check|get|put|"),
         ("noontrough -o x get y z", "noontrough: '-o' stands before the command; options come behind it\nusage:"),
+        ("noontrough help nonsense", "noontrough: there is no command 'nonsense'\nusage:"),
+        ("noontrough --version x", "noontrough: 'x' is one argument too many\nusage:"),
+        ("noontrough get /dev/stdin - < source", "noontrough get: standard input is to be PROGRAM and SOURCE"),
+        ("noontrough get program.lens source --output=", "noontrough get: there is no option '--output='"),
+        ("noontrough where - - < source", "noontrough where: '-' is no node's number"),
+        ("noontrough where program.lens +1", "noontrough where: '+1' is no node's number"),
         ("noontrough get --version", "noontrough get: there is no option '--version'"),
         ("noontrough list x", "noontrough: there is no command 'list'\nusage:"),
         ("noontrough check", "noontrough check: PROGRAM is missing\nusage: noontrough check PROGRAM [-o FILE]"),
