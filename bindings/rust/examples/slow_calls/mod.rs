@@ -3,6 +3,10 @@
 
 use noontrough::MAX_TEXT;
 use noontrough_reference::generator::draft::{Draft, NodeNumber};
+use noontrough_reference::generator::random::Random;
+use noontrough_reference::generator::texts::draw_of_length;
+use noontrough_reference::table::Side;
+use noontrough_reference::Program;
 
 /// A call, and the text that it gives.
 pub enum Call {
@@ -38,7 +42,37 @@ pub fn all() -> Vec<Slow> {
     all.push(many_long_keys());
     all.push(kept_right_arms());
     all.push(lookups_in_vain());
+    all.extend(slowest_check());
     all
+}
+
+/// The table whose check takes longest, with a long text: every call checks its
+/// program.
+fn slowest_check() -> [Slow; 3] {
+    let table = include_bytes!("../tables/g4.table").to_vec();
+    let program = Program::read(&table).expect("the program is right");
+    let sources = program.automaton(program.root(), Side::Source);
+    let drawn = (0..=MAX_TEXT).rev().filter_map(|length| draw_of_length(&mut Random::new(1), sources, length));
+    let mut with_sheets = drawn.map(|source| (program.get(&source), source));
+    let fits = |text: &[u8]| text.len() <= MAX_TEXT && program.create(text).len() <= MAX_TEXT;
+    let (sheet, source) = with_sheets.find(|(sheet, _)| fits(sheet)).expect("the empty text is a source");
+    let name = |call: &str| format!("{call}, the table g4, a source of {} bytes", source.len());
+    let created = program.create(&sheet);
+    [
+        Slow {
+            name: name("get"),
+            table: table.clone(),
+            call: Call::Get { source: source.clone() },
+            gives: sheet.clone(),
+        },
+        Slow {
+            name: name("put"),
+            table: table.clone(),
+            call: Call::Put { sheet: sheet.clone(), source: source.clone() },
+            gives: source.clone(),
+        },
+        Slow { name: name("create"), table, call: Call::Create { sheet }, gives: created },
+    ]
 }
 
 fn put(name: &str, draft: &Draft, sheet: &[u8], source: &[u8], gives: &[u8]) -> Slow {

@@ -48,3 +48,16 @@ fn the_demo() {
     );
     assert!(done.stderr.contains("wrong:5:6: 'A;V;- 80' cannot go on here; '1' to '9' could"), "{}", done.stderr);
 }
+
+/// Where the engine can't be proved, the demo shows all that the prover said, and
+/// ends there.
+#[test]
+fn the_demo_without_a_proof() {
+    let folder = Folder::new();
+    folder.write("rt", "#!/bin/sh\necho 'rt: table proved (1 s)'\necho 'fn table::read: returns' >&2\nexit 1\n");
+    let demo = in_repository("demo");
+    let done = folder.sh(&format!("chmod +x rt && PATH=$PWD:$PATH NOONTROUGH= '{}'", demo.display()));
+    assert_eq!(done.status, 2, "{}", done.stdout);
+    assert!(done.stdout.ends_with("\nrt: table proved (1 s)\n"), "{}", done.stdout);
+    assert_eq!(done.stderr, "rt: table proved (1 s)\nfn table::read: returns\n");
+}

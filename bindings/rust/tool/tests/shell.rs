@@ -202,6 +202,18 @@ fn a_program_saved_with_a_mark_before_it() {
     k.gives("noontrough check marked.lens", "ok 15 4 3\n");
 }
 
+/// The automata of 94 joins, one inside the other, take 628 KB of stack, more than
+/// the whole process has here.
+#[test]
+fn a_small_stack() {
+    let folder = Folder::new();
+    let joins: String = (1..94).map(|n| format!("j{n} = lens join x j{}\n", n - 1)).collect();
+    folder.write("deep.lens", format!("x = copy \"a\"\nj0 = lens join x x\n{joins}"));
+    folder.write("text", "a".repeat(95));
+    folder.gives("ulimit -s 512 && noontrough check deep.lens", "ok 96 95 95\n");
+    folder.gives("ulimit -s 512 && noontrough put deep.lens text text", &"a".repeat(95));
+}
+
 /// The file system refuses the bytes half way, as a full disk does. (A limit on
 /// the size of files can be set by everybody; with its signal ignored, the write
 /// itself fails.)

@@ -1,0 +1,115 @@
+//! Random programs and texts through the tool: it ends with one of its exit
+//! statuses, writes nothing to standard output beside a refusal, tells of every
+//! refusal its number and node, and otherwise gives what the linked engine gives.
+
+mod common;
+
+use common::*;
+use noontrough::{Answer, MAX_TEXT};
+use noontrough_assembler::{assemble, show};
+use noontrough_reference::generator::cases::{program_cases, Call, Case};
+use noontrough_reference::generator::faults::mutated;
+use noontrough_reference::generator::programs::accepted;
+use noontrough_reference::generator::random::Random;
+use noontrough_reference::generator::texts::garbage;
+
+const PROGRAMS: usize = 100;
+const TEXTS: usize = 400;
+
+/// The engine's answer, and the bytes that it gave.
+fn answer(case: &Case) -> (Answer, Vec<u8>) {
+    let mut out = vec![0; MAX_TEXT];
+    let answer = match case.call {
+        Call::Check => noontrough::check(&case.table),
+        Call::Get => noontrough::get(&case.table, &case.source, &mut out),
+        Call::Put => noontrough::put(&case.table, &case.sheet, &case.source, &mut out),
+        Call::Create => noontrough::create(&case.table, &case.sheet, &mut out),
+    };
+    if let Answer::Result { length } = answer {
+        out.truncate(length);
+    }
+    (answer, out)
+}
+
+/// Makes the same call in a shell. True for a refusal.
+fn agrees(folder: &Folder, case: &Case) -> bool {
+    let files = [("table", &case.table), ("sheet", &case.sheet), ("source", &case.source)];
+    for (name, bytes) in files {
+        folder.write(name, bytes);
+    }
+    let line = match case.call {
+        Call::Check => "noontrough check table > result",
+        Call::Get => "noontrough get table source > result",
+        Call::Put => "noontrough put table sheet source > result",
+        Call::Create => "noontrough create table sheet > result",
+    };
+    let done = folder.sh(line);
+    let result = folder.read("result");
+    match answer(case) {
+        (Answer::Result { length }, out) => {
+            assert_eq!((done.status, done.stderr.as_str()), (0, ""), "{case:?}");
+            if case.call == Call::Check {
+                assert!(result.starts_with(format!("ok {length} ").as_bytes()), "{case:?}");
+            } else {
+                assert!(result == out, "{case:?}");
+            }
+            false
+        }
+        (Answer::Refusal { number, node }, _) => {
+            assert_eq!((done.status, result.len()), (1, 0), "{case:?}: {}", done.stderr);
+            let told = done.stderr.contains(&format!("refused {number} {node}: "));
+            // What looks like a text is read as one, and told in the assembler's words.
+            assert!(told || number == 1 && done.stderr.starts_with("table:"), "{case:?}: {}", done.stderr);
+            true
+        }
+    }
+}
+
+#[test]
+fn calls() {
+    let folder = Folder::new();
+    let mut random = Random::new(1);
+    let cases: Vec<Case> = (0..PROGRAMS).flat_map(|_| program_cases(&mut random)).collect();
+    let refused = cases.iter().filter(|case| agrees(&folder, case)).count();
+    assert!(refused > 100 && cases.len() - refused > 100, "{refused} of {} calls were refused", cases.len());
+}
+
+/// A program's text as it is shown, often with some bytes changed, or that of a
+/// table with some bytes changed.
+fn any_text(random: &mut Random) -> Vec<u8> {
+    let table = accepted(random).table();
+    let text = show(&table).expect("the sizes are right").into_bytes();
+    match random.below(4) {
+        0 => mutated(random, &text),
+        1 => garbage(random, &text),
+        2 => show(&mutated(random, &table)).map_or(text, String::into_bytes),
+        _ => text,
+    }
+}
+
+/// The exit status of a check: 0 if it is the text of a right program. With a
+/// control byte in it, it is no text.
+fn status_of(text: &[u8]) -> i32 {
+    let is_text = text.iter().all(|&byte| byte >= b' ' || b"\t\n\r".contains(&byte));
+    let table = assemble(text).map(|assembled| assembled.table);
+    let is_right = table.is_ok_and(|table| matches!(noontrough::check(&table), Answer::Result { .. }));
+    i32::from(!(is_text && is_right))
+}
+
+#[test]
+fn texts_of_programs() {
+    let folder = Folder::new();
+    let mut random = Random::new(2);
+    let mut met = [0, 0];
+    for _ in 0..TEXTS {
+        let text = any_text(&mut random);
+        folder.write("p.lens", &text);
+        let done = folder.sh("noontrough check p.lens");
+        let shown = String::from_utf8_lossy(&text);
+        assert_eq!(done.status, status_of(&text), "{}\n{shown}", done.stderr);
+        assert_eq!(done.stdout.is_empty(), done.status == 1, "{}\n{shown}", done.stdout);
+        assert_eq!(done.stderr.is_empty(), done.status == 0, "{}\n{shown}", done.stderr);
+        met[done.status as usize] += 1;
+    }
+    assert!(met.iter().all(|&count| count > TEXTS / 10), "results and refusals: {met:?}");
+}
