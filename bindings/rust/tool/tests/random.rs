@@ -1,6 +1,6 @@
 //! Random programs and texts through the tool: it ends with one of its exit
-//! statuses, writes nothing to standard output beside a refusal, tells of every
-//! refusal its number and node, and otherwise gives what the linked engine gives.
+//! statuses, writes nothing to standard output beside a refusal, tells the engine's
+//! number and node of it, and otherwise gives what the linked engine gives.
 
 mod common;
 

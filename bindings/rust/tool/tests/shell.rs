@@ -203,7 +203,7 @@ fn a_program_saved_with_a_mark_before_it() {
 }
 
 /// The automata of 94 joins, one inside the other, take 628 KB of stack, more than
-/// the whole process has here.
+/// the main thread has here.
 #[test]
 fn a_small_stack() {
     let folder = Folder::new();
