@@ -22,6 +22,30 @@ pub enum Answer {
     Refusal { number: usize, node: usize },
 }
 
+// The sheet entries of a put that took an old entry, those that did not, and the old entries left unused.
+pub struct Tally {
+    pub kept: usize,
+    pub made: usize,
+    pub dropped: usize,
+}
+
+// What a call came to: its answer and, where a put has a result, its tally.
+pub struct Reply {
+    pub answer: Answer,
+    pub tally: Tally,
+}
+
+// What a put answers: a result with its length and its tally, or a refusal with its number and node.
+pub enum PutAnswer {
+    Result {
+        length: usize,
+        kept: usize,
+        made: usize,
+        dropped: usize,
+    },
+    Refusal { number: usize, node: usize },
+}
+
 // What checking a program in a lent slice came to.
 pub enum Checked {
     Accepted,

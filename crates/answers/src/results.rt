@@ -1,5 +1,8 @@
 // What the calls that give a text have in common: the root's languages, the room for a result, and the copy into the output buffer.
 use crate::Answer;
+use crate::PutAnswer;
+use crate::Reply;
+use crate::Tally;
 use automaton::Side;
 use automaton::automaton_of;
 use lens::Wrote;
@@ -93,4 +96,45 @@ pub fn give(text: &[u8], out: &mut [u8]) -> Answer
     }
     write_text(text, out);
     Answer::Result { length }
+}
+
+// The reply of a call that counts nothing.
+pub fn uncounted(answer: Answer) -> Reply
+    ensures { λ r. ⌜ r .answer ≡ answer ⌝ }
+{
+    let tally = Tally {
+        kept: 0,
+        made: 0,
+        dropped: 0,
+    };
+    Reply { answer, tally }
+}
+
+// The answer of a put, with the tally of its reply.
+pub fn with_tally(reply: Reply) -> PutAnswer
+    ensures { λ r. ⌜ r ≡ tallied (reply .answer) (reply .tally) ⌝ }
+{
+    let answer = reply.answer;
+    let tally = reply.tally;
+    match answer {
+        Answer::Result { length } => {
+            PutAnswer::Result {
+                length,
+                kept: tally.kept,
+                made: tally.made,
+                dropped: tally.dropped,
+            }
+        }
+        Answer::Refusal { number, node } => PutAnswer::Refusal { number, node },
+    }
+}
+
+// The answer of a put without its tally.
+pub fn without_tally(answer: PutAnswer) -> Answer
+    ensures { λ r. ⌜ r ≡ untallied answer ⌝ }
+{
+    match answer {
+        PutAnswer::Result { length, .. } => Answer::Result { length },
+        PutAnswer::Refusal { number, node } => Answer::Refusal { number, node },
+    }
 }

@@ -1,5 +1,6 @@
 // What Put does with an accepted and prepared program: a source from a sheet and an old source.
-use answers::Answer;
+use answers::Reply;
+use answers::Tally;
 use answers::results::finish;
 use answers::results::no_marks;
 use answers::results::no_text;
@@ -7,6 +8,7 @@ use answers::results::refuse;
 use answers::results::room_in;
 use answers::results::root_of;
 use answers::results::root_path;
+use answers::results::uncounted;
 use automaton::Side;
 use books::Book;
 use books::Place;
@@ -16,9 +18,11 @@ use decks::deck::begin_deck;
 use decks::deck::deal;
 use decks::deck::move_deck;
 use lens::Wrote;
+use lens::texts::none_written;
 use listing::Listing;
 use listing::list;
 use steps::Spot;
+use std::num::wrapping_sub_usize;
 use table::Table;
 use writer::Done;
 use writer::write::put;
@@ -54,27 +58,27 @@ pub fn put_with(
     sheet: &[u8],
     source: &[u8],
     out: &mut [u8],
-) -> Answer
+) -> Reply
     requires { ⌜ Ready (now bytes) (now prepared) ⌝ }
     ensures { λ r. ⌜ GivesText (putCall (now (bytes .entry)) (now (sheet .entry)) (now (source .entry)) (length (now (out .entry)))) (now (out .entry)) (now (out .exit)) r ⌝ }
 {
     if Table::TEXT < sheet.len() {
-        return refuse(12);
+        return refuse_put(12);
     }
     if Table::TEXT < source.len() {
-        return refuse(12);
+        return refuse_put(12);
     }
     let mut old_positions = no_text();
     let n = source.len();
     let trail = &mut old_positions[0..n];
     if !root_path(bytes, prepared, Side::Source, source, trail) {
-        return refuse(13);
+        return refuse_put(13);
     }
     let mut positions = no_text();
     let m = sheet.len();
     let path = &mut positions[0..m];
     if !root_path(bytes, prepared, Side::Sheet, sheet, path) {
-        return refuse(14);
+        return refuse_put(14);
     }
     put_parsed(bytes, prepared, sheet, path, source, trail, out)
 }
@@ -88,21 +92,85 @@ fn put_parsed(
     old: &[u8],
     trail: &[u8],
     out: &mut [u8],
-) -> Answer
+) -> Reply
     requires { ⌜ Ready (now bytes) (now prepared) ⌝ }
     requires { ⌜ TextReady (now bytes) sheet (now new) (now path) × TextReady (now bytes) source (now old) (now trail) ⌝ }
     ensures { λ r. ⌜ PutsInto (now (bytes .entry)) (now (new .entry)) (now (old .entry)) (now (out .entry)) (now (out .exit)) r ⌝ }
 {
     let listing = entries_of(bytes, prepared, old, trail);
     if listing.over {
-        return refuse(15);
+        return refuse_put(15);
     }
     let book = listing.book;
     let mut result = no_text();
     let room = room_in(out.len());
     let made = &mut result[0..room];
-    let wrote = write_source(bytes, prepared, new, path, old, trail, book, made);
-    finish(wrote, made, out)
+    let source = write_source(bytes, prepared, new, path, old, trail, book, made);
+    let wrote = source.wrote;
+    let answer = finish(wrote, made, out);
+    Reply {
+        answer,
+        tally: tally_of(wrote, book.count, source.dropped),
+    }
+}
+
+// What was written of a source, and how many entries of the book are left.
+pub struct Made {
+    pub wrote: Wrote,
+    pub dropped: usize,
+}
+
+// A refusal has no counts.
+fn refuse_put(number: usize) -> Reply
+    ensures { λ r. ⌜ r .answer ≡ Refusal number 0 ⌝ }
+{
+    uncounted(refuse(number))
+}
+
+// How many entries were not taken, by their marks.
+fn unused_in(used: &[bool]) -> usize
+    ensures { λ r. ⌜ r ≡ unusedOf (now (used .entry)) ⌝ }
+{
+    let mut i = 0;
+    let mut n = 0;
+    while i < used.len() {
+        n += one_if_unused(used[i]);
+        i += 1;
+    }
+    n
+}
+
+fn one_if_unused(used: bool) -> usize
+    ensures { λ r. ⌜ r ≡ cond used 0 1 ⌝ }
+{
+    if used {
+        return 0;
+    }
+    1
+}
+
+// The tally, from the matches that were met and the old entries, those left among them.
+fn tally_of(wrote: Wrote, entries: usize, dropped: usize) -> Tally
+    requires { ⌜ dropped ≤ entries ⌝ }
+    ensures { λ r. ⌜ r ≡ tallyFrom wrote entries dropped ⌝ }
+{
+    let kept = entries - dropped;
+    match wrote {
+        Wrote::Count { matches, .. } => {
+            Tally {
+                kept,
+                made: wrapping_sub_usize(matches, kept),
+                dropped,
+            }
+        }
+        Wrote::Full => {
+            Tally {
+                kept,
+                made: 0,
+                dropped,
+            }
+        }
+    }
 }
 
 // The desks that a put is written from: one with a small deck, and one with a deck for the cards of any keys, which goes on from what the small one has.
@@ -293,7 +361,7 @@ fn write_from(
     book: Book,
     deck: &[u8],
     out: &mut [u8],
-) -> Wrote
+) -> Made
     requires { ⌜ Ready (now bytes) (now prepared) × BelowIs (now bytes) (now below) ⌝ }
     requires { ⌜ TextReady (now bytes) sheet (now new) (now path) ⌝ }
     requires { ⌜ BookReady (now bytes) (now old) (now trail) book ⌝ }
@@ -304,7 +372,7 @@ fn write_from(
     let spot = Spot { node, base: 0 };
     let place = whole(old.len());
     let mut card = no_card();
-    let none = Wrote::Count(0);
+    let none = none_written();
     let start = Done { wrote: none, book };
     let done = put(
         start,
@@ -319,7 +387,13 @@ fn write_from(
         &mut card,
         out,
     );
-    done.wrote
+    let wrote = done.wrote;
+    let rest = done.book;
+    let n = rest.count;
+    Made {
+        wrote,
+        dropped: unused_in(&rest.used[0..n]),
+    }
 }
 
 // The source, from a large deck, with the cards that another one has and then the rest.
@@ -335,7 +409,7 @@ fn write_large(
     dealt: Dealing,
     cards: &[u8],
     out: &mut [u8],
-) -> Wrote
+) -> Made
     requires { ⌜ Ready (now bytes) (now prepared) × BelowIs (now bytes) (now below) ⌝ }
     requires { ⌜ TextReady (now bytes) sheet (now new) (now path) ⌝ }
     requires { ⌜ BookReady (now bytes) (now old) (now trail) book ⌝ }
@@ -357,7 +431,10 @@ fn write_large(
         &mut deck,
     );
     if all.entries < book.count {
-        return Wrote::Full;
+        return Made {
+            wrote: Wrote::Full,
+            dropped: 0,
+        };
     }
     write_from(
         bytes,
@@ -384,7 +461,7 @@ fn write_small(
     below: &[u64],
     book: Book,
     out: &mut [u8],
-) -> Wrote
+) -> Made
     requires { ⌜ Ready (now bytes) (now prepared) × BelowIs (now bytes) (now below) ⌝ }
     requires { ⌜ TextReady (now bytes) sheet (now new) (now path) ⌝ }
     requires { ⌜ BookReady (now bytes) (now old) (now trail) book ⌝ }
@@ -436,7 +513,7 @@ fn write_at(
     book: Book,
     cards: &[u8],
     out: &mut [u8],
-) -> Wrote
+) -> Made
     requires { ⌜ Ready (now bytes) (now prepared) × BelowIs (now bytes) (now below) ⌝ }
     requires { ⌜ TextReady (now bytes) sheet (now new) (now path) ⌝ }
     requires { ⌜ BookReady (now bytes) (now old) (now trail) book ⌝ }
@@ -485,7 +562,7 @@ fn write_source(
     trail: &[u8],
     book: Book,
     out: &mut [u8],
-) -> Wrote
+) -> Made
     requires { ⌜ Ready (now bytes) (now prepared) ⌝ }
     requires { ⌜ TextReady (now bytes) sheet (now new) (now path) ⌝ }
     requires { ⌜ BookReady (now bytes) (now old) (now trail) book ⌝ }

@@ -11,5 +11,6 @@ pub fn create(bytes: &[u8], sheet: &[u8], out: &mut [u8]) -> Answer
     ensures { λ r. ⌜ GivesText (createCall (now (bytes .entry)) (now (sheet .entry)) (length (now (out .entry)))) (now (out .entry)) (now (out .exit)) r ⌝ }
 {
     let none = &bytes[0..0];
-    answer_in(Room::Small, Call::Create, bytes, sheet, none, out)
+    let reply = answer_in(Room::Small, Call::Create, bytes, sheet, none, out);
+    reply.answer
 }

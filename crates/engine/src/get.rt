@@ -11,5 +11,6 @@ pub fn get(bytes: &[u8], source: &[u8], out: &mut [u8]) -> Answer
     ensures { λ r. ⌜ GivesText (getCall (now (bytes .entry)) (now (source .entry)) (length (now (out .entry)))) (now (out .entry)) (now (out .exit)) r ⌝ }
 {
     let none = &bytes[0..0];
-    answer_in(Room::Small, Call::Get, bytes, none, source, out)
+    let reply = answer_in(Room::Small, Call::Get, bytes, none, source, out);
+    reply.answer
 }

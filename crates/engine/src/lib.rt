@@ -22,7 +22,8 @@ pub fn check(bytes: &[u8]) -> Answer
 {
     let none = &bytes[0..0];
     let mut nothing = [0u8; 1];
-    answer_in(Room::Small, Call::Check, bytes, none, none, &mut nothing)
+    let reply = answer_in(Room::Small, Call::Check, bytes, none, none, &mut nothing);
+    reply.answer
 }
 
 // The line that `lenscheck` prints, at the start of a buffer, and its length.
@@ -33,7 +34,8 @@ pub fn lenscheck_line(bytes: &[u8], out: &mut [u8]) -> usize
     ensures short { λ r. ⌜ r ≤ 64 ⌝ }
 {
     let none = &bytes[0..0];
-    let answer = answer_in(Room::Small, Call::Line, bytes, none, none, out);
+    let reply = answer_in(Room::Small, Call::Line, bytes, none, none, out);
+    let answer = reply.answer;
     match answer {
         Answer::Result { length } => length,
         Answer::Refusal { number, node } => put_refused(number, node, out),

@@ -2,7 +2,9 @@
 // needs. What is added for a call is an arm of `answer_with`.
 use answers::Answer;
 use answers::Checked;
+use answers::Reply;
 use answers::check_in;
+use answers::results::uncounted;
 use calls::create::create_with;
 use calls::get::get_with;
 use calls::line::line_with;
@@ -32,9 +34,9 @@ pub enum Room {
     Full,
 }
 
-// What came of a call in a room: its answer, or that the program does not fit.
+// What came of a call in a room: its reply, or that the program does not fit.
 enum Tried {
-    Done(Answer),
+    Done(Reply),
     Small,
 }
 
@@ -65,19 +67,19 @@ fn answer_with(
     sheet: &[u8],
     source: &[u8],
     out: &mut [u8],
-) -> Answer
+) -> Reply
     requires { ⌜ Ready (now bytes) (now prepared) ⌝ }
     ensures { λ r. ⌜ Owes call (now (bytes .entry)) (now (sheet .entry)) (now (source .entry)) (now (out .entry)) (now (out .exit)) r ⌝ }
 {
     match call {
         Call::Check => {
             let length = node_count(bytes);
-            Answer::Result { length }
+            uncounted(Answer::Result { length })
         }
-        Call::Get => get_with(bytes, prepared, source, out),
+        Call::Get => uncounted(get_with(bytes, prepared, source, out)),
         Call::Put => put_with(bytes, prepared, sheet, source, out),
-        Call::Create => create_with(bytes, prepared, sheet, out),
-        Call::Line => line_with(bytes, prepared, out),
+        Call::Create => uncounted(create_with(bytes, prepared, sheet, out)),
+        Call::Line => uncounted(line_with(bytes, prepared, out)),
     }
 }
 
@@ -96,7 +98,7 @@ fn try_in(
     let checked = check_in(bytes, prepared);
     match checked {
         Checked::Accepted => Tried::Done(answer_with(call, bytes, prepared, sheet, source, out)),
-        Checked::Refused { number, node } => Tried::Done(Answer::Refusal { number, node }),
+        Checked::Refused { number, node } => Tried::Done(uncounted(Answer::Refusal { number, node })),
         Checked::Small => Tried::Small,
     }
 }
@@ -131,30 +133,30 @@ pub fn answer_in(
     sheet: &[u8],
     source: &[u8],
     out: &mut [u8],
-) -> Answer
+) -> Reply
     ensures { λ r. ⌜ Owes call (now (bytes .entry)) (now (sheet .entry)) (now (source .entry)) (now (out .entry)) (now (out .exit)) r ⌝ }
 {
     match room {
         Room::Small => {
             let tried = try_small(call, bytes, sheet, source, out);
             match tried {
-                Tried::Done(answer) => answer,
+                Tried::Done(reply) => reply,
                 Tried::Small => answer_in(Room::Middle, call, bytes, sheet, source, out),
             }
         }
         Room::Middle => {
             let tried = try_middle(call, bytes, sheet, source, out);
             match tried {
-                Tried::Done(answer) => answer,
+                Tried::Done(reply) => reply,
                 Tried::Small => answer_in(Room::Full, call, bytes, sheet, source, out),
             }
         }
         Room::Full => {
             let tried = try_full(call, bytes, sheet, source, out);
             match tried {
-                Tried::Done(answer) => answer,
+                Tried::Done(reply) => reply,
                 // never: every program fits the full room, and no refusal has number 0
-                Tried::Small => Answer::Refusal { number: 0, node: 0 },
+                Tried::Small => uncounted(Answer::Refusal { number: 0, node: 0 }),
             }
         }
     }

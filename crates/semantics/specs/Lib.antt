@@ -7,3 +7,4 @@ pub mod Ambiguity
 pub mod Lens
 pub mod Table
 pub mod Calls
+pub mod Tally
