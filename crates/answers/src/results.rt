@@ -98,15 +98,21 @@ pub fn give(text: &[u8], out: &mut [u8]) -> Answer
     Answer::Result { length }
 }
 
+// The tally of what is not counted.
+pub fn no_tally() -> Tally
+{
+    Tally {
+        kept: 0,
+        made: 0,
+        dropped: 0,
+    }
+}
+
 // The reply of a call that counts nothing.
 pub fn uncounted(answer: Answer) -> Reply
     ensures { λ r. ⌜ r .answer ≡ answer ⌝ }
 {
-    let tally = Tally {
-        kept: 0,
-        made: 0,
-        dropped: 0,
-    };
+    let tally = no_tally();
     Reply { answer, tally }
 }
 

@@ -3,6 +3,7 @@ use answers::Reply;
 use answers::Tally;
 use answers::results::finish;
 use answers::results::no_marks;
+use answers::results::no_tally;
 use answers::results::no_text;
 use answers::results::refuse;
 use answers::results::room_in;
@@ -18,11 +19,9 @@ use decks::deck::begin_deck;
 use decks::deck::deal;
 use decks::deck::move_deck;
 use lens::Wrote;
-use lens::texts::none_written;
 use listing::Listing;
 use listing::list;
 use steps::Spot;
-use std::num::wrapping_sub_usize;
 use table::Table;
 use writer::Done;
 use writer::write::put;
@@ -110,13 +109,14 @@ fn put_parsed(
     let answer = finish(wrote, made, out);
     Reply {
         answer,
-        tally: tally_of(wrote, book.count, source.dropped),
+        tally: tally_of(source, book.count),
     }
 }
 
-// What was written of a source, and how many entries of the book are left.
+// What was written of a source, the matches that were met, and how many entries of the book are left.
 pub struct Made {
     pub wrote: Wrote,
+    pub met: usize,
     pub dropped: usize,
 }
 
@@ -149,27 +149,18 @@ fn one_if_unused(used: bool) -> usize
     1
 }
 
-// The tally, from the matches that were met and the old entries, those left among them.
-fn tally_of(wrote: Wrote, entries: usize, dropped: usize) -> Tally
-    requires { ⌜ dropped ≤ entries ⌝ }
-    ensures { λ r. ⌜ r ≡ tallyFrom wrote entries dropped ⌝ }
+// The tally of a source that was written, from the number of old entries. One that did not fit has none.
+fn tally_of(source: Made, entries: usize) -> Tally
 {
-    let kept = entries - dropped;
-    match wrote {
-        Wrote::Count { matches, .. } => {
-            Tally {
-                kept,
-                made: wrapping_sub_usize(matches, kept),
-                dropped,
-            }
-        }
-        Wrote::Full => {
-            Tally {
-                kept,
-                made: 0,
-                dropped,
-            }
-        }
+    let wrote = source.wrote;
+    if let Wrote::Full = wrote {
+        return no_tally();
+    }
+    let kept = entries - source.dropped;
+    Tally {
+        kept,
+        made: source.met - kept,
+        dropped: source.dropped,
     }
 }
 
@@ -221,10 +212,10 @@ fn no_card() -> [u8; Book::CARD]
 }
 
 // Room for what stands below each node.
-fn no_below() -> [u64; 3 * Table::NODES]
-    ensures { λ r. ⌜ 288 ≡ length r ⌝ }
+fn no_below() -> [u64; 4 * Table::NODES]
+    ensures { λ r. ⌜ 384 ≡ length r ⌝ }
 {
-    [0u64; 3 * Table::NODES]
+    [0u64; 4 * Table::NODES]
 }
 
 // The place of an old source of that length.
@@ -372,8 +363,12 @@ fn write_from(
     let spot = Spot { node, base: 0 };
     let place = whole(old.len());
     let mut card = no_card();
-    let none = none_written();
-    let start = Done { wrote: none, book };
+    let none = Wrote::Count(0);
+    let start = Done {
+        wrote: none,
+        book,
+        met: 0,
+    };
     let done = put(
         start,
         bytes,
@@ -392,6 +387,7 @@ fn write_from(
     let n = rest.count;
     Made {
         wrote,
+        met: done.met,
         dropped: unused_in(&rest.used[0..n]),
     }
 }
@@ -433,6 +429,7 @@ fn write_large(
     if all.entries < book.count {
         return Made {
             wrote: Wrote::Full,
+            met: 0,
             dropped: 0,
         };
     }

@@ -270,3 +270,17 @@ pub fn behind(n: usize, more: Wrote) -> Wrote
         Wrote::Full => Wrote::Full,
     }
 }
+
+// How many parts a sheet of a repeat has.
+pub fn count_parts(path: &[u8], ends: Ends) -> usize
+{
+    let last = ends.last;
+    let first = ends.first;
+    let mut o = 0;
+    let mut n = 0;
+    while o < path.len() {
+        o += first_loop(&path[o..], last, first);
+        n += 1;
+    }
+    n
+}

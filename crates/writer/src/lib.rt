@@ -4,8 +4,10 @@ use lens::Wrote;
 
 pub mod write;
 
-// What was written so far, and the book that is left.
+// What was written so far, the book that is left, and how many matches were met.
 pub struct Done {
     pub wrote: Wrote,
     pub book: Book,
+    // the matches that were met so far, modulo 2^64
+    pub met: usize,
 }

@@ -9,15 +9,18 @@ use books::Book;
 use books::Lookup;
 use books::Old;
 use books::Place;
-use decks::below::asks_none;
+use decks::below::VARIES;
+use decks::below::plain_count;
 use decks::cards::card_of;
 use lens::Wrote;
 use paths::Ends;
 use paths::first_loop;
+use std::num::wrapping_add_usize;
 use steps::Spot;
 use steps::behind;
 use steps::choose;
 use steps::choose_new;
+use steps::count_parts;
 use steps::cut_sheet;
 use steps::ends_of;
 use steps::halves_of;
@@ -63,9 +66,10 @@ fn next_plain(
     behind(n, more)
 }
 
-// The same, and the book that is left.
+// The same, with the book, which stays as it is, and the matches that it meets.
 fn plain_behind(
     done: Done,
+    matches: usize,
     bytes: &[u8],
     prepared: &[u64],
     spot: Spot,
@@ -83,8 +87,13 @@ fn plain_behind(
 {
     let book = done.book;
     let wrote = done.wrote;
+    let met = wrapping_add_usize(done.met, matches);
     let more = next_plain(wrote, bytes, prepared, spot, new, path, old, deck, out);
-    Done { wrote: more, book }
+    Done {
+        wrote: more,
+        book,
+        met,
+    }
 }
 
 // A sheet is put onto an old text. A node with no lens below it looks nothing up, so it writes without the book.
@@ -110,8 +119,9 @@ pub fn put(
     let base = spot.base;
     let old = Old::At(place);
     let book = done.book;
-    if asks_none(below, node, book.left) {
-        return plain_behind(done, bytes, prepared, spot, new, path, old, deck, below, out);
+    let matches = plain_count(below, node, book.left);
+    if matches < VARIES {
+        return plain_behind(done, matches as usize, bytes, prepared, spot, new, path, old, deck, below, out);
     }
     let read = Table::node(bytes, prepared, node);
     let kind = read.kind;
@@ -143,7 +153,7 @@ pub fn put(
             let inner = Spot { node: child, base };
             write_match(done, bytes, prepared, inner, new, path, deck, below, card, out)
         }
-        _ => plain_behind(done, bytes, prepared, spot, new, path, old, deck, below, out),
+        _ => plain_behind(done, 0, bytes, prepared, spot, new, path, old, deck, below, out),
     }
 }
 
@@ -169,8 +179,9 @@ pub fn create(
     let base = spot.base;
     let old = Old::Nothing;
     let book = done.book;
-    if asks_none(below, node, book.left) {
-        return plain_behind(done, bytes, prepared, spot, new, path, old, deck, below, out);
+    let matches = plain_count(below, node, book.left);
+    if matches < VARIES {
+        return plain_behind(done, matches as usize, bytes, prepared, spot, new, path, old, deck, below, out);
     }
     let read = Table::node(bytes, prepared, node);
     let kind = read.kind;
@@ -196,7 +207,7 @@ pub fn create(
             let inner = Spot { node: child, base };
             write_match(done, bytes, prepared, inner, new, path, deck, below, card, out)
         }
-        _ => plain_behind(done, bytes, prepared, spot, new, path, old, deck, below, out),
+        _ => plain_behind(done, 0, bytes, prepared, spot, new, path, old, deck, below, out),
     }
 }
 
@@ -273,6 +284,12 @@ fn write_repeat(
 {
     let base = spot.base;
     let ends = ends_of(prepared, child, Side::Sheet, base);
+    let book = done.book;
+    let each = plain_count(below, child, book.left);
+    if each < VARIES {
+        let matches = (each as usize) * count_parts(path, ends);
+        return plain_behind(done, matches, bytes, prepared, spot, new, path, old, deck, below, out);
+    }
     let read = Table::node(bytes, prepared, child);
     let kind = read.kind;
     if let Kind::Match { child: inner } = kind {
@@ -329,7 +346,12 @@ fn write_match(
     let lookup = find_entry(bytes, prepared, spot, new, path, deck, card, book);
     let rest = lookup.book;
     let found = lookup.old;
-    let left = Done { wrote, book: rest };
+    let met = wrapping_add_usize(done.met, 1);
+    let left = Done {
+        wrote,
+        book: rest,
+        met,
+    };
     match found {
         Old::At(place) => put(left, bytes, prepared, spot, new, path, place, deck, below, card, out),
         Old::Nothing => create(left, bytes, prepared, spot, new, path, deck, below, card, out),
@@ -364,6 +386,7 @@ fn write_matches(
     let first = ends.first;
     let mut book = done.book;
     let mut wrote = done.wrote;
+    let mut met = done.met;
     let mut o = 0;
     while o < new.len() {
         let e = o + first_loop(&path[o..], last, first);
@@ -376,7 +399,8 @@ fn write_matches(
         book = lookup.book;
         let found = lookup.old;
         wrote = next_plain(wrote, bytes, prepared, part, piece, track, found, deck, out);
+        met = wrapping_add_usize(met, 1);
         o = e;
     }
-    Done { wrote, book }
+    Done { wrote, book, met }
 }
