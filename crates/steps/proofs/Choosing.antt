@@ -6,7 +6,8 @@ use mathlib.Core.Option.{Option, none, some}
 use Prim.Native.Nat.{ℕ, _+_}
 use Rattle.semantics.specs.Text.{Text, apply}
 use Rattle.semantics.specs.Pattern.{matches}
-use Rattle.semantics.specs.Lens.{Lens, union, source, sheet, language, armOf, writeArm, write}
+use Rattle.semantics.specs.Lens.{Lens, union, source, sheet, language, Arm, putLeft, putRight, createLeft, createRight, armOf, writeArm, write}
+use Rattle.semantics.specs.Tally.{meetArm, met}
 use Rattle.semantics.specs.Lens.{Book as Entries}
 use Rattle.semantics.specs.Table.{trees, lens, positions}
 use Rattle.laws.specs.Membership.{matches-in, in-matches}
@@ -29,33 +30,48 @@ use Rattle.steps.proofs.Answers.{lentTrail, trail-lent}
 
 -- ---- What a union writes, by the tests of its arms
 
-module _ (l m : Lens) (a : Text) (b : Entries) where
-  -- without an old text
-  creates-left : matches (language sheet l) a ≡ true → write (union l m) none a b ≡ write l none a b
-  unfolding write apply armOf writeArm
-  creates-left e = rw e
+-- A lens writes as another one does, onto the old text that is kept, and meets the same matches.
+record Alike (whole part : Lens) (old kept : Option Text) (a : Text) : Type 0 where
+  writes : (b : Entries) → write whole old a b ≡ write part kept a b
+  meets : met whole old a ≡ met part kept a
 
-  creates-right : matches (language sheet l) a ≡ false → write (union l m) none a b ≡ write m none a b
-  unfolding write apply armOf writeArm
-  creates-right e = rw e
+-- a union does so with the arm that the tests choose
+by-arm :
+    (l m part : Lens) (old kept : Option Text) (a : Text) (arm : Arm)
+    → armOf (apply (matches (language source l)) old) (matches (language sheet l) a) (matches (language sheet m) a) ≡ arm
+    → ((b : Entries) → writeArm (write l) (write m) arm old a b ≡ write part kept a b)
+    → meetArm (met l) (met m) arm old a ≡ met part kept a
+    → Alike (union l m) part old kept a
+unfolding write met
+by-arm l m part old kept a arm e writes meets = record { writes = λ b. rw e (writes b); meets = rw e meets }
+
+module _ (l m : Lens) (a : Text) where
+  -- without an old text
+  creates-left : matches (language sheet l) a ≡ true → Alike (union l m) l none none a
+  unfolding apply armOf writeArm meetArm
+  creates-left e = by-arm l m l none none a createLeft (rw e) (λ b. refl) refl
+
+  creates-right : matches (language sheet l) a ≡ false → Alike (union l m) m none none a
+  unfolding apply armOf writeArm meetArm
+  creates-right e = by-arm l m m none none a createRight (rw e) (λ b. refl) refl
 
   -- onto one of the left arm
-  puts-left : (t : Text) → matches (language source l) t ≡ true → matches (language sheet l) a ≡ true → write (union l m) (some t) a b ≡ write l (some t) a b
-  unfolding write apply armOf writeArm
-  puts-left t e f = rw (e, f)
+  puts-left : (t : Text) → matches (language source l) t ≡ true → matches (language sheet l) a ≡ true → Alike (union l m) l (some t) (some t) a
+  unfolding apply armOf writeArm meetArm
+  puts-left t e f = by-arm l m l (some t) (some t) a putLeft (rw (e, f)) (λ b. refl) refl
 
-  turns-right : (t : Text) → matches (language source l) t ≡ true → matches (language sheet l) a ≡ false → write (union l m) (some t) a b ≡ write m none a b
-  unfolding write apply armOf writeArm
-  turns-right t e f = rw (e, f)
+  turns-right : (t : Text) → matches (language source l) t ≡ true → matches (language sheet l) a ≡ false → Alike (union l m) m (some t) none a
+  unfolding apply armOf writeArm meetArm
+  turns-right t e f = by-arm l m m (some t) none a createRight (rw (e, f)) (λ b. refl) refl
 
   -- onto one of the right arm
-  puts-right : (t : Text) → matches (language source l) t ≡ false → matches (language sheet m) a ≡ true → write (union l m) (some t) a b ≡ write m (some t) a b
-  unfolding write apply armOf writeArm
-  puts-right t e f = rw (e, f)
+  puts-right : (t : Text) → matches (language source l) t ≡ false → matches (language sheet m) a ≡ true → Alike (union l m) m (some t) (some t) a
+  unfolding apply armOf writeArm meetArm
+  puts-right t e f = by-arm l m m (some t) (some t) a putRight (rw (e, f)) (λ b. refl) refl
 
-  turns-left : (t : Text) → matches (language source l) t ≡ false → matches (language sheet m) a ≡ false → write (union l m) (some t) a b ≡ write l none a b
-  unfolding write apply armOf writeArm
-  turns-left t e f = rw (e, f)
+  turns-left : (t : Text) → matches (language source l) t ≡ false → matches (language sheet m) a ≡ false → Alike (union l m) l (some t) none a
+  unfolding apply armOf writeArm meetArm
+  turns-left t e f = by-arm l m l (some t) none a createLeft (rw (e, f)) (λ b. refl) refl
 
 -- ---- The arms of a node
 
@@ -70,16 +86,16 @@ module _
   -- the left one, where the sheet is parsed there and the union writes what it does
   left-arm :
       Parsed bytes left sheet base path new
-      → ((b : Entries) → write (union (s .left) (s .right)) old new b ≡ write (s .left) kept new b)
+      → Alike (union (s .left) (s .right)) (s .left) old kept new
       → ArmIs bytes node (s .left) (s .right) old kept new path (record { node = left; base = base })
-  left-arm parsed same = record { arm = s .left; arm-is = s .at-left; lower = s .left-lower; writes-same = same; sheet-parsed = parsed }
+  left-arm parsed same = record { arm = s .left; arm-is = s .at-left; lower = s .left-lower; writes-same = same .writes; meets-same = same .meets; sheet-parsed = parsed }
 
   -- and the right one
   right-arm :
       Parsed bytes right sheet base path new
-      → ((b : Entries) → write (union (s .left) (s .right)) old new b ≡ write (s .right) kept new b)
+      → Alike (union (s .left) (s .right)) (s .right) old kept new
       → ArmIs bytes node (s .left) (s .right) old kept new path (record { node = right; base = base })
-  right-arm parsed same = record { arm = s .right; arm-is = s .at-right; lower = s .right-lower; writes-same = same; sheet-parsed = parsed }
+  right-arm parsed same = record { arm = s .right; arm-is = s .at-right; lower = s .right-lower; writes-same = same .writes; meets-same = same .meets; sheet-parsed = parsed }
 
 module _
     {bytes : Text}
@@ -114,10 +130,10 @@ module _
 
   -- without an old text
   pub arm-created-left : fits-left ≡ true → ArmIs bytes node (s .left) (s .right) none none new path (record { node = left; base = base })
-  arm-created-left e = left-arm s ((sheet-left e) .1) (λ b. creates-left (s .left) (s .right) new b ((sheet-left e) .0))
+  arm-created-left e = left-arm s ((sheet-left e) .1) (creates-left (s .left) (s .right) new ((sheet-left e) .0))
 
   pub arm-created-right : fits-left ≡ false → ArmIs bytes node (s .left) (s .right) none none new path (record { node = right; base = base + a .count })
-  arm-created-right e = right-arm s ((sheet-right e) .1) (λ b. creates-right (s .left) (s .right) new b ((sheet-right e) .0))
+  arm-created-right e = right-arm s ((sheet-right e) .1) (creates-right (s .left) (s .right) new ((sheet-right e) .0))
 
   -- onto the old text at a place
   module _
@@ -188,7 +204,7 @@ module _
     unfolding oldText
     arm-put-left e f =
         record {
-          is-arm = left-arm s ((sheet-left f) .1) (λ b. puts-left (s .left) (s .right) new b (partAt deck p) ((old-is-left e) .0) ((sheet-left f) .0));
+          is-arm = left-arm s ((sheet-left f) .1) (puts-left (s .left) (s .right) new (partAt deck p) ((old-is-left e) .0) ((sheet-left f) .0));
           old-parsed = old-at ((old-is-left e) .1);
         }
 
@@ -196,7 +212,7 @@ module _
     unfolding oldText
     arm-turned-right e f =
         record {
-          is-arm = right-arm s ((sheet-right f) .1) (λ b. turns-right (s .left) (s .right) new b (partAt deck p) ((old-is-left e) .0) ((sheet-right f) .0));
+          is-arm = right-arm s ((sheet-right f) .1) (turns-right (s .left) (s .right) new (partAt deck p) ((old-is-left e) .0) ((sheet-right f) .0));
           old-parsed = old-none;
         }
 
@@ -207,7 +223,7 @@ module _
     unfolding oldText
     arm-put-right e f =
         record {
-          is-arm = right-arm s ((sheet-right f) .1) (λ b. puts-right (s .left) (s .right) new b (partAt deck p) ((old-is-right e) .0) (in-right f));
+          is-arm = right-arm s ((sheet-right f) .1) (puts-right (s .left) (s .right) new (partAt deck p) ((old-is-right e) .0) (in-right f));
           old-parsed = old-at ((old-is-right e) .1);
         }
 
@@ -220,7 +236,7 @@ module _
       arm-refitted e f =
           let fitted = fitted-right refitted f in
           record {
-            is-arm = right-arm s (fitted .1) (λ b. puts-right (s .left) (s .right) new b (partAt deck p) ((old-is-right e) .0) (fitted .0));
+            is-arm = right-arm s (fitted .1) (puts-right (s .left) (s .right) new (partAt deck p) ((old-is-right e) .0) (fitted .0));
             old-parsed = old-at ((old-is-right e) .1);
           }
 
@@ -230,6 +246,6 @@ module _
           let not-right = sym (refitted .decides (language sheet (s .right)) right-sheets) ∙ g in
           let still-left : Parsed bytes left sheet base after new = rw (refitted .unfitted g (language sheet (s .right)) right-sheets) ((sheet-left f) .1) in
           record {
-            is-arm = left-arm s still-left (λ b. turns-left (s .left) (s .right) new b (partAt deck p) ((old-is-right e) .0) not-right);
+            is-arm = left-arm s still-left (turns-left (s .left) (s .right) new (partAt deck p) ((old-is-right e) .0) not-right);
             old-parsed = old-none;
           }

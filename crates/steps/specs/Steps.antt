@@ -9,6 +9,7 @@ use Rattle.semantics.specs.Text.{Text, orElse, apply}
 use Rattle.semantics.specs.Pattern.{Pattern, matches}
 use Rattle.semantics.specs.Lens.{Lens, union, source, sheet, language, parts, write}
 use Rattle.semantics.specs.Lens.{Book as Entries}
+use Rattle.semantics.specs.Tally.{met}
 use Rattle.semantics.specs.Table.{trees, treeAt, lens}
 use Rattle.laws.specs.Paths.{LeastPath, border, firstLoop}
 use Rattle.table.specs.Prepared.{TwoLenses}
@@ -80,6 +81,7 @@ pub record ArmIs (bytes : Text) (node : ℕ) (l m : Lens) (old kept : Option Tex
   pub arm-is : treeAt (trees bytes) (r .node) ≡ lens arm
   pub lower : r .node < node
   pub writes-same : (b : Entries) → write (union l m) old new b ≡ write arm kept new b
+  pub meets-same : met (union l m) old new ≡ met arm kept new
   pub sheet-parsed : Parsed bytes (r .node) sheet (r .base) path new
 
 -- Where the old text stands at a place, what is kept of it is parsed at the arm too.
