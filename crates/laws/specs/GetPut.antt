@@ -92,7 +92,7 @@ arm-length : (k : ℕ) {x y : Text} {p q : ℕ} → x ≡ y → p ≤ q → leng
 arm-length k {q = q} e more h = subst (λ z. length z ≤ q * k) (sym e) (le-trans h (mul-le-mul-right k more))
 
 -- two halves together, for a sheet of n and k bytes from a source of a and b
-halves-length : (n k p q a b : ℕ) → n ≤ p * max 1 a → k ≤ q * max 1 b → n + k ≤ (p + q) * max 1 (a + b)
+pub halves-length : (n k p q a b : ℕ) → n ≤ p * max 1 a → k ≤ q * max 1 b → n + k ≤ (p + q) * max 1 (a + b)
 halves-length n k p q a b f g =
     let f′ : p * max 1 a ≤ p * max 1 (a + b) = mul-le-mul-left p (omega arith) in
     let g′ : q * max 1 b ≤ q * max 1 (a + b) = mul-le-mul-left q (omega arith) in
