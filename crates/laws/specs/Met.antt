@@ -9,17 +9,14 @@ use native.Mathlib.Omega.{arith}
 use lib.ListN.{length, take, drop, length-append, length-take, length-drop}
 use Rattle.semantics.specs.Text.{Text, orElse, apply, least}
 use Rattle.semantics.specs.Pattern.{Pattern, star, matches}
-use Rattle.semantics.specs.Lens.{Lens, copy, const, key, join, union, repeat, match, source, sheet, language, cutAt, partsWithin, parts, keyOf, Entry, Book, answers, keeping, takeEntry, Written, andThen, Arm, putLeft, putRight, createLeft, createRight, armOf, writeArm, writeParts, writeMatch, write}
+use Rattle.semantics.specs.Lens.{Lens, copy, const, key, join, union, repeat, match, source, sheet, language, cutAt, partsWithin, parts, keyOf, Entry, Book, answers, keeping, takeEntry, Written, andThen, Arm, putLeft, putRight, createLeft, createRight, writeArm, writeParts, writeMatch, write}
 use Rattle.semantics.specs.Table.{holdsMatch, lensSize}
 use Rattle.semantics.specs.Tally.{Met, Meeting, meetArm, meetParts, met, Tally, counting, tallied}
 use Rattle.laws.specs.Basics.{all-of, or-neither}
 use Rattle.laws.specs.WellTyped.{WellTyped}
+use Rattle.laws.specs.Pieces.{armFor}
 use Rattle.laws.specs.GetPut.{halves-length}
 use Rattle.laws.specs.Bookless.{Unasked, asks, asks-nothing, unasked-writes}
-
--- the arm that a union takes
-abbrev armFor : Lens → Lens → Option Text → Text → Arm
-armFor l m old a = armOf (apply (matches (language source l)) old) (matches (language sheet l) a) (matches (language sheet m) a)
 
 -- ---- A lens that holds no match
 
