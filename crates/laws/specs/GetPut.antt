@@ -12,7 +12,7 @@ use lib.ListN.{length, take, drop, length-append}
 use borrow.Author.Tests.{eq-eqb}
 use Rattle.semantics.specs.Text.{Text, joined, All, orElse}
 use Rattle.semantics.specs.Pattern.{Pattern, word, range, concat, alt, star, In, matches}
-use Rattle.semantics.specs.Lens.{Lens, copy, const, key, join, union, repeat, match, source, sheet, language, constLanguage, cutAt, parts, Entry, Book, Written, andThen, writeParts, writeMatch, get, keyOf, sameKey, entryOf, answers, keeping, takeEntry, entries, write}
+use Rattle.semantics.specs.Lens.{Lens, copy, const, key, join, union, repeat, match, source, sheet, language, constLanguage, cutAt, parts, Entry, Book, Written, andThen, writeParts, writeMatch, get, sameKey, entryOf, answers, keeping, takeEntry, entries, write}
 use Rattle.semantics.specs.Table.{holdsMatch, positions}
 use Rattle.laws.specs.Basics.{and-of, cond-true, sameText-refl, or-neither}
 use Rattle.laws.specs.WellTyped.{WellTyped}

@@ -9,7 +9,7 @@ use native.Mathlib.Omega.{arith}
 use lib.ListN.{length, take, drop, length-append, length-take, length-drop}
 use Rattle.semantics.specs.Text.{Text, orElse, apply, least}
 use Rattle.semantics.specs.Pattern.{Pattern, star, matches}
-use Rattle.semantics.specs.Lens.{Lens, copy, const, key, join, union, repeat, match, source, sheet, language, cutAt, partsWithin, parts, keyOf, Entry, Book, answers, keeping, takeEntry, Written, andThen, Arm, putLeft, putRight, createLeft, createRight, writeArm, writeParts, writeMatch, write}
+use Rattle.semantics.specs.Lens.{Lens, copy, const, key, join, union, repeat, match, source, sheet, language, cutAt, partsWithin, parts, Entry, Book, answers, keeping, takeEntry, Written, andThen, Arm, putLeft, putRight, createLeft, createRight, writeArm, writeParts, writeMatch, write}
 use Rattle.semantics.specs.Table.{holdsMatch, lensSize}
 use Rattle.semantics.specs.Tally.{Met, Meeting, meetArm, meetParts, met, Tally, counting, tallied}
 use Rattle.laws.specs.Basics.{all-of, or-neither}
@@ -159,6 +159,7 @@ unfolding counting took
 counted none n = (omega arith, omega arith)
 counted (some t) n = (omega arith, omega arith)
 
+-- and none is dropped by it
 same-dropped : (o : Option Text) (n : Tally) → (counting o n) .dropped ≡ n .dropped
 unfolding counting
 same-dropped none n = refl
@@ -201,7 +202,7 @@ matchesIn (union l m) = matchesIn l + matchesIn m
 matchesIn (repeat l) = matchesIn l
 matchesIn (match n l) = 1
 
--- at most so many as the lens has nodes, written out
+-- at most as many as the lens has nodes, written out
 pub matches-few : (l : Lens) → matchesIn l ≤ lensSize l
 unfolding matchesIn lensSize
 matches-few (copy r) = omega arith

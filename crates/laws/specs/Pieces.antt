@@ -1,5 +1,5 @@
 -- What a lens does on a text that is put together from pieces, said on the pieces.
-use mathlib.Core.Path.{_≡_, ap, ap₂, _∙_}
+use mathlib.Core.Path.{_≡_, ap, ap₂}
 use mathlib.Core.Bool.{false}
 use mathlib.Core.List.{List, _++_, map}
 use mathlib.Core.Option.{Option, some}

@@ -15,7 +15,7 @@ use Rattle.semantics.specs.Pattern.{In}
 use Rattle.semantics.specs.Lens.{Lens, copy, const, key, join, union, repeat, match, source, sheet, language, get, Book, Taken, entryOf, entries, write, put}
 use Rattle.semantics.specs.Table.{Trees, nodeCount, lens, trees, treeSize, lensSize, treePositions, rootOf, overLimit}
 use Rattle.semantics.specs.Calls.{gives, program, getCall, putCall}
-use Rattle.semantics.specs.Tally.{meetParts, met, Tally, counting, tallied, tally, tallyOf, putTally}
+use Rattle.semantics.specs.Tally.{meetParts, met, counting, tallied, tally, tallyOf, putTally}
 use Rattle.laws.specs.Basics.{or-neither}
 use Rattle.laws.specs.WellTyped.{WellTyped, Numbered, EntryFits, OldFits, stamp}
 use Rattle.laws.specs.Pieces.{get-join, get-left, get-right, get-repeat, entries-join, entries-left, entries-right, entries-repeat, met-join, met-left, met-right, met-repeat}
@@ -60,6 +60,7 @@ unfolding meetParts joined
 unedited-parts l law [] all = refl
 unedited-parts l law (p ∷ ps) all = rw map-append (ap₂ _++_ (law p (all .0)) (unedited-parts l law ps (all .1)))
 
+-- so for a repeat, whose parts those are
 unedited-repeat :
     (l : Lens) → WellTyped (repeat l) → ((t : Text) → In (language source l) t → Unedited l t)
     → (ps : List Text) → All (In (language source l)) ps → Unedited (repeat l) (joined ps)
