@@ -176,6 +176,7 @@ wrote bytes a l old b lent t p h i fits book e =
       get-back = ap (get l) (sym (o .1)) ∙ back .get-back;
     }
 
+-- what put says of what it was handed, and which text it gave
 pub record PutGave (bytes a old t : Text) (lent : ℕ) : Type 0 where
   pub lens : Lens
   pub is-program : program bytes ≡ gives lens

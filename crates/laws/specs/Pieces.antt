@@ -99,6 +99,7 @@ unfolding armOf apply
 arm-left l m t i a j =
     ap₂ (λ x y. armOf (some x) y (matches (language sheet m) a)) (in-matches (language source l) t i) (in-matches (language sheet l) a j)
 
+-- so with the right arm, where no source is of both
 arm-right :
     (l m : Lens) → ¬ Overlap (language source l) (language source m)
     → (t : Text) → In (language source m) t → (a : Text) → In (language sheet m) a → armFor l m (some t) a ≡ putRight
