@@ -176,9 +176,19 @@ wrote bytes a l old b lent t p h i fits book e =
       get-back = ap (get l) (sym (o .1)) ∙ back .get-back;
     }
 
-pub put-wrote : (bytes a old t : Text) (lent : ℕ) → putCall bytes a old lent ≡ gives t → Wrote bytes a t
-unfolding putCall put
-put-wrote bytes a old t lent e =
+-- what put says of what it was handed, and which text it gave
+pub record PutGave (bytes a old t : Text) (lent : ℕ) : Type 0 where
+  pub lens : Lens
+  pub is-program : program bytes ≡ gives lens
+  pub short-sheet : length a ≤ 4096
+  pub in-sheet : In (language sheet lens) a
+  pub old-in : In (language source lens) old
+  pub book-fits : All (EntryFits (trees bytes)) (entries lens old)
+  pub is-output : output lent (put lens a old) ≡ gives t
+
+pub put-gave : (bytes a old t : Text) (lent : ℕ) → putCall bytes a old lent ≡ gives t → PutGave bytes a old t lent
+unfolding putCall
+put-gave bytes a old t lent e =
     let p = passed-program (program bytes) _ t e in
     let l = p .0 in
     let h = passed-test (tooLong a || tooLong old) 12 _ t (p .2) in
@@ -187,20 +197,22 @@ put-wrote bytes a old t lent e =
     let n = passed-test (ltb 256 (length (entries l old))) 15 _ t (j .1) in
     let typed = accepted bytes l (p .1) in
     let old-in = is-of-side source l old (i .0) in
-    wrote
-    bytes
-    a
-    l
-    (some old)
-    (entries l old)
-    lent
-    t
-    (p .1)
-    (is-short a (or-neither (tooLong a) (tooLong old) (h .0) .0))
-    (is-of-side sheet l a (j .0))
-    old-in
-    (entries-fit (trees bytes) l (typed .1) (typed .0) old old-in)
-    (n .1)
+    record {
+      lens = l;
+      is-program = p .1;
+      short-sheet = is-short a (or-neither (tooLong a) (tooLong old) (h .0) .0);
+      in-sheet = is-of-side sheet l a (j .0);
+      old-in = old-in;
+      book-fits = entries-fit (trees bytes) l (typed .1) (typed .0) old old-in;
+      is-output = n .1;
+    }
+
+pub put-wrote : (bytes a old t : Text) (lent : ℕ) → putCall bytes a old lent ≡ gives t → Wrote bytes a t
+unfolding put
+put-wrote bytes a old t lent e =
+    let g = put-gave bytes a old t lent e in
+    let l = g .lens in
+    wrote bytes a l (some old) (entries l old) lent t (g .is-program) (g .short-sheet) (g .in-sheet) (g .old-in) (g .book-fits) (g .is-output)
 
 pub create-wrote : (bytes a t : Text) (lent : ℕ) → createCall bytes a lent ≡ gives t → Wrote bytes a t
 unfolding createCall create

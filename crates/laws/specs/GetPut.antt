@@ -12,7 +12,7 @@ use lib.ListN.{length, take, drop, length-append}
 use borrow.Author.Tests.{eq-eqb}
 use Rattle.semantics.specs.Text.{Text, joined, All, orElse}
 use Rattle.semantics.specs.Pattern.{Pattern, word, range, concat, alt, star, In, matches}
-use Rattle.semantics.specs.Lens.{Lens, copy, const, key, join, union, repeat, match, source, sheet, language, constLanguage, cutAt, parts, Book, Written, andThen, writeParts, writeMatch, get, keyOf, sameKey, entryOf, answers, keeping, takeEntry, entries, write}
+use Rattle.semantics.specs.Lens.{Lens, copy, const, key, join, union, repeat, match, source, sheet, language, constLanguage, cutAt, parts, Entry, Book, Written, andThen, writeParts, writeMatch, get, sameKey, entryOf, answers, keeping, takeEntry, entries, write}
 use Rattle.semantics.specs.Table.{holdsMatch, positions}
 use Rattle.laws.specs.Basics.{and-of, cond-true, sameText-refl, or-neither}
 use Rattle.laws.specs.WellTyped.{WellTyped}
@@ -92,7 +92,7 @@ arm-length : (k : ℕ) {x y : Text} {p q : ℕ} → x ≡ y → p ≤ q → leng
 arm-length k {q = q} e more h = subst (λ z. length z ≤ q * k) (sym e) (le-trans h (mul-le-mul-right k more))
 
 -- two halves together, for a sheet of n and k bytes from a source of a and b
-halves-length : (n k p q a b : ℕ) → n ≤ p * max 1 a → k ≤ q * max 1 b → n + k ≤ (p + q) * max 1 (a + b)
+pub halves-length : (n k p q a b : ℕ) → n ≤ p * max 1 a → k ≤ q * max 1 b → n + k ≤ (p + q) * max 1 (a + b)
 halves-length n k p q a b f g =
     let f′ : p * max 1 a ≤ p * max 1 (a + b) = mul-le-mul-left p (omega arith) in
     let g′ : q * max 1 b ≤ q * max 1 (a + b) = mul-le-mul-left q (omega arith) in
@@ -230,22 +230,22 @@ restored-repeat l typed law ps all b =
     (write-repeat l (typed .0) ps all (map (get l) ps) sheets (joined (map (entries l) ps) ++ b) ∙ restored-parts l law ps all b)
 
 -- the first entry of the book is the one that is looked up
-takes-first :
-    (n : ℕ) (l : Lens) (t : Text) (b : Book) → takeEntry n (keyOf l (get l t)) (entryOf n l t ∷ b) ≡ record { found = some t; left = b }
-unfolding takeEntry answers sameKey entryOf
-takes-first n l t b =
-    let k = keyOf l (get l t) in
+pub takes-first : (e : Entry) (b : Book) → takeEntry (e .child) (e .key-text) (e ∷ b) ≡ record { found = some (e .text); left = b }
+unfolding takeEntry answers sameKey
+takes-first e b =
+    let n = e .child in
+    let k = e .key-text in
     cond-true
-    (answers n k (entryOf n l t))
-    (record { found = some t; left = b })
-    (keeping (entryOf n l t) (takeEntry n k b))
+    (answers n k e)
+    (record { found = some (e .text); left = b })
+    (keeping e (takeEntry n k b))
     (and-of (eqb n n) (sameKey k k) (eq-eqb n n refl) (sameText-refl k))
 
 -- The match's child has no entries of its own, so that the book behind the first entry is left as it is.
 restored-match : (n : ℕ) (l : Lens) → WellTyped (match n l) → (t : Text) → Restored l t → Restored (match n l) t
-unfolding WellTyped write writeMatch get entries
+unfolding WellTyped write writeMatch get entries entryOf
 restored-match n l typed t child b =
-    ap (writeMatch (write l) (get l t)) (takes-first n l t b)
+    ap (writeMatch (write l) (get l t)) (takes-first (entryOf n l t) b)
     ∙ subst (λ (x : Book). write l (some t) (get l t) (x ++ b) ≡ record { text = t; book = b }) (no-entries l (typed .0) t) (child b)
 
 -- The book holds the source's own entries first; they are used up, and what stands behind them is left (003's law, with its extra dictionary).

@@ -13,11 +13,13 @@ pub mod Pieces
 pub mod GetPut
 pub mod PutGet
 pub mod Bookless
+pub mod Met
 pub mod Shuffle
 pub mod RightSizes
 pub mod NodeTrees
 pub mod Accepted
 pub mod Demand3
+pub mod Tally
 pub mod Refusals
 pub mod Checked
 pub mod Bytes

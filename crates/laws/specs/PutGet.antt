@@ -1,7 +1,8 @@
--- Whatever put or create wrote for a sheet is a source, and get takes exactly that sheet from it (003: PutGet and CreateGet, at once).
-use mathlib.Core.Path.{_≡_, refl, sym, ap, _∙_}
+-- Whatever put or create wrote for a sheet is a source, and get takes exactly that sheet from it (003: PutGet and CreateGet, at once). Its
+-- entries are those of the sheet.
+use mathlib.Core.Path.{_≡_, refl, sym, ap, ap₂, _∙_}
 use mathlib.Core.Bool.{Bool, true, false, cond}
-use mathlib.Core.List.{List, [], _∷_, _++_, map}
+use mathlib.Core.List.{List, [], _∷_, _++_, map, map-append}
 use mathlib.Core.Option.{Option, none, some}
 use mathlib.Core.Logic.{_⊎_, inl, inr, ⊎-swap}
 use Prim.Native.Nat.{ℕ}
@@ -11,11 +12,12 @@ use Rattle.semantics.specs.Text.{Text, joined, All, orElse, apply}
 use Rattle.semantics.specs.Pattern.{Pattern, In, matches}
 use Rattle.semantics.specs.Lens.{Lens, copy, const, key, join, union, repeat, match, source, sheet, language, constLanguage, parts, Book, entryOf, Taken, answers, sameKey, keeping, takeEntry, Written, andThen, Arm, putLeft, putRight, createLeft, createRight, armOf, writeArm, writeParts, writeMatch, get, keyOf, entries, write}
 use Rattle.semantics.specs.Table.{Trees, lensAt}
+use Rattle.semantics.specs.Tally.{Met, meetArm, meetParts, met}
 use Rattle.laws.specs.Basics.{and-both, not-both, all-append}
 use Rattle.laws.specs.Membership.{matches-in, in-matches}
 use Rattle.laws.specs.Cuts.{cut-left, cut-right, parts-is}
 use Rattle.laws.specs.Pieces.{get-join, get-left, get-right, get-repeat, entries-join, entries-left, entries-right, entries-repeat}
-use Rattle.laws.specs.WellTyped.{WellTyped, Numbered, EntryFits, OldFits, PutBack}
+use Rattle.laws.specs.WellTyped.{WellTyped, Numbered, EntryFits, OldFits, stamp, PutBack}
 
 -- what holds of all that each element brings holds of all that they bring together
 all-joined :
@@ -49,7 +51,7 @@ WritesBack ts l =
     (old : Option Text) → OldFits l old
     → (a : Text) → In (language sheet l) a
     → (b : Book) → All (EntryFits ts) b
-    → PutBack ts l a (write l old a b)
+    → PutBack ts l a (met l old a) (write l old a b)
 
 -- ---- join
 
@@ -60,6 +62,7 @@ record Halves (l m : Lens) (old : Option Text) (u v : Text) (b : Book) : Type 0 
   left-fits : OldFits l left
   right-fits : OldFits m right
   writes : write (join l m) old (u ++ v) b ≡ andThen (write l left u b) (write m right v)
+  meets : met (join l m) old (u ++ v) ≡ met l left u ++ met m right v
 
 -- the old text and the sheet each have one cut only
 halves :
@@ -67,25 +70,43 @@ halves :
     → (old : Option Text) → OldFits (join l m) old
     → (u v : Text) → In (language sheet l) u → In (language sheet m) v
     → (b : Book) → Halves l m old u v b
-unfolding WellTyped In language write orElse apply
+unfolding WellTyped In language write met orElse apply
 halves l m typed none fits u v j k b =
-    record { left = none; right = none; left-fits = tt; right-fits = tt; writes = simp (cut-left, cut-right, typed .0 sheet) }
+    record {
+      left = none;
+      right = none;
+      left-fits = tt;
+      right-fits = tt;
+      writes = simp (cut-left, cut-right, typed .0 sheet);
+      meets = simp (cut-left, cut-right, typed .0 sheet);
+    }
 halves l m typed (some t) (p, q, e, x, y) u v j k b =
-    record { left = some p; right = some q; left-fits = x; right-fits = y; writes = rw e (simp (cut-left, cut-right, typed .0 source, typed .0 sheet)) }
+    record {
+      left = some p;
+      right = some q;
+      left-fits = x;
+      right-fits = y;
+      writes = rw e (simp (cut-left, cut-right, typed .0 source, typed .0 sheet));
+      meets = rw e (simp (cut-left, cut-right, typed .0 source, typed .0 sheet));
+    }
 
 -- A left half that is put back, and behind it a right half that is, whatever fitting book it gets: the join is put back.
 both-back :
     (ts : Trees) (l m : Lens) → WellTyped (join l m)
-    → (u v : Text) (w : Written) → PutBack ts l u w
-    → (next : Book → Written) → ((b : Book) → All (EntryFits ts) b → PutBack ts m v (next b))
-    → PutBack ts (join l m) (u ++ v) (andThen w next)
+    → (u v : Text) (ms ns : List Met) (w : Written) → PutBack ts l u ms w
+    → (next : Book → Written) → ((b : Book) → All (EntryFits ts) b → PutBack ts m v ns (next b))
+    → PutBack ts (join l m) (u ++ v) (ms ++ ns) (andThen w next)
 unfolding In language andThen WellTyped
-both-back ts l m typed u v w first next second =
+both-back ts l m typed u v ms ns w first next second =
     let rest = second (w .book) (first .book-fits) in
     let w′ = next (w .book) in
     record {
       in-source = (w .text, w′ .text, refl, first .in-source, rest .in-source);
       get-back = get-join l m (typed .0 source) (w .text) (w′ .text) (first .in-source) (rest .in-source) ∙ cc (first .get-back, rest .get-back);
+      meets =
+          ap (map stamp) (entries-join l m (typed .0 source) (w .text) (w′ .text) (first .in-source) (rest .in-source))
+          ∙ map-append stamp (entries l (w .text)) (entries m (w′ .text))
+          ∙ ap₂ _++_ (first .meets) (rest .meets);
       book-fits = rest .book-fits;
     }
 
@@ -95,8 +116,20 @@ unfolding In language
 put-join ts l m typed left right old fits a (u, v, e, j, k) b book =
     let h = halves l m typed old fits u v j k b in
     rw
-    (e, h .writes)
-    (both-back ts l m typed u v (write l (h .left) u b) (left (h .left) (h .left-fits) u j b book) (write m (h .right) v) (right (h .right) (h .right-fits) v k))
+    (e, h .writes, h .meets)
+    (both-back
+    ts
+    l
+    m
+    typed
+    u
+    v
+    (met l (h .left) u)
+    (met m (h .right) v)
+    (write l (h .left) u b)
+    (left (h .left) (h .left-fits) u j b book)
+    (write m (h .right) v)
+    (right (h .right) (h .right-fits) v k))
 
 -- ---- union
 
@@ -156,27 +189,40 @@ arm-fits l m (some t) fits a i =
 -- What an arm puts back, the union does, if it reads the arm's sources as the arm does.
 arm-back :
     (ts : Trees) (l m arm : Lens)
-    → ((t : Text) → In (language source arm) t → In (language source (union l m)) t × (get (union l m) t ≡ get arm t))
-    → (a : Text) (w : Written) → PutBack ts arm a w → PutBack ts (union l m) a w
-arm-back ts l m arm reads a w back =
+    → ((t : Text) → In (language source arm) t → In (language source (union l m)) t × (get (union l m) t ≡ get arm t) × (entries (union l m) t ≡ entries arm t))
+    → (a : Text) (ms : List Met) (w : Written) → PutBack ts arm a ms w → PutBack ts (union l m) a ms w
+arm-back ts l m arm reads a ms w back =
     let r = reads (w .text) (back .in-source) in
-    record { in-source = r .0; get-back = r .1 ∙ back .get-back; book-fits = back .book-fits }
+    record { in-source = r .0; get-back = r .1 ∙ back .get-back; meets = ap (map stamp) (r .2) ∙ back .meets; book-fits = back .book-fits }
 
 -- a union writes back if its arms do
 put-union : (ts : Trees) (l m : Lens) → WellTyped (union l m) → WritesBack ts l → WritesBack ts m → WritesBack ts (union l m)
-unfolding write writeArm In language WellTyped
+unfolding write writeArm met meetArm In language WellTyped
 put-union ts l m typed left right old fits a i b book =
     go
     (armOf (apply (matches (language source l)) old) (matches (language sheet l) a) (matches (language sheet m) a))
     (arm-fits l m old fits a i)
   where
-    on-left : (o : Option Text) → OldFits l o → In (language sheet l) a → PutBack ts (union l m) a (write l o a b)
-    on-left o fit j = arm-back ts l m l (λ t k. (inl k, get-left l m t k)) a (write l o a b) (left o fit a j b book)
+    on-left : (o : Option Text) → OldFits l o → In (language sheet l) a → PutBack ts (union l m) a (met l o a) (write l o a b)
+    on-left o fit j =
+        arm-back ts l m l (λ t k. (inl k, get-left l m t k, entries-left l m t k)) a (met l o a) (write l o a b) (left o fit a j b book)
 
-    on-right : (o : Option Text) → OldFits m o → In (language sheet m) a → PutBack ts (union l m) a (write m o a b)
-    on-right o fit j = arm-back ts l m m (λ t k. (inr k, get-right l m (typed .0) t k)) a (write m o a b) (right o fit a j b book)
+    on-right : (o : Option Text) → OldFits m o → In (language sheet m) a → PutBack ts (union l m) a (met m o a) (write m o a b)
+    on-right o fit j =
+        arm-back
+        ts
+        l
+        m
+        m
+        (λ t k. (inr k, get-right l m (typed .0) t k, entries-right l m (typed .0) t k))
+        a
+        (met m o a)
+        (write m o a b)
+        (right o fit a j b book)
 
-    go : (arm : Arm) → ArmFits l m old a arm → PutBack ts (union l m) a (writeArm (write l) (write m) arm old a b)
+    go :
+        (arm : Arm) → ArmFits l m old a arm
+        → PutBack ts (union l m) a (meetArm (met l) (met m) arm old a) (writeArm (write l) (write m) arm old a b)
     go putLeft fit = on-left old (fit .0) (fit .1)
     go putRight fit = on-right old (fit .0) (fit .1)
     go createLeft fit = on-left none tt fit
@@ -184,27 +230,30 @@ put-union ts l m typed left right old fits a i b book =
 
 -- ---- repeat
 
--- what writing a list of sheet parts owes: a list of sources, whose sheets are those parts, and a book whose entries still fit
-record PartsBack (ts : Trees) (l : Lens) (sheets : List Text) (w : Written) : Type 0 where
+-- what writing a list of sheet parts owes: a list of sources, whose sheets are those parts, with their entries, and a book whose entries
+-- still fit
+record PartsBack (ts : Trees) (l : Lens) (sheets : List Text) (ms : List Met) (w : Written) : Type 0 where
   written : List Text
   written-in : All (In (language source l)) written
   text-is : w .text ≡ joined written
   gets-back : map (get l) written ≡ sheets
+  meets : map stamp (joined (map (entries l) written)) ≡ ms
   book-fits : All (EntryFits ts) (w .book)
 
 -- A part that is put back, and behind it parts that are, whatever fitting book they get: the longer list is put back.
 part-back :
-    (ts : Trees) (l : Lens) (a : Text) (sheets : List Text) (w : Written) → PutBack ts l a w
-    → (next : Book → Written) → ((b : Book) → All (EntryFits ts) b → PartsBack ts l sheets (next b))
-    → PartsBack ts l (a ∷ sheets) (andThen w next)
+    (ts : Trees) (l : Lens) (a : Text) (sheets : List Text) (ms ns : List Met) (w : Written) → PutBack ts l a ms w
+    → (next : Book → Written) → ((b : Book) → All (EntryFits ts) b → PartsBack ts l sheets ns (next b))
+    → PartsBack ts l (a ∷ sheets) (ms ++ ns) (andThen w next)
 unfolding andThen joined
-part-back ts l a sheets w first next later =
+part-back ts l a sheets ms ns w first next later =
     let rest = later (w .book) (first .book-fits) in
     record {
       written = w .text ∷ rest .written;
       written-in = (first .in-source, rest .written-in);
       text-is = ap (λ t. w .text ++ t) (rest .text-is);
       gets-back = cc (first .get-back, rest .gets-back);
+      meets = map-append stamp (entries l (w .text)) (joined (map (entries l) (rest .written))) ∙ ap₂ _++_ (first .meets) (rest .meets);
       book-fits = rest .book-fits;
     }
 
@@ -214,13 +263,34 @@ put-parts :
     → (olds : List Text) → All (In (language source l)) olds
     → (sheets : List Text) → All (In (language sheet l)) sheets
     → (b : Book) → All (EntryFits ts) b
-    → PartsBack ts l sheets (writeParts (write l) olds sheets b)
-unfolding writeParts joined
-put-parts ts l one olds fits [] all b book = record { written = []; written-in = tt; text-is = refl; gets-back = refl; book-fits = book }
+    → PartsBack ts l sheets (meetParts (met l) olds sheets) (writeParts (write l) olds sheets b)
+unfolding writeParts meetParts joined
+put-parts ts l one olds fits [] all b book =
+    record { written = []; written-in = tt; text-is = refl; gets-back = refl; meets = refl; book-fits = book }
 put-parts ts l one [] fits (a ∷ sheets) all b book =
-    part-back ts l a sheets (write l none a b) (one none tt a (all .0) b book) (writeParts (write l) [] sheets) (put-parts ts l one [] fits sheets (all .1))
+    part-back
+    ts
+    l
+    a
+    sheets
+    (met l none a)
+    (meetParts (met l) [] sheets)
+    (write l none a b)
+    (one none tt a (all .0) b book)
+    (writeParts (write l) [] sheets)
+    (put-parts ts l one [] fits sheets (all .1))
 put-parts ts l one (t ∷ olds) fits (a ∷ sheets) all b book =
-    part-back ts l a sheets (write l (some t) a b) (one (some t) (fits .0) a (all .0) b book) (writeParts (write l) olds sheets) (put-parts ts l one olds (fits .1) sheets (all .1))
+    part-back
+    ts
+    l
+    a
+    sheets
+    (met l (some t) a)
+    (meetParts (met l) olds sheets)
+    (write l (some t) a b)
+    (one (some t) (fits .0) a (all .0) b book)
+    (writeParts (write l) olds sheets)
+    (put-parts ts l one olds (fits .1) sheets (all .1))
 
 -- the parts of the old text, if there is one, are sources
 old-parts :
@@ -232,12 +302,13 @@ old-parts l typed (some t) (ps, e, all) = rw (e, parts-is (language source l) (t
 
 -- a repeat writes back if its child does
 put-repeat : (ts : Trees) (l : Lens) → WellTyped (repeat l) → WritesBack ts l → WritesBack ts (repeat l)
-unfolding WellTyped In language write
+unfolding WellTyped In language write met
 put-repeat ts l typed one old fits a (sheets, e, all) b book =
     let back = put-parts ts l one (orElse [] (apply (parts (language source l)) old)) (old-parts l typed old fits) sheets all b book in
     rw (e, parts-is (language sheet l) (typed .0 sheet) sheets all) record {
       in-source = (back .written, back .text-is, back .written-in);
       get-back = rw (back .text-is, get-repeat l (typed .0 source) (back .written) (back .written-in), back .gets-back);
+      meets = rw (back .text-is, entries-repeat l (typed .0 source) (back .written) (back .written-in)) (back .meets);
       book-fits = back .book-fits;
     }
 
@@ -271,18 +342,19 @@ take-fits ts n l at-n k (e ∷ b) book = go (answers n k e) refl (take-fits ts n
 
 -- ---- Every lens
 
--- On an old source or on none, with any book of fitting entries: what is written for a sheet is a source, and that sheet is its sheet.
+-- On an old source or on none, with any book of fitting entries: what is written for a sheet is a source, that sheet is its sheet, and the
+-- sheet's entries are its entries.
 pub put-get :
     (ts : Trees) (l : Lens) → Numbered ts l → WellTyped l
     → (old : Option Text) → OldFits l old
     → (a : Text) → In (language sheet l) a
     → (b : Book) → All (EntryFits ts) b
-    → PutBack ts l a (write l old a b)
-unfolding Numbered WellTyped language constLanguage In write writeMatch get orElse
-put-get ts (copy r) numbered typed old fits a i b book = record { in-source = i; get-back = refl; book-fits = book }
-put-get ts (const r w d) numbered typed none fits a i b book = record { in-source = typed; get-back = sym i; book-fits = book }
-put-get ts (const r w d) numbered typed (some t) fits a i b book = record { in-source = fits; get-back = sym i; book-fits = book }
-put-get ts (key r) numbered typed old fits a i b book = record { in-source = i; get-back = refl; book-fits = book }
+    → PutBack ts l a (met l old a) (write l old a b)
+unfolding Numbered WellTyped language constLanguage In write writeMatch met get entries entryOf stamp orElse
+put-get ts (copy r) numbered typed old fits a i b book = record { in-source = i; get-back = refl; meets = refl; book-fits = book }
+put-get ts (const r w d) numbered typed none fits a i b book = record { in-source = typed; get-back = sym i; meets = refl; book-fits = book }
+put-get ts (const r w d) numbered typed (some t) fits a i b book = record { in-source = fits; get-back = sym i; meets = refl; book-fits = book }
+put-get ts (key r) numbered typed old fits a i b book = record { in-source = i; get-back = refl; meets = refl; book-fits = book }
 put-get ts (join l m) numbered typed old fits a i b book =
     put-join ts l m typed (put-get ts l (numbered .0) (typed .1)) (put-get ts m (numbered .1) (typed .2)) old fits a i b book
 put-get ts (union l m) numbered typed old fits a i b book =
@@ -292,4 +364,9 @@ put-get ts (match n l) numbered typed old fits a i b book =
     let taken = takeEntry n (keyOf l a) b in
     let fit = take-fits ts n l (numbered .0) (keyOf l a) b book in
     let back = put-get ts l (numbered .1) (typed .1) (taken .found) (fit .found-fits) a i (taken .left) (fit .left-fits) in
-    record { in-source = back .in-source; get-back = back .get-back; book-fits = back .book-fits }
+    record {
+      in-source = back .in-source;
+      get-back = back .get-back;
+      meets = ap (λ (x : Text). record { child = n; key-text = keyOf l x } ∷ []) (back .get-back);
+      book-fits = back .book-fits;
+    }

@@ -1,12 +1,14 @@
 -- What an accepted program's lenses keep: the typing rules at every node, and entries that fit the child node that their match names.
 use mathlib.Core.Path.{_≡_}
 use mathlib.Core.Bool.{false}
+use mathlib.Core.List.{List, map}
 use mathlib.Core.Option.{Option, none, some}
 use Rattle.semantics.specs.Text.{Text, All}
 use Rattle.semantics.specs.Pattern.{In}
 use Rattle.semantics.specs.Ambiguity.{TwoCuts, Overlap, BadRepeat}
-use Rattle.semantics.specs.Lens.{Lens, copy, const, key, join, union, repeat, match, Side, source, language, Entry, Written, get}
+use Rattle.semantics.specs.Lens.{Lens, copy, const, key, join, union, repeat, match, Side, source, language, Entry, Written, get, entries}
 use Rattle.semantics.specs.Table.{Trees, lensAt, holdsMatch}
+use Rattle.semantics.specs.Tally.{Met}
 
 -- Document 01, typing: the rules at this lens and at every lens below it, said on texts
 unfoldable pub WellTyped : Lens → Type 0
@@ -39,8 +41,14 @@ abbrev pub OldFits : Lens → Option Text → Type 0
 OldFits l none = Unit {0}
 OldFits l (some t) = In (language source l) t
 
--- What put and create owe: a source, whose sheet is the one that was put, and a book whose entries still fit.
-pub record PutBack (ts : Trees) (l : Lens) (a : Text) (w : Written) : Type 0 where
+-- an entry without its text: the child node and the key by which a sheet entry looks it up
+unfoldable pub stamp : Entry → Met
+stamp e = record { child = e .child; key-text = e .key-text }
+
+-- What put and create owe for a sheet a whose entries are ms: a source, whose sheet is a, and whose entries are those of a, in order; and a
+-- book whose entries still fit.
+pub record PutBack (ts : Trees) (l : Lens) (a : Text) (ms : List Met) (w : Written) : Type 0 where
   pub in-source : In (language source l) (w .text)
   pub get-back : get l (w .text) ≡ a
+  pub meets : map stamp (entries l (w .text)) ≡ ms
   pub book-fits : All (EntryFits ts) (w .book)
