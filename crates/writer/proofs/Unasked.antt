@@ -115,17 +115,17 @@ abbrev pub LeafTags : List ℕ
 LeafTags = 0 ∷ 1 ∷ 2 ∷ 3 ∷ 4 ∷ 5 ∷ 6 ∷ 7 ∷ []
 
 module _ {bytes : Text} {prepared : List ℕ} {node : ℕ} {r : Node} (known : LensNode bytes prepared node) (read : NodeRead bytes node r) where
-  -- it looks nothing up
+  -- it looks nothing up, and meets nothing
   leaf-asks :
       (κ : Kind)
       → r .kind ≡ κ
       → Shows bytes node κ
       → OneOf LeafTags (tagOf the-type κ)
-      → (l : Lens) × (treeAt (trees bytes) node ≡ lens l) × ((n : ℕ) → asks l n ≡ false)
-  unfolding Shows asks
-  leaf-asks (Copy a) e s h = (copy (s .child), s .tree-is, λ n. refl)
-  leaf-asks (Key a) e s h = (key (s .child), s .tree-is, λ n. refl)
-  leaf-asks (Const a b c) e s h = (const (s .child) (s .sheet-word) (s .default-word), s .tree-is, λ n. refl)
+      → (l : Lens) × (treeAt (trees bytes) node ≡ lens l) × ((n : ℕ) → asks l n ≡ false) × (holdsMatch l ≡ false)
+  unfolding Shows asks holdsMatch
+  leaf-asks (Copy a) e s h = (copy (s .child), s .tree-is, λ n. refl, refl)
+  leaf-asks (Key a) e s h = (key (s .child), s .tree-is, λ n. refl, refl)
+  leaf-asks (Const a b c) e s h = (const (s .child) (s .sheet-word) (s .default-word), s .tree-is, λ n. refl, refl)
   leaf-asks (Word a b) e s h = lens-read (Word a b) known read e refl
   leaf-asks (Range a b) e s h = lens-read (Range a b) known read e refl
   leaf-asks (PatternJoin a b) e s h = lens-read (PatternJoin a b) known read e refl
@@ -139,9 +139,14 @@ module _ {bytes : Text} {prepared : List ℕ} {node : ℕ} {r : Node} (known : L
   pub leaf-asks-none :
       {below : List ℕ} {b : Book} → BelowIs bytes below → OneOf LeafTags (tagOf the-type (r .kind)) → AsksNone below node b
   leaf-asks-none below-is leaf =
-      let (l, e, none-asked) = leaf-asks (r .kind) refl (read .shows) leaf in
+      let (l, e, none-asked, flat) = leaf-asks (r .kind) refl (read .shows) leaf in
       record {
         none-shared = λ shared.
             let (n, small, held, left) = shared in
             not-both held ((below-is .each node l (known .inside) e) .asked-is n small ∙ none-asked n);
       }
+
+  pub leaf-met : (old : Option Text) (new : Text) → OneOf LeafTags (tagOf the-type (r .kind)) → MeetsThere bytes node old new 0
+  leaf-met old new leaf =
+      let (l, e, none-asked, flat) = leaf-asks (r .kind) refl (read .shows) leaf in
+      inner-met old new (record { holds-none = λ m f. rw (same-lens l m (sym e ∙ f)) at flat })
