@@ -1,9 +1,9 @@
 -- How many matches a put meets at a lens, from how many it meets at the lenses below it. Assumes nothing.
-use mathlib.Core.Path.{_≡_, refl, sym, ap, _∙_}
+use mathlib.Core.Path.{_≡_, refl, sym, _∙_}
 use mathlib.Core.Bool.{Bool, true, false, cond}
 use mathlib.Core.List.{List, [], _∷_, _++_}
 use mathlib.Core.Option.{Option, none, some}
-use Prim.Native.Nat.{ℕ, suc, _+_, _*_, _≤_, _<_, min}
+use Prim.Native.Nat.{ℕ, suc, _+_, _*_, _<_, min}
 use native.Mathlib.Nat.{mul-zero, mul-suc, zero-mul}
 use native.Mathlib.Omega.{arith}
 use lib.Dec.{eqb}
