@@ -2,7 +2,8 @@
 use mathlib.Core.Path.{_≡_, sym, ap, subst, _∙_}
 use mathlib.Core.List.{List}
 use mathlib.Core.Option.{Option}
-use Prim.Native.Nat.{ℕ, _*_, _<_}
+use Prim.Native.Nat.{ℕ, _*_, _≤_, _<_}
+use native.Mathlib.Nat.{mul-le-mul}
 use native.Mathlib.Omega.{arith}
 use lib.ListN.{length}
 use Rattle.semantics.specs.Text.{Text}
@@ -20,6 +21,10 @@ use Rattle.books.specs.declared.Book.{Book}
 use Rattle.decks.specs.Below.{BelowIs, PlainlyMet}
 use Rattle.decks.specs.Counts.{repeat-met}
 use Rattle.writer.specs.Writing.{AsksNone, MeetsThere}
+
+-- a count for each part of a sheet is a small number
+pub product-small : {r : ℕ} (n : ℕ) → r < 65536 → n ≤ 4096 → r * n ≤ 268435456
+product-small {r} n h k = let at-most : r ≤ 65536 = omega arith in mul-le-mul at-most k
 
 module _ {bytes : Text} {prepared below : List ℕ} {node r : ℕ} {left : Set} where
   -- the matches of a lens are as many as the count of its node says
