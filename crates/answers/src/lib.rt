@@ -43,7 +43,10 @@ pub enum PutAnswer {
         made: usize,
         dropped: usize,
     },
-    Refusal { number: usize, node: usize },
+    Refusal {
+        number: usize,
+        node: usize,
+    },
 }
 
 // What checking a program in a lent slice came to.

@@ -17,7 +17,8 @@ ghost use Rattle.semantics.specs.Table.{nodeCount};
 ghost use Rattle.semantics.specs.Calls.{output};
 ghost use Rattle.answers.specs.declared.Answer.the-variants.{Refusal};
 ghost use Rattle.answers.specs.Answers.{IsAccepted, Ready};
-ghost use Rattle.answers.specs.Contracts.{GivesText};
+ghost use Rattle.answers.specs.Contracts.{GivesText, untallied};
+ghost use Rattle.answers.specs.Replies.{withTally};
 ghost use Rattle.answers.specs.Results.{Counted, Finishes, RootPath};
 
 // The root is the last node.
@@ -99,8 +100,7 @@ pub fn give(text: &[u8], out: &mut [u8]) -> Answer
 }
 
 // The tally of what is not counted.
-pub fn no_tally() -> Tally
-{
+pub fn no_tally() -> Tally {
     Tally {
         kept: 0,
         made: 0,
@@ -118,7 +118,7 @@ pub fn uncounted(answer: Answer) -> Reply
 
 // The answer of a put, with the tally of its reply.
 pub fn with_tally(reply: Reply) -> PutAnswer
-    ensures { λ r. ⌜ r ≡ tallied (reply .answer) (reply .tally) ⌝ }
+    ensures { λ r. ⌜ r ≡ withTally (reply .answer) (reply .tally) ⌝ }
 {
     let answer = reply.answer;
     let tally = reply.tally;

@@ -98,7 +98,10 @@ fn try_in(
     let checked = check_in(bytes, prepared);
     match checked {
         Checked::Accepted => Tried::Done(answer_with(call, bytes, prepared, sheet, source, out)),
-        Checked::Refused { number, node } => Tried::Done(uncounted(Answer::Refusal { number, node })),
+        Checked::Refused { number, node } => Tried::Done(uncounted(Answer::Refusal {
+            number,
+            node,
+        })),
         Checked::Small => Tried::Small,
     }
 }
