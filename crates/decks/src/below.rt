@@ -20,7 +20,7 @@ ghost use Rattle.decks.specs.Below.{unionAt, countAt, standingAt, countO
 pub const VARIES: u64 = 65536;
 
 // Whether no match at or below a node has one of these children.
-fn asks_none(below: &[u64], node: usize, children: Set) -> bool
+pub fn asks_none(below: &[u64], node: usize, children: Set) -> bool
     requires { ⌜ 4 * node + 4 ≤ length (now below) ⌝ }
     ensures { λ r. ⌜ (r ≡ true) ↔ (¬ Shared (setAt (now (below .entry)) (4 * node)) children) ⌝ }
 {

@@ -2,6 +2,7 @@
 use mathlib.Core.Path.{_≡_, refl, sym, ap, _∙_}
 use mathlib.Core.Bool.{Bool, true, false}
 use mathlib.Core.List.{List}
+use mathlib.Core.Logic.{inl, inr}
 use mathlib.Core.Option.{Option, none, some}
 use Prim.Native.Nat.{ℕ, _+_}
 use Rattle.semantics.specs.Text.{Text, apply}
@@ -88,14 +89,14 @@ module _
       Parsed bytes left sheet base path new
       → Alike (union (s .left) (s .right)) (s .left) old kept new
       → ArmIs bytes node (s .left) (s .right) old kept new path (record { node = left; base = base })
-  left-arm parsed same = record { arm = s .left; arm-is = s .at-left; lower = s .left-lower; writes-same = same .writes; meets-same = same .meets; sheet-parsed = parsed }
+  left-arm parsed same = record { arm = s .left; arm-of = inl refl; arm-is = s .at-left; lower = s .left-lower; writes-same = same .writes; meets-same = same .meets; sheet-parsed = parsed }
 
   -- and the right one
   right-arm :
       Parsed bytes right sheet base path new
       → Alike (union (s .left) (s .right)) (s .right) old kept new
       → ArmIs bytes node (s .left) (s .right) old kept new path (record { node = right; base = base })
-  right-arm parsed same = record { arm = s .right; arm-is = s .at-right; lower = s .right-lower; writes-same = same .writes; meets-same = same .meets; sheet-parsed = parsed }
+  right-arm parsed same = record { arm = s .right; arm-of = inr refl; arm-is = s .at-right; lower = s .right-lower; writes-same = same .writes; meets-same = same .meets; sheet-parsed = parsed }
 
 module _
     {bytes : Text}

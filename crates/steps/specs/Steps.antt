@@ -1,6 +1,7 @@
 -- What the steps of a writer are given, and what they answer.
 use mathlib.Core.Path.{_≡_}
 use mathlib.Core.Bool.{Bool, true, false, cond}
+use mathlib.Core.Logic.{_⊎_}
 use mathlib.Core.List.{List, [], _∷_}
 use mathlib.Core.Option.{Option, none, some}
 use Prim.Native.Nat.{ℕ, _+_, _-_, _^_, _≤_, _<_}
@@ -79,6 +80,7 @@ putAt node base p = record { arm = record { node = node; base = base }; old = At
 -- With the text that is kept, or none, the arm writes what the union does with the old text, or none, whatever the book; the sheet is parsed at it.
 pub record ArmIs (bytes : Text) (node : ℕ) (l m : Lens) (old kept : Option Text) (new : Text) (path : List ℕ) (r : Spot) : Type 0 where
   pub arm : Lens
+  pub arm-of : (arm ≡ l) ⊎ (arm ≡ m)
   pub arm-is : treeAt (trees bytes) (r .node) ≡ lens arm
   pub lower : r .node < node
   pub writes-same : (b : Entries) → write (union l m) old new b ≡ write arm kept new b

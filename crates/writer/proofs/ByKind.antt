@@ -49,7 +49,7 @@ meet-join l m old new i first second i-is (first-is, second-is) =
     (met m (apply (drop j) old) (drop (cutAt (language sheet l) (language sheet m) new) new))))
 
 -- one match is met at a match
-one-met : (child : ℕ) (l : Lens) (old : Option Text) (new : Text) → length (met (match child l) old new) ≡ 1
+pub one-met : (child : ℕ) (l : Lens) (old : Option Text) (new : Text) → length (met (match child l) old new) ≡ 1
 unfolding met
 one-met child l old new = refl
 

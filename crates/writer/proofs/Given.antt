@@ -161,10 +161,8 @@ module _
     {prepared : List ℕ}
     {spot : Spot}
     {deck : Text}
-    {below : List ℕ}
-    {b : Book}
     {left right : ℕ}
-    (ready : Ready bytes prepared (spot .node) deck below b)
+    (known : LensNode bytes prepared (spot .node))
     (s : TwoLenses (trees bytes) (spot .node) left right (λ l m. lens (union l m))) where
   -- there is no old text,
   pub new-arm :
@@ -172,7 +170,7 @@ module _
       → NewGiven bytes spot new path deck
       → ChosenNew prepared left right (spot .base) path r
       → ArmIs bytes (spot .node) (s .left) (s .right) none none new path r
-  new-arm {new} given chosen = chosen .arm-is bytes new (spot .node) (left-below (ready .lens-node) s) s (given .parsed)
+  new-arm {new} given chosen = chosen .arm-is bytes new (spot .node) (left-below known s) s (given .parsed)
 
   -- or one, which the arm has if it is of the arm
   module _
@@ -183,7 +181,6 @@ module _
       (chosen : Chosen prepared left right (spot .base) new before after p deck r) where
     choice-is : ChoiceIs bytes (spot .node) (s .left) (s .right) new after p deck r
     choice-is =
-        let known = ready .lens-node in
         chosen .choice-is bytes (spot .node) (left-below known s) (right-below known s) s (given .sheet-given .parsed) (given .old-parsed)
 
     pub choice-arm : ArmIs bytes (spot .node) (s .left) (s .right) (some (partAt deck p)) (oldText deck (r .old)) new after (r .arm)

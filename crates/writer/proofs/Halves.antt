@@ -39,10 +39,10 @@ module _
     (given : NewGiven bytes spot new path deck)
     (cut-is : cut ≡ cutSheet prepared left right (spot .base) path) where
   -- the nodes of the halves
-  near-is : cut .left .node ≡ left
+  pub near-is : cut .left .node ≡ left
   near-is = ap (λ c. c .left .node) cut-is
 
-  far-is : cut .right .node ≡ right
+  pub far-is : cut .right .node ≡ right
   far-is = ap (λ c. c .right .node) cut-is
 
   -- they are lower, and lenses

@@ -3,6 +3,7 @@ mod Behind
 mod Unasked
 mod Counting
 mod ByKind
+mod Plainly
 mod Halves
 mod Parts
 mod Given

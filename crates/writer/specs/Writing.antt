@@ -22,6 +22,7 @@ use Rattle.books.specs.Listed.{unused}
 use Rattle.books.specs.Looking.{BookOver, SameEntries, CardsFit, placeAt, OldParsed, LookedUp}
 use Rattle.decks.specs.Below.{BelowIs}
 use Rattle.writer.specs.declared.Done.{Done}
+use Rattle.writer.specs.declared.plain.Plain.{Plain}
 
 -- ---- What a writer is given
 
@@ -98,6 +99,28 @@ pub record WritesNext (bytes : Text) (node : ℕ) (old : Option Text) (new : Tex
       → (text before : Text)
       → Writes text before mid wrote
       → Writes (text ++ plain l old new) before after r
+
+-- ---- Without the book
+
+-- A node that is a lens, and what stands below each node.
+pub record PlainReady (bytes : Text) (prepared : List ℕ) (node : ℕ) (below : List ℕ) : Type 0 where
+  pub lens-node : LensNode bytes prepared node
+  pub below-is : BelowIs bytes below
+
+-- What a node that meets so many matches writes where no entry answers.
+pub record MeetsNext (bytes : Text) (node : ℕ) (old : Option Text) (new : Text) (matches : ℕ) (plain : Plain) (mid after : Text) (r : Plain) : Type 0 where
+  pub next : WritesNext bytes node old new (plain .wrote) mid after (r .wrote)
+  pub counted : r .met ≡ (plain .met + matches) % 2 ^ 64
+
+-- with a book
+abbrev pub doneWith : Plain → Book → Done
+doneWith plain b = record { wrote = plain .wrote; book = b; met = plain .met }
+
+-- What a node writes with whatever book it asks nothing of, which stays as it is.
+pub record WritesPlainly (bytes : Text) (node : ℕ) (deck : Text) (below : List ℕ) (old : Option Text) (new : Text) (plain : Plain) (mid after : Text) (r : Plain) : Type 0 where
+  pub writes : (b : Book) → BookOver 4096 b → AsksNone below node b → WritesBehind bytes node deck old new (doneWith plain b) mid after (doneWith r b)
+
+-- ---- Lookups
 
 -- The entry that the key of a sheet text finds in the book.
 pub record EntryFound (bytes : Text) (child : ℕ) (deck new : Text) (b : Book) (r : Lookup) : Type 0 where

@@ -2,6 +2,7 @@
 use books::Book;
 use lens::Wrote;
 
+mod plain;
 pub mod write;
 
 // What was written so far, the book that is left, and how many matches were met.

@@ -3,13 +3,16 @@
 // Each function on the way down holds the book twice, as it came and as it comes back: so `done` is written over where two calls follow each other, and what every node does with an old
 // text or none is no function of its own.
 use crate::Done;
+use crate::plain::Plain;
+use crate::plain::next_plain;
+use crate::plain::write_plain;
 use automaton::Side;
-use bookless::write;
 use books::Book;
 use books::Lookup;
 use books::Old;
 use books::Place;
 use decks::below::VARIES;
+use decks::below::asks_none;
 use decks::below::plain_count;
 use decks::cards::card_of;
 use lens::Wrote;
@@ -17,10 +20,8 @@ use paths::Ends;
 use paths::first_loop;
 use std::num::wrapping_add_usize;
 use steps::Spot;
-use steps::behind;
 use steps::choose;
 use steps::choose_new;
-use steps::count_parts;
 use steps::cut_sheet;
 use steps::ends_of;
 use steps::halves_of;
@@ -39,34 +40,9 @@ ghost use Rattle.lens.specs.Emitting.{LensNode};
 ghost use Rattle.books.specs.Looking.{partAt, oldText};
 ghost use Rattle.bookless.specs.Bookless.{NewGiven, Given, GivenOld};
 ghost use Rattle.steps.specs.Steps.{EndsAre};
-ghost use Rattle.writer.specs.Writing.{LooksIn, Ready, AsksNone, MeetsThere, NoMatch, Fitted, WithinBuffer, WritesBehind, WritesMatch, WritesMatches, WritesNext, EntryFound};
+ghost use Rattle.writer.specs.Writing.{LooksIn, Ready, AsksNone, MeetsThere, NoMatch, WithinBuffer, WritesBehind, WritesMatch, WritesMatches, EntryFound};
 
-// What a node writes behind what was written, with no book.
-fn next_plain(
-    wrote: Wrote,
-    bytes: &[u8],
-    prepared: &[u64],
-    spot: Spot,
-    new: &[u8],
-    path: &mut [u8],
-    old: Old,
-    deck: &[u8],
-    out: &mut [u8],
-) -> Wrote
-    requires { ⌜ LensNode (now bytes) (now prepared) (spot .node) ⌝ }
-    requires { ⌜ GivenOld (now bytes) spot (now new) (now path) old (now deck) ⌝ }
-    requires { ⌜ Fitted wrote (now out) ⌝ }
-    ensures { λ r. ⌜ WritesNext (now (bytes .entry)) (spot .node) (oldText (now (deck .entry)) old) (now (new .entry)) wrote (now (out .entry)) (now (out .exit)) r ⌝ }
-{
-    let Wrote::Count(n) = wrote else {
-        return wrote;
-    };
-    let rest = &mut out[n..];
-    let more = write(bytes, prepared, spot, new, path, old, deck, rest);
-    behind(n, more)
-}
-
-// The same, with the book, which stays as it is, and the matches that it meets.
+// What a node writes with no book behind what was written. The book stays as it is, and the matches that the node meets are counted.
 fn plain_behind(
     done: Done,
     matches: usize,
@@ -97,6 +73,39 @@ fn plain_behind(
     }
 }
 
+// The same of a node whose matches are counted as it is written.
+fn counted_behind(
+    done: Done,
+    bytes: &[u8],
+    prepared: &[u64],
+    spot: Spot,
+    new: &[u8],
+    path: &mut [u8],
+    old: Old,
+    deck: &[u8],
+    below: &[u64],
+    out: &mut [u8],
+) -> Done
+    requires { ⌜ Ready (now bytes) (now prepared) (spot .node) (now deck) (now below) (done .book) ⌝ }
+    requires { ⌜ GivenOld (now bytes) spot (now new) (now path) old (now deck) ⌝ }
+    requires { ⌜ WithinBuffer done (now out) × AsksNone (now below) (spot .node) (done .book) ⌝ }
+    ensures { λ r. ⌜ WritesBehind (now (bytes .entry)) (spot .node) (now (deck .entry)) (oldText (now (deck .entry)) old) (now (new .entry)) done (now (out .entry)) (now (out .exit)) r ⌝ }
+{
+    let book = done.book;
+    let wrote = done.wrote;
+    let plain = Plain {
+        wrote,
+        met: done.met,
+    };
+    let more = write_plain(plain, bytes, prepared, spot, new, path, old, deck, below, out);
+    let written = more.wrote;
+    Done {
+        wrote: written,
+        book,
+        met: more.met,
+    }
+}
+
 // A sheet is put onto an old text. A node with no lens below it looks nothing up, so it writes without the book.
 pub fn put(
     mut done: Done,
@@ -123,6 +132,9 @@ pub fn put(
     let matches = plain_count(below, node, book.left);
     if matches < VARIES {
         return plain_behind(done, matches as usize, bytes, prepared, spot, new, path, old, deck, below, out);
+    }
+    if asks_none(below, node, book.left) {
+        return counted_behind(done, bytes, prepared, spot, new, path, old, deck, below, out);
     }
     let read = Table::node(bytes, prepared, node);
     let kind = read.kind;
@@ -183,6 +195,9 @@ pub fn create(
     let matches = plain_count(below, node, book.left);
     if matches < VARIES {
         return plain_behind(done, matches as usize, bytes, prepared, spot, new, path, old, deck, below, out);
+    }
+    if asks_none(below, node, book.left) {
+        return counted_behind(done, bytes, prepared, spot, new, path, old, deck, below, out);
     }
     let read = Table::node(bytes, prepared, node);
     let kind = read.kind;
@@ -285,12 +300,6 @@ fn write_repeat(
 {
     let base = spot.base;
     let ends = ends_of(prepared, child, Side::Sheet, base);
-    let book = done.book;
-    let each = plain_count(below, child, book.left);
-    if each < VARIES {
-        let matches = (each as usize) * count_parts(path, ends);
-        return plain_behind(done, matches, bytes, prepared, spot, new, path, old, deck, below, out);
-    }
     let read = Table::node(bytes, prepared, child);
     let kind = read.kind;
     if let Kind::Match { child: inner } = kind {

@@ -4,10 +4,10 @@ use Rattle.lens.specs.Overlay.{writes-full}
 use Rattle.laws.specs.Bookless.{plain}
 use native.Mathlib.Omega.{arith}
 use borrow.Author.Needs.{needs}
-use Rattle.writer.proofs.write.next_plain.Statement.{statement}
-use Rattle.writer.proofs.write.next_plain.Tie as tie
-use Rattle.writer.proofs.write.next_plain.Reads as reads
-use Rattle.writer.proofs.write.next_plain.Lts as lts
+use Rattle.writer.proofs.plain.next_plain.Statement.{statement}
+use Rattle.writer.proofs.plain.next_plain.Tie as tie
+use Rattle.writer.proofs.plain.next_plain.Reads as reads
+use Rattle.writer.proofs.plain.next_plain.Lts as lts
 use Rattle.bookless.proofs.write.Reads as write-reads
 use Rattle.steps.proofs.behind.Reads as behind-reads
 
