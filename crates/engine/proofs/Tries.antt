@@ -1,6 +1,7 @@
 -- What a try in a room says of the call, and what each call owes for a program that is refused.
 use mathlib.Core.Path.{_≡_, refl, sym, _∙_, subst}
 use Prim.Native.Nat.{ℕ}
+use lib.ListN.{length}
 use Rattle.semantics.specs.Text.{Text}
 use Rattle.semantics.specs.Calls.{gives, refuses, program, withProgram, getCall, putCall, createCall}
 use Rattle.answers.specs.declared.Answer.the-variants.{Refusal}
@@ -25,9 +26,9 @@ owes-as {call} {which} {bytes} {sheet} {source} {before} {after} {reply} e o =
     subst (λ (k : Call). Owes k bytes sheet source before after reply) (sym e) o
 
 -- put gives nothing by a program that is refused, and so has nothing to count
-put-refused : (bytes sheet source t : Text) {lent number node : ℕ} → program bytes ≡ refuses number node → putCall bytes sheet source lent ≡ gives t → ⊥
+put-refused : (bytes sheet source t : Text) (lent : ℕ) {number node : ℕ} → program bytes ≡ refuses number node → putCall bytes sheet source lent ≡ gives t → ⊥
 unfolding putCall withProgram
-put-refused bytes sheet source t e given = let wrong = rw e at given in never (cc)
+put-refused bytes sheet source t lent e given = let wrong = rw e at given in never (cc)
 
 -- 'It checks the program itself on each call': a refused program is refused to each
 owed-refusal :
@@ -40,7 +41,7 @@ owed-refusal Check bytes sheet source before reply number node e is = record { a
 owed-refusal Get bytes sheet source before reply number node e is = rw is (program-refuses bytes _ e)
 owed-refusal Put bytes sheet source before reply number node e is =
     record {
-      counts = λ t given. absurd (put-refused bytes sheet source t e given);
+      counts = λ t given. absurd (put-refused bytes sheet source t (length before) e given);
       gives = rw is (program-refuses bytes _ e);
     }
 owed-refusal Create bytes sheet source before reply number node e is = rw is (program-refuses bytes _ e)
