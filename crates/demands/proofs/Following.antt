@@ -12,7 +12,9 @@ use Rattle.laws.specs.Basics.{never}
 use Rattle.laws.specs.Refusals.{Named}
 use Rattle.answers.specs.declared.Answer.{Answer}
 use Rattle.answers.specs.declared.Answer.the-variants.{Result, Refusal}
-use Rattle.answers.specs.Contracts.{answerFor, putAnswerFor, GivesText}
+use Rattle.answers.specs.declared.PutAnswer.{PutAnswer}
+use Rattle.answers.specs.Contracts.{answerFor, putAnswerFor, GivesText, GivesSource, untallied}
+use Rattle.answers.specs.Replies.{gives-text}
 use Rattle.engine.specs.Demand3.{Gave, gave-of, of-gave}
 use Rattle.noontrough.specs.declared.Numbers.{Numbers}
 use Rattle.noontrough.specs.declared.PutNumbers.{PutNumbers}
@@ -27,6 +29,14 @@ use Rattle.demands.specs.Following.{Held, Follows, LinkedHeld, LinkedFol
 pub blank-length : length blank ≡ 4096
 unfolding blank
 blank-length = length-replicate {A = ℕ} 4096 0
+
+-- put's answer without its counts, as the calls are made here
+pub gives-plain :
+    {outcome : Outcome Text} {n : Tally} {before after : Text} {answer : PutAnswer} {plain : Answer}
+    → GivesSource outcome n before after answer
+    → plain ≡ untallied answer
+    → GivesText outcome before after plain
+gives-plain given is = rw is (gives-text given)
 
 -- ---- The first call
 

@@ -39,7 +39,7 @@ returns c =
     linked-made
     (getCall (now (c .before .before .before .before .before .before .before .before .before .before .before .args .table)) (now (c .before .before .before .before .before .before .before .before .before .before .before .args .source)))
     (λ n a. putCall (now (c .before .before .before .before .before .before .before .before .before .before .before .args .table)) a (now (c .before .before .before .before .before .before .before .before .before .before .before .args .source)) n)
-    (λ a. putTally (now (@args .table)) a (now (@args .source)))
+    (λ a. putTally (now (c .before .before .before .before .before .before .before .before .before .before .before .args .table)) a (now (c .before .before .before .before .before .before .before .before .before .before .before .args .source)))
     (c .before .before .before .before .before .before .before .before .blank-buffer .ensures)
     (c .before .before .before .before .before .before .before .blank-buffer2 .ensures)
     (get-named _ _ _)

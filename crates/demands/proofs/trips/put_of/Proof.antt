@@ -2,8 +2,7 @@
 use mathlib.Core.Path.{refl}
 use native.Mathlib.Omega.{arith}
 use borrow.Author.Needs.{needs}
-use Rattle.answers.specs.Replies.{gives-text}
-use Rattle.demands.proofs.Following.{follows-result, follows-refusal}
+use Rattle.demands.proofs.Following.{gives-plain, follows-result, follows-refusal}
 use Rattle.demands.proofs.trips.put_of.Statement.{statement}
 use Rattle.demands.proofs.trips.put_of.Tie as tie
 
@@ -32,7 +31,7 @@ same-length : tie.Need-same-length
 same-length c = search needs
 
 returns : tie.Need-returns
-returns c = follows-result (@first .given .1) (rw (@without-tally .ensures) (gives-text (@put .ensures)))
+returns c = follows-result (c .before .before .before .before .before .before .before .first .given .1) (gives-plain (c .before .before .before .put .ensures) (c .without-tally .ensures))
 
 returns-2 : tie.Need-returns-2
 returns-2 c = follows-refusal (c .before .first2 .given .1) refl refl
