@@ -65,7 +65,7 @@ same-length-3 c = search needs
 
 returns-3 : tie.Need-returns-3
 unfolding outcomeOf
-returns-3 c = rw (@enum-told3 .given .1) (@finish2 .ensures .finishes _ _ (rw (@without-tally .ensures) (gives-text (@put .ensures))))
+returns-3 c = rw (c .before .before .before .before .before .before .before .before .before .enum-told3 .given .1) (c .before .before .finish2 .ensures .finishes _ _ (rw (c .before .before .before .before .without-tally .ensures) (gives-text (c .before .before .before .before .before .before .before .put .ensures))))
 
 same-length-4 : tie.Need-same-length-4
 same-length-4 c = search needs
