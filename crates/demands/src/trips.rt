@@ -72,9 +72,7 @@ fn put_of(bytes: &[u8], first: Answer, given: &[u8], source: &[u8], again: &mut 
     ensures { λ r. ⌜ Follows (now (given .entry)) first (λ a. putCall (now (bytes .entry)) a (now (source .entry)) (length (now (again .entry)))) (now (again .entry)) (now (again .exit)) r ⌝ }
 {
     match first {
-        Answer::Result { length } => {
-            without_tally(put(bytes, &given[0..length], source, again))
-        }
+        Answer::Result { length } => { without_tally(put(bytes, &given[0..length], source, again)) }
         Answer::Refusal { number, node } => Answer::Refusal { number, node },
     }
 }

@@ -85,8 +85,7 @@ pub unedited-counts :
 unedited-counts bytes t a before after before′ after′ first second l n kept made dropped is-program got gave given result =
     let sheet = of-gave (getCall bytes t (length before)) a before after first got gave in
     let counts = tally-unedited bytes t a (length before) l is-program sheet in
-    let here = counted (putCall bytes a t (length before′)) (putTally bytes a t) before′ after′ second given result in
-    (
+    let here = counted (putCall bytes a t (length before′)) (putTally bytes a t) before′ after′ second given result in (
       here .kept-is ∙ ap (λ (m : Tally). m .kept) counts,
       here .made-is ∙ ap (λ (m : Tally). m .made) counts,
       here .dropped-is ∙ ap (λ (m : Tally). m .dropped) counts,
