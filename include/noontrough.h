@@ -82,11 +82,23 @@ enum noontrough_refusal {
     NOONTROUGH_RESULT_TOO_LONG = 16       /* the result is longer than `out`, or than 4,096 bytes */
 };
 
-/* What a call answers. What does not apply is 0. */
+/* What check, get and create answer. What does not apply is 0. */
 struct noontrough_answer {
     uint64_t number; /* 0 for a result, else the refusal, 1 to 16 */
     uint64_t node;   /* for a refusal from 2 to 11, the node concerned, counted from 0; else 0 */
     uint64_t length; /* for a result, its length in bytes (check: the number of nodes); else 0 */
+};
+
+/* What put answers: the same, and how many entries it kept, made and dropped. What
+ * does not apply is 0. The counts have 64 bits, as every number here; 16 would be
+ * too few, since a put can make 524,288 entries. */
+struct noontrough_put_answer {
+    uint64_t number;  /* 0 for a result, else the refusal, 1 to 16 */
+    uint64_t node;    /* for a refusal from 2 to 11, the node concerned, counted from 0; else 0 */
+    uint64_t length;  /* for a result, its length in bytes; else 0 */
+    uint64_t kept;    /* for a result, the sheet's entries that took an old entry; else 0 */
+    uint64_t made;    /* for a result, the sheet's entries that took none; else 0 */
+    uint64_t dropped; /* for a result, the old entries left unused; else 0 */
 };
 
 /*
@@ -120,12 +132,16 @@ struct noontrough_answer noontrough_get(uint8_t const *table, size_t table_len,
  * source, source_len   the old source, at most 4,096 bytes and 256 entries
  * out, out_len         where the new source goes; the result must fit out_len
  *
- * Result: the length is the new source's. Refusals: 1 to 16.
+ * Result: the length is the new source's, and the sheet's entries are counted, which
+ * are the texts that this put reads by a match, also empty ones: kept are those
+ * that took an old entry, made those that did not. Dropped are the old entries left
+ * unused. So kept + dropped is the number of the old source's entries, and kept + made
+ * that of the new source's. Refusals: 1 to 16.
  */
-struct noontrough_answer noontrough_put(uint8_t const *table, size_t table_len,
-                                        uint8_t const *sheet, size_t sheet_len,
-                                        uint8_t const *source, size_t source_len,
-                                        uint8_t *out, size_t out_len);
+struct noontrough_put_answer noontrough_put(uint8_t const *table, size_t table_len,
+                                            uint8_t const *sheet, size_t sheet_len,
+                                            uint8_t const *source, size_t source_len,
+                                            uint8_t *out, size_t out_len);
 
 /*
  * Gives a source from a sheet alone, with the program's defaults for what the

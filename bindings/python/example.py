@@ -48,6 +48,7 @@ def main() -> None:
     print("Lines of the source that changed:")
     for line in changes(source.decode("utf-8"), result.decode("utf-8")):
         print(line)
+    print("Entries:", result.tally)
 
 
 if __name__ == "__main__":

@@ -8,8 +8,10 @@ belong together. Every text is bytes, and every call checks the program itself:
     put(table, sheet, source)   gives the new source for an edited sheet
     create(table, sheet)        gives a source for a sheet alone
 
-What the engine turns down is raised as a Refusal. This module only hands the
-bytes over; the engine is a shared library, which bindings/python/build makes.
+The new source of a put has with it a tally of the entries kept, made and
+dropped. What the engine turns down is raised as a Refusal. This module only
+hands the bytes over; the engine is a shared library, which
+bindings/python/build makes.
 """
 
 from __future__ import annotations
@@ -19,9 +21,9 @@ import functools
 import os
 import threading
 from concurrent.futures import Future
-from typing import Callable, Dict, Union
+from typing import Callable, Dict, NamedTuple, Tuple, Type, Union
 
-__all__ = ["MAX_TEXT", "SENTENCES", "Refusal", "check", "create", "get", "put"]
+__all__ = ["MAX_TEXT", "SENTENCES", "NewSource", "Refusal", "Tally", "check", "create", "get", "put"]
 
 #: The longest source, sheet and result, in bytes.
 MAX_TEXT = 4096
@@ -84,29 +86,63 @@ class Refusal(Exception):
         return f"refused {self.number} {self.node}: {self.sentence}"
 
 
+class Tally(NamedTuple):
+    """What became of the entries in a put. An entry is a text that a match reads, also an empty one.
+
+    Kept and dropped together are the entries of the old source, kept and made
+    together those of the new one. As a str it is a line: kept 1 made 1 dropped 1.
+    """
+
+    #: The sheet's entries that took an old entry.
+    kept: int
+    #: The sheet's entries that took none.
+    made: int
+    #: The old entries left unused.
+    dropped: int
+
+    def __str__(self) -> str:
+        return f"kept {self.kept} made {self.made} dropped {self.dropped}"
+
+
+class NewSource(bytes):
+    """The new source that put gives: bytes like every other result, and `tally`, a Tally."""
+
+    tally: Tally
+
+    def __new__(cls, source: bytes, tally: Tally) -> NewSource:
+        new = super().__new__(cls, source)
+        new.tally = tally
+        return new
+
+    def __reduce__(self) -> Tuple[Type[NewSource], Tuple[bytes, Tally]]:
+        # How a copy is made, here or in another process: with its tally.
+        return type(self), (bytes(self), self.tally)
+
+
 def check(table: BytesLike) -> int:
     """Tests a program, and gives its number of nodes."""
-    return _length("noontrough_check", _READ_STACK, _copied("table", table))
+    return _answer("noontrough_check", _READ_STACK, _copied("table", table)).length
 
 
 def get(table: BytesLike, source: BytesLike) -> bytes:
     """Gives the sheet of a source."""
-    return _text("noontrough_get", _READ_STACK, _copied("table", table), _copied("source", source))
+    return _text("noontrough_get", _READ_STACK, _copied("table", table), _copied("source", source))[0]
 
 
-def put(table: BytesLike, sheet: BytesLike, source: BytesLike) -> bytes:
-    """Gives the new source for an edited sheet and the old source.
+def put(table: BytesLike, sheet: BytesLike, source: BytesLike) -> NewSource:
+    """Gives the new source for an edited sheet and the old source, with a tally of the entries.
 
     Entries are found by their keys, and what the sheet does not show comes from
     the old source.
     """
     slices = _copied("table", table), _copied("sheet", sheet), _copied("source", source)
-    return _text("noontrough_put", _WRITE_STACK, *slices)
+    text, answer = _text("noontrough_put", _WRITE_STACK, *slices)
+    return NewSource(text, Tally(answer.kept, answer.made, answer.dropped))
 
 
 def create(table: BytesLike, sheet: BytesLike) -> bytes:
     """Gives a source for a sheet alone, with the program's defaults for the rest."""
-    return _text("noontrough_create", _WRITE_STACK, _copied("table", table), _copied("sheet", sheet))
+    return _text("noontrough_create", _WRITE_STACK, _copied("table", table), _copied("sheet", sheet))[0]
 
 
 def _copied(name: str, value: BytesLike) -> bytes:
@@ -124,15 +160,18 @@ def _copied(name: str, value: BytesLike) -> bytes:
     return view.tobytes()
 
 
-def _text(function: str, stack: int, *slices: bytes) -> bytes:
-    """Makes a call that gives a text. Every result fits the buffer, and no two calls share one."""
+def _text(function: str, stack: int, *slices: bytes) -> Tuple[bytes, _Answer]:
+    """Makes a call that gives a text, which comes with the whole answer.
+
+    Every result fits the buffer, and no two calls share one.
+    """
     out = ctypes.create_string_buffer(MAX_TEXT)
-    length = _length(function, stack, *slices, out)
-    return ctypes.string_at(out, length)
+    answer = _answer(function, stack, *slices, out)
+    return ctypes.string_at(out, answer.length), answer
 
 
-def _length(function: str, stack: int, *slices: Union[bytes, ctypes.Array]) -> int:
-    """Makes a call and gives the length that it answers.
+def _answer(function: str, stack: int, *slices: Union[bytes, ctypes.Array]) -> _Answer:
+    """Makes a call and gives its answer, if that is a result.
 
     An empty bytes object has an address too, so no pointer is null.
     """
@@ -141,7 +180,7 @@ def _length(function: str, stack: int, *slices: Union[bytes, ctypes.Array]) -> i
     answer = _with_stack(stack, lambda: made(*arguments))
     if answer.number:
         raise Refusal(answer.number, answer.node)
-    return answer.length
+    return answer
 
 
 # The library
@@ -152,8 +191,19 @@ class _Answer(ctypes.Structure):
     _fields_ = [("number", ctypes.c_uint64), ("node", ctypes.c_uint64), ("length", ctypes.c_uint64)]
 
 
-#: How many slices each function takes, the buffer for the result included.
-_FUNCTIONS = {"noontrough_check": 1, "noontrough_get": 3, "noontrough_put": 4, "noontrough_create": 3}
+class _PutAnswer(_Answer):
+    """struct noontrough_put_answer: the same fields, and these behind them."""
+
+    _fields_ = [("kept", ctypes.c_uint64), ("made", ctypes.c_uint64), ("dropped", ctypes.c_uint64)]
+
+
+#: How many slices each function takes, the buffer for the result included, and what it answers.
+_FUNCTIONS: Dict[str, Tuple[int, Type[_Answer]]] = {
+    "noontrough_check": (1, _Answer),
+    "noontrough_get": (3, _Answer),
+    "noontrough_put": (4, _PutAnswer),
+    "noontrough_create": (3, _Answer),
+}
 
 _FOLDER = os.path.dirname(os.path.abspath(__file__))
 
@@ -167,10 +217,10 @@ def _library() -> ctypes.CDLL:
         raise ImportError(f"The engine's shared library is missing: {path}. {_advice(named)}")
     try:
         library = ctypes.CDLL(path)
-        for name, slices in _FUNCTIONS.items():
+        for name, (slices, answer) in _FUNCTIONS.items():
             function = getattr(library, name)
             function.argtypes = [ctypes.c_char_p, ctypes.c_size_t] * slices
-            function.restype = _Answer
+            function.restype = answer
     except (OSError, AttributeError) as error:
         raise ImportError(f"The engine's shared library can't be used: {path} ({error}). {_advice(named)}") from error
     return library

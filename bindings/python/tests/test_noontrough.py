@@ -6,6 +6,7 @@
 from __future__ import annotations
 
 import array
+import copy
 import ctypes
 import os
 import pickle
@@ -26,7 +27,7 @@ ROOT = PACKAGE.parent.parent
 sys.path[:0] = [str(PACKAGE), str(TESTS)]
 
 import noontrough  # noqa: E402
-from noontrough import Refusal, check, create, get, put  # noqa: E402
+from noontrough import NewSource, Refusal, Tally, check, create, get, put  # noqa: E402
 from tables import Draft, k  # noqa: E402
 
 K = k()
@@ -81,10 +82,11 @@ class Cases(Calls):
 
     def test_the_room_for_the_result(self) -> None:
         """The module always lends 4,096 bytes, so this asks the library itself."""
-        for room, number, length, text in (8, 0, 8, b"C22;AB1;"), (7, 16, 0, b"-------"):
+        for room, number, length, kept, text in (8, 0, 8, 2, b"C22;AB1;"), (7, 16, 0, 0, b"-------"):
             out = ctypes.create_string_buffer(b"-" * room, room)
             answer = noontrough._library().noontrough_put(K, len(K), b"C;AB;", 5, SOURCE, len(SOURCE), out, room)
             self.assertEqual((answer.number, answer.node, answer.length, out.raw), (number, 0, length, text))
+            self.assertEqual((answer.kept, answer.made, answer.dropped), (kept, 0, 0))
 
     def test_copy_instead_of_key(self) -> None:
         self.assertEqual(put(k(label=16), b"C;AB;", SOURCE), b"C1;AB22;")
@@ -139,6 +141,97 @@ class Cases(Calls):
         self.assertEqual(get(draft.table(), text), text)
         self.assertEqual(put(draft.table(), text[::-1], text), text[::-1])
         self.assertEqual(create(draft.table(), b"\x00"), b"\x00")
+
+
+class Tallies(Calls):
+    """What became of the entries in a put: the case of document 02, and by hand."""
+
+    def assert_tally(self, kept: int, made: int, dropped: int, new: bytes) -> None:
+        self.assertEqual(new.tally, Tally(kept, made, dropped))
+
+    def test_program_k(self) -> None:
+        self.assert_tally(1, 1, 1, put(K, b"C;D;", SOURCE))
+        self.assert_tally(2, 0, 0, put(K, b"C;AB;", SOURCE))
+        self.assert_tally(1, 1, 1, put(K, b"AB;AB;", SOURCE))
+        self.assert_tally(2, 0, 0, put(K, b"A;A;", b"A1;A2;"))
+        self.assert_tally(1, 2, 0, put(K, b"A;A;A;", b"A1;"))
+        self.assert_tally(0, 0, 2, put(K, b"", SOURCE))
+        self.assert_tally(0, 1, 0, put(K, b"AB;", b""))
+        self.assert_tally(0, 0, 0, put(K, b"", b""))
+        self.assert_tally(2, 0, 254, put(K, b"A;A;", b"A7;" * 256))
+
+    def test_the_examples(self) -> None:
+        """D is made and Z dropped; Tansman and Sibelius; V;A and A;W."""
+        for name, edited, entries in ("k", (4, 1, 1), 5), ("composers", (2, 1, 1), 3), ("kerning", (8, 1, 1), 9):
+            table, source, sheet, correction = [
+                (ROOT / "examples" / name / file).read_bytes() for file in ("program.table", "source", "sheet", "edited")
+            ]
+            with self.subTest(name):
+                self.assert_tally(*edited, put(table, correction, source))
+                self.assert_tally(entries, 0, 0, put(table, sheet, source))
+
+    def test_524288_entries(self) -> None:
+        """128 entries at each of 4,096 letters: 127 that are empty, and the letter."""
+        draft = Draft()
+        doubled = draft.match(draft.copy_word(b""))
+        empty = doubled
+        for _ in range(6):
+            doubled = draft.lens_join(doubled, doubled)
+            empty = draft.lens_join(empty, doubled)
+        draft.lens_repeat(draft.lens_join(empty, draft.match(draft.copy_word(b"a"))))
+        table, full = draft.table(), b"a" * 4096
+        self.assert_tally(0, 524288, 0, put(table, full, b""))
+        self.assert_tally(256, 524032, 0, put(table, full, b"aa"))
+        self.assert_tally(128, 0, 128, put(table, b"a", b"aa"))
+
+    def test_a_program_without_entries(self) -> None:
+        draft = Draft()
+        draft.copy(draft.repeat(draft.range(b"A", b"Z")))
+        self.assert_tally(0, 0, 0, put(draft.table(), b"AV", b"VA"))
+
+    def test_by_name_by_place_and_as_a_line(self) -> None:
+        tally = put(K, b"A;A;A;", b"A1;").tally
+        self.assertEqual((tally.kept, tally.made, tally.dropped), (1, 2, 0))
+        kept, made, dropped = tally
+        self.assertEqual((kept, made, dropped), (1, 2, 0))
+        self.assertEqual(str(tally), "kept 1 made 2 dropped 0")
+        self.assertEqual(f"{tally}", "kept 1 made 2 dropped 0")
+        self.assertEqual(repr(tally), "Tally(kept=1, made=2, dropped=0)")
+
+    def test_the_new_source_is_bytes(self) -> None:
+        new = put(K, b"C;D;", SOURCE)
+        self.assertIsInstance(new, NewSource)
+        self.assertEqual((new, hash(new), len(new)), (b"C22;D0;", hash(b"C22;D0;"), 7))
+        self.assertIs(type(new[:3]), bytes)
+        self.assertEqual(get(K, new), b"C;D;")
+        self.assert_tally(2, 0, 0, put(K, get(K, new), new))
+        with tempfile.TemporaryFile() as file:
+            file.write(new)
+            file.seek(0)
+            self.assertEqual(file.read(), b"C22;D0;")
+
+    def test_a_copy_has_it_too(self) -> None:
+        new = put(K, b"C;D;", SOURCE)
+        pickled = [pickle.loads(pickle.dumps(new, protocol)) for protocol in range(pickle.HIGHEST_PROTOCOL + 1)]
+        for other in [*pickled, copy.copy(new), copy.deepcopy(new)]:
+            self.assertEqual(other, b"C22;D0;")
+            self.assert_tally(1, 1, 1, other)
+
+    def test_on_another_thread(self) -> None:
+        with mock.patch.object(noontrough, "_stack_here", return_value=0):
+            self.assert_tally(1, 1, 1, put(K, b"C;D;", SOURCE))
+
+    def test_a_refusal_has_zeros(self) -> None:
+        """The module has nothing to show then, so this asks the library itself."""
+        many, out = b"A;" * 257, ctypes.create_string_buffer(8)
+        for number, table, sheet, source in (
+            (1, b"", b"", b""), (12, K, b"A;" * 2049, SOURCE), (13, K, b"A;", b"[;"), (14, K, b"A1;", SOURCE),
+            (15, K, b"A;", many), (16, K, b"C;AB;A;", SOURCE),
+        ):
+            slices = [part for text in (table, sheet, source, out) for part in (text, len(text))]
+            answer = noontrough._library().noontrough_put(*slices)
+            self.assertEqual((answer.number, answer.node, answer.length), (number, 0, 0))
+            self.assertEqual((answer.kept, answer.made, answer.dropped), (0, 0, 0))
 
 
 def arms(last: bytes, first: bytes) -> bytes:
@@ -315,6 +408,17 @@ class Words(unittest.TestCase):
         self.assertIn(f"#define NOONTROUGH_MAX_TEXT {noontrough.MAX_TEXT}\n", header)
         self.assertIn(f"#define NOONTROUGH_STACK_BYTES ({noontrough._WRITE_STACK // 1024} * 1024)\n", header)
         self.assertIn(f"#define NOONTROUGH_READ_STACK_BYTES ({noontrough._READ_STACK // 1024} * 1024)\n", header)
+
+    def test_answers_are_those_of_the_header(self) -> None:
+        header = (ROOT / "include/noontrough.h").read_text("utf-8")
+        structs = dict(re.findall(r"struct (\w+) \{(.*?)\};", header, re.DOTALL))
+        names = {name: struct for struct, name in re.findall(r"^struct (\w+) (noontrough_\w+)\(", header, re.MULTILINE)}
+        self.assertEqual(set(names), set(noontrough._FUNCTIONS))
+        for name, (_, answer) in noontrough._FUNCTIONS.items():
+            fields = re.findall(r"uint64_t (\w+);", structs[names[name]])
+            offsets = [getattr(answer, field).offset for field in fields]
+            self.assertEqual(offsets, [8 * place for place in range(len(fields))], name)
+            self.assertEqual(ctypes.sizeof(answer), 8 * len(fields), name)
 
 
 class Arguments(Calls):
@@ -608,6 +712,7 @@ Lines of the source that changed:
 -
 - # quotes stand off
 - L;quoteright 12
+Entries: kept 8 made 1 dropped 1
 """
 
     def test_result(self) -> None:
@@ -615,7 +720,8 @@ Lines of the source that changed:
 
         table, source = [(ROOT / "examples/kerning" / name).read_bytes() for name in ("program.table", "source")]
         edited = example.edit(get(table, source).decode("ascii")).encode("ascii")
-        self.assertEqual(put(table, edited, source).decode("ascii"), self.RESULT)
+        new = put(table, edited, source)
+        self.assertEqual((new.decode("ascii"), new.tally), (self.RESULT, (8, 1, 1)))
 
     def test_printed(self) -> None:
         with tempfile.TemporaryDirectory() as elsewhere:

@@ -41,20 +41,52 @@ fn main() {
 }
 
 fn bench() {
-    let table = program_k();
-    let entries = entries(&mut Random::new(SEED), ENTRIES);
-    let source = source_of(&entries);
-    let sheet = sheet_of(&entries);
-    let reversed: Vec<_> = entries.iter().rev().cloned().collect();
-    let (reversed_source, reversed_sheet) = (source_of(&reversed), sheet_of(&reversed));
+    let (table, texts) = (program_k(), Texts::of(&entries(&mut Random::new(SEED), ENTRIES)));
+    entries_of_k(&table, &texts);
+    checks();
+    by_size(&table);
+    slow();
+    match Augeas::start(&texts.source, &texts.reversed_source) {
+        Ok(augeas) => beside_augeas(augeas, &table, &texts),
+        Err(reason) => println!("\nAugeas is skipped: {reason}"),
+    }
+}
+
+/// The same entries as source, as sheet, the other way round, and made anew.
+struct Texts {
+    source: Vec<u8>,
+    sheet: Vec<u8>,
+    reversed_source: Vec<u8>,
+    reversed_sheet: Vec<u8>,
+    created: Vec<u8>,
+}
+
+impl Texts {
+    fn of(entries: &[Entry]) -> Texts {
+        let reversed: Vec<_> = entries.iter().rev().cloned().collect();
+        Texts {
+            source: source_of(entries),
+            sheet: sheet_of(entries),
+            reversed_source: source_of(&reversed),
+            reversed_sheet: sheet_of(&reversed),
+            created: created_of(entries),
+        }
+    }
+}
+
+fn entries_of_k(table: &[u8], texts: &Texts) {
+    let Texts { source, sheet, reversed_source, reversed_sheet, created } = texts;
     let sizes = format!("{ENTRIES} entries, {} bytes of source, {} of sheet, seed {SEED}", source.len(), sheet.len());
     heading(&format!("Program K, {sizes}"), "Reference");
-    check(&table, "check");
-    get(&table, &source, &sheet, "get");
-    put(&table, &sheet, &source, &source, "put, unedited");
-    put(&table, &reversed_sheet, &source, &reversed_source, "put, reversed");
-    create(&table, &sheet, &created_of(&entries), "create");
+    check(table, "check");
+    get(table, source, sheet, "get");
+    put(table, sheet, source, source, "put, unedited");
+    put(table, reversed_sheet, source, reversed_source, "put, reversed");
+    put(table, sheet, b"", created, "put on nothing, all made");
+    create(table, sheet, created, "create");
+}
 
+fn checks() {
     heading("Check by positions", "Reference");
     for positions in [32, 64, 128] {
         check(&program_with_positions(positions), &format!("check, {positions} positions"));
@@ -70,11 +102,13 @@ fn bench() {
     for (name, table) in SLOW {
         check(table, &format!("check, {name}"));
     }
+}
 
+fn by_size(table: &[u8]) {
     heading("Get by length of the source, program K", "Reference");
     for bytes in [512, 1024, 2048, 4096] {
         let (source, sheet) = texts_of_length(bytes);
-        get(&table, &source, &sheet, &format!("get, {bytes} bytes"));
+        get(table, &source, &sheet, &format!("get, {bytes} bytes"));
     }
 
     heading("By positions, 2,048 bytes of source", "Reference");
@@ -86,22 +120,14 @@ fn bench() {
         put(&table, &sheet, &source, &source, &format!("put, {positions} positions"));
         create(&table, &sheet, &sheet, &format!("create, {positions} positions"));
     }
+}
 
-    slow();
-
-    match Augeas::start(&source, &reversed_source) {
-        Ok(mut augeas) => {
-            heading("Augeas, program K, the same source", "Augeas");
-            row("get", || engine_get(&table, &source, &sheet), || augeas.call(b'g'));
-            row("put, unedited", || engine_put(&table, &sheet, &source, &source), || augeas.call(b'p'));
-            row(
-                "put, reversed",
-                || engine_put(&table, &reversed_sheet, &source, &reversed_source),
-                || augeas.call(b'r'),
-            );
-        }
-        Err(reason) => println!("\nAugeas is skipped: {reason}"),
-    }
+fn beside_augeas(mut augeas: Augeas, table: &[u8], texts: &Texts) {
+    let Texts { source, sheet, reversed_source, reversed_sheet, .. } = texts;
+    heading("Augeas, program K, the same source", "Augeas");
+    row("get", || engine_get(table, source, sheet), || augeas.call(b'g'));
+    row("put, unedited", || engine_put(table, sheet, source, source), || augeas.call(b'p'));
+    row("put, reversed", || engine_put(table, reversed_sheet, source, reversed_source), || augeas.call(b'r'));
 }
 
 /// Times the slowest calls, and says which of those that write took long.
@@ -192,7 +218,7 @@ fn engine_get(table: &[u8], source: &[u8], expected: &[u8]) -> Duration {
 fn engine_put(table: &[u8], sheet: &[u8], source: &[u8], expected: &[u8]) -> Duration {
     let mut out = [0; MAX_TEXT];
     let (answer, time) = timed(|| noontrough::put(table, sheet, source, &mut out));
-    assert_gives(answer, &out, expected);
+    assert_gives(answer.into(), &out, expected);
     time
 }
 
@@ -229,7 +255,7 @@ fn put(table: &[u8], sheet: &[u8], source: &[u8], expected: &[u8], name: &str) {
     row(
         name,
         || engine_put(table, sheet, source, expected),
-        || reference(|out| Reference.put(table, sheet, source, out)),
+        || reference(|out| Reference.put(table, sheet, source, out).map(|put| put.length)),
     );
 }
 

@@ -7,14 +7,14 @@
 //! the two call by call.
 //!
 //! ```
-//! use noontrough::{get, put, Answer};
+//! use noontrough::{get, put, Answer, PutAnswer};
 //!
 //! // copy of any number of capitals
 //! let table = [3, 0, 0, 1, 4, 16, 65, 90, 0, 0, 0, 0, 1, 0, 0];
 //! let mut out = [0; 16];
 //! assert_eq!(get(&table, b"AV", &mut out), Answer::Result { length: 2 });
 //! assert_eq!(&out[..2], b"AV");
-//! assert_eq!(put(&table, b"av", b"AV", &mut out), Answer::Refusal { number: 14, node: 0 });
+//! assert_eq!(put(&table, b"av", b"AV", &mut out), PutAnswer::Refusal { number: 14, node: 0 });
 //! ```
 //!
 //! No call overflows a stack: where a thread has too little left, the call is made
@@ -23,8 +23,10 @@
 
 mod sentences;
 mod stack;
+mod tally;
 
 pub use sentences::sentence;
+pub use tally::Tally;
 
 /// The stack that any call of any program keeps to.
 ///
@@ -56,6 +58,37 @@ pub enum Answer {
     Refusal { number: u64, node: u64 },
 }
 
+/// What a put answers: as [`Answer`], and with a result the [`Tally`] of its
+/// entries. `Answer::from` leaves the tally away.
+#[derive(Clone, Copy, Debug, PartialEq, Eq)]
+pub enum PutAnswer {
+    /// The new source stands in the first `length` bytes of the buffer, and the
+    /// bytes behind it are as they were.
+    Result { length: usize, tally: Tally },
+    /// A refusal from 1 to 16 and the node it concerns (0 if it concerns none).
+    /// The buffer is as it was.
+    Refusal { number: u64, node: u64 },
+}
+
+impl PutAnswer {
+    /// The tally of a result. A refusal has none.
+    pub fn tally(self) -> Option<Tally> {
+        match self {
+            PutAnswer::Result { tally, .. } => Some(tally),
+            PutAnswer::Refusal { .. } => None,
+        }
+    }
+}
+
+impl From<PutAnswer> for Answer {
+    fn from(answer: PutAnswer) -> Answer {
+        match answer {
+            PutAnswer::Result { length, .. } => Answer::Result { length },
+            PutAnswer::Refusal { number, node } => Answer::Refusal { number, node },
+        }
+    }
+}
+
 /// The answer as the engine gives it.
 #[repr(C)]
 struct Numbers {
@@ -70,6 +103,28 @@ impl From<Numbers> for Answer {
             // A result fits the buffer that was lent, so its length is a usize.
             0 => Answer::Result { length: numbers.length as usize },
             number => Answer::Refusal { number, node: numbers.node },
+        }
+    }
+}
+
+/// The answer of a put as the engine gives it.
+#[repr(C)]
+struct PutNumbers {
+    number: u64,
+    node: u64,
+    length: u64,
+    kept: u64,
+    made: u64,
+    dropped: u64,
+}
+
+impl From<PutNumbers> for PutAnswer {
+    fn from(numbers: PutNumbers) -> PutAnswer {
+        // No count passes 524,288, so each is a usize.
+        let [kept, made, dropped] = [numbers.kept, numbers.made, numbers.dropped].map(|count| count as usize);
+        match numbers.number {
+            0 => PutAnswer::Result { length: numbers.length as usize, tally: Tally { kept, made, dropped } },
+            number => PutAnswer::Refusal { number, node: numbers.node },
         }
     }
 }
@@ -92,12 +147,27 @@ pub fn get(table: &[u8], source: &[u8], out: &mut [u8]) -> Answer {
     stack::with_room(READ_STACK_BYTES, || in_place::get(table, source, out))
 }
 
-/// Gives a source from an edited sheet and the old source.
+/// Gives a source from an edited sheet and the old source, and counts the
+/// entries that were kept, made and dropped.
+///
+/// ```
+/// use noontrough::{put, PutAnswer, Tally};
+///
+/// # fn main() -> std::io::Result<()> {
+/// let k = std::fs::read("../../examples/k/program.table")?;
+/// let mut out = [0; 16];
+/// let tally = Tally { kept: 1, made: 1, dropped: 1 }; // C, D and AB
+/// assert_eq!(put(&k, b"C;D;", b"AB1;C22;", &mut out), PutAnswer::Result { length: 7, tally });
+/// assert_eq!(&out[..7], b"C22;D0;");
+/// assert_eq!(tally.to_string(), "kept 1 made 1 dropped 1");
+/// # Ok(())
+/// # }
+/// ```
 ///
 /// # Panics
 ///
 /// If the thread has too little stack left and no other can be started.
-pub fn put(table: &[u8], sheet: &[u8], source: &[u8], out: &mut [u8]) -> Answer {
+pub fn put(table: &[u8], sheet: &[u8], source: &[u8], out: &mut [u8]) -> PutAnswer {
     stack::with_room(STACK_BYTES, || in_place::put(table, sheet, source, out))
 }
 
@@ -114,7 +184,7 @@ pub fn create(table: &[u8], sheet: &[u8], out: &mut [u8]) -> Answer {
 /// who know that there is room, and never want a thread to be started. A call
 /// that finds too little ends the process.
 pub mod in_place {
-    use crate::{Answer, Numbers};
+    use crate::{Answer, Numbers, PutAnswer, PutNumbers};
 
     #[rustfmt::skip]
     extern "C" {
@@ -131,7 +201,7 @@ pub mod in_place {
             sheet: *const u8, sheet_len: usize,
             source: *const u8, source_len: usize,
             out: *mut u8, out_len: usize,
-        ) -> Numbers;
+        ) -> PutNumbers;
 
         fn noontrough_create(
             table: *const u8, table_len: usize,
@@ -163,7 +233,7 @@ pub mod in_place {
     }
 
     #[rustfmt::skip]
-    pub fn put(table: &[u8], sheet: &[u8], source: &[u8], out: &mut [u8]) -> Answer {
+    pub fn put(table: &[u8], sheet: &[u8], source: &[u8], out: &mut [u8]) -> PutAnswer {
         // SAFETY: as said above.
         unsafe {
             noontrough_put(

@@ -20,7 +20,7 @@ const CLAUSE_PROGRAMS: usize = 300;
 /// How many accepted programs and how many calls of each kind there must be with
 /// [`PROGRAMS`] for each seed: about half of what there is. Longer comparisons
 /// must have more in proportion.
-const LEAST: [(Kind, usize, usize); 52] = [
+const LEAST: [(Kind, usize, usize); 62] = [
     (Kind::UnionsTwoDeep, 150, 1000),
     (Kind::UnionsThreeDeep, 100, 680),
     (Kind::UnionsOnTheLeft, 65, 440),
@@ -73,6 +73,16 @@ const LEAST: [(Kind, usize, usize); 52] = [
     (Kind::LongKeys, 20, 40),
     (Kind::LongKeysFound, 20, 30),
     (Kind::KeyAt4095To4097, 15, 25),
+    (Kind::EntryMade, 740, 1400),
+    (Kind::EntryDropped, 680, 1450),
+    (Kind::KeptMadeAndDropped, 325, 520),
+    (Kind::EmptyEntryKept, 145, 255),
+    (Kind::EmptyEntryMade, 110, 210),
+    (Kind::MadeOver255, 55, 75),
+    (Kind::MadeOver65535, 7, 7),
+    (Kind::EntriesOfSeveralChildren, 200, 420),
+    (Kind::EntriesByOtherArms, 30, 55),
+    (Kind::DroppedUnasked, 270, 325),
 ];
 
 fn programs() -> usize {
@@ -102,12 +112,12 @@ fn the_engine_answers_as_the_reference_does() {
     for thread in threads {
         let (seed, compared) = thread.join().expect("the comparison ends");
         let compared = compared.unwrap_or_else(|difference| panic!("seed {seed}: {difference:?}"));
-        let tally = compared.tally;
+        let counts = compared.counts;
         census.add(&compared.census);
-        println!("seed {seed}: {} calls, all alike\n{tally}", tally.total());
-        total += tally.total();
+        println!("seed {seed}: {} calls, all alike\n{counts}", counts.total());
+        total += counts.total();
         for (number, count) in numbers.iter_mut().enumerate() {
-            *count += tally.of_number(number as u8);
+            *count += counts.of_number(number as u8);
         }
     }
     println!("{total} calls in all, {} with a result", numbers[0]);

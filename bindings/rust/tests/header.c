@@ -18,11 +18,28 @@ static uint8_t const *bytes(char const *text)
     return (uint8_t const *)text;
 }
 
-/* The three numbers, and the whole buffer between brackets. */
+/* The answer's numbers, and the whole buffer between brackets. */
 static void show(char const *name, struct noontrough_answer answer, uint8_t const *out, size_t length)
 {
     printf("%s %llu %llu %llu [%.*s]\n", name, (unsigned long long)answer.number, (unsigned long long)answer.node,
            (unsigned long long)answer.length, (int)length, (char const *)out);
+}
+
+static void show_put(struct noontrough_put_answer answer, uint8_t const *out, size_t length)
+{
+    printf("put %llu %llu %llu kept %llu made %llu dropped %llu [%.*s]\n", (unsigned long long)answer.number,
+           (unsigned long long)answer.node, (unsigned long long)answer.length, (unsigned long long)answer.kept,
+           (unsigned long long)answer.made, (unsigned long long)answer.dropped, (int)length, (char const *)out);
+}
+
+/* A put with this table and these texts, into so many bytes of a buffer of ten. */
+static void put(uint8_t const *table, size_t table_len, char const *sheet, char const *source, size_t lent)
+{
+    uint8_t out[10];
+
+    memset(out, '-', sizeof out);
+    show_put(noontrough_put(table, table_len, bytes(sheet), strlen(sheet), bytes(source), strlen(source), out, lent),
+             out, sizeof out);
 }
 
 int main(void)
@@ -35,10 +52,14 @@ int main(void)
     show("get", noontrough_get(K, sizeof K, bytes("AB1;C22;"), 8, out, sizeof out), out, sizeof out);
     memset(out, '-', sizeof out);
     show("get", noontrough_get(K, sizeof K, bytes("[;"), 2, out, sizeof out), out, sizeof out);
-    memset(out, '-', sizeof out);
-    show("put", noontrough_put(K, sizeof K, bytes("C;AB;"), 5, bytes("AB1;C22;"), 8, out, sizeof out), out, sizeof out);
-    memset(out, '-', sizeof out);
-    show("put", noontrough_put(K, sizeof K, bytes("C;AB;"), 5, bytes("AB1;C22;"), 8, out, 7), out, sizeof out);
+    put(K, sizeof K, "C;AB;", "AB1;C22;", 10);
+    put(K, sizeof K, "C;D;", "AB1;C22;", 10);
+    put(K, sizeof K, "A;A;A;", "A1;", 10);
+    put(K, sizeof K, "", "AB1;C22;", 0);
+    put(K, sizeof K, "C;AB;", "AB1;C22;", 7);
+    put(K, sizeof K, "AB1;", "AB1;C22;", 10);
+    put(K, sizeof K, "AB;", "[;", 10);
+    put(K, 2, "AB;", "AB1;", 10);
     memset(out, '-', sizeof out);
     show("create", noontrough_create(K, sizeof K, bytes("AB;"), 3, out, sizeof out), out, sizeof out);
     memset(out, '-', sizeof out);

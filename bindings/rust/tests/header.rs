@@ -1,17 +1,23 @@
-//! `include/noontrough.h` from C: a program that includes it makes each call, and the answers are those of document 01. It is compiled as C and
+//! `include/noontrough.h` from C: a program that includes it makes each call, and the answers are those of documents 01 and 02. It is compiled as C and
 //! as C++; where there is no compiler, the test fails and says so.
 
 use std::path::{Path, PathBuf};
 use std::process::Command;
 
-/// Number, node and length of each call, and its whole buffer of ten bytes afterwards.
+/// Number, node and length of each call, a put's counts, and its whole buffer of ten bytes afterwards.
 const ANSWERS: &str = "\
 check 0 0 15 []
 check 1 0 0 []
 get 0 0 5 [AB;C;-----]
 get 13 0 0 [----------]
-put 0 0 8 [C22;AB1;--]
-put 16 0 0 [----------]
+put 0 0 8 kept 2 made 0 dropped 0 [C22;AB1;--]
+put 0 0 7 kept 1 made 1 dropped 1 [C22;D0;---]
+put 0 0 9 kept 1 made 2 dropped 0 [A1;A0;A0;-]
+put 0 0 0 kept 0 made 0 dropped 2 [----------]
+put 16 0 0 kept 0 made 0 dropped 0 [----------]
+put 14 0 0 kept 0 made 0 dropped 0 [----------]
+put 13 0 0 kept 0 made 0 dropped 0 [----------]
+put 1 0 0 kept 0 made 0 dropped 0 [----------]
 create 0 0 4 [AB0;------]
 create 14 0 0 [----------]
 ";

@@ -8,7 +8,7 @@ mod stack;
 
 use std::cell::Cell;
 
-use noontrough::{put, Answer, MAX_TEXT};
+use noontrough::{put, PutAnswer, MAX_TEXT};
 
 const SIZE: usize = 1 << 20;
 
@@ -28,5 +28,5 @@ fn calls_find_room_beside_them() {
     });
     let (answer, sum) = made.expect("a thread can be started").join().expect("the call comes back");
     assert_eq!(sum, 1);
-    assert!(matches!(answer, Answer::Result { .. }), "{answer:?}");
+    assert!(matches!(answer, PutAnswer::Result { .. }), "{answer:?}");
 }

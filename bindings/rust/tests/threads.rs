@@ -19,7 +19,7 @@ fn make_all(case: &Case) {
     let answers = [
         check(&case.table),
         get(&case.table, &case.source, &mut out),
-        put(&case.table, &case.sheet, &case.old, &mut out),
+        put(&case.table, &case.sheet, &case.old, &mut out).into(),
         create(&case.table, &case.sheet, &mut out),
     ];
     for answer in answers {

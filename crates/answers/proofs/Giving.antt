@@ -144,7 +144,8 @@ counted {text} {before} {after} w =
 -- a text that had no room is refused
 pub finish-full : {result before : Text} {wrote : Wrote} → wrote ≡ Full → Finishes wrote result before before (Refusal 16 0)
 unfolding output
-finish-full {result} {before} {wrote} e = record { finishes = go }
+finish-full {result} {before} {wrote} e =
+    record { finishes = go; told = λ n is. absurd (let z : _≡_ {A = ℕ} 0 1 = cc in omega arith) }
   where
     go :
         (text start : Text)
@@ -170,7 +171,8 @@ pub finish-count :
     → Writes (take (n - 0) result) before after copied
     → Finishes wrote result before after (Result n)
 unfolding output
-finish-count {result} {before} {after} {wrote} {copied} {n} e copy = record { finishes = go }
+finish-count {result} {before} {after} {wrote} {copied} {n} e copy =
+    record { finishes = go; told = λ m is. let same : n ≡ m = cc in e ∙ ap Count same }
   where
     go :
         (text start : Text)

@@ -16,19 +16,21 @@ use Rattle.lens.specs.declared.Wrote.the-variants.{Count}
 use Rattle.lens.specs.Overlay.{Writes}
 use Rattle.lens.specs.Parsed.{Parsed}
 use Rattle.answers.specs.declared.Answer.{Answer}
+use Rattle.answers.specs.declared.Answer.the-variants.{Result}
 use Rattle.answers.specs.Contracts.{GivesText}
 
 -- The bytes that were counted are in the slice.
 pub record Counted (wrote : Wrote) (result : Text) : Type 0 where
   pub within : (n : ℕ) → wrote ≡ Count n → n ≤ length result
 
--- Whatever text was written into the slice, a slice as long as a result may be, it is given or refused as document 01 says.
+-- Whatever text was written into the slice, a slice as long as a result may be, it is given or refused as document 01 says; a result is what was counted.
 pub record Finishes (wrote : Wrote) (result before after : Text) (answer : Answer) : Type 0 where
   pub finishes :
       (text start : Text)
       → length result ≡ min (length before) maxText
       → Writes text start result wrote
       → GivesText (output (length before) text) before after answer
+  pub told : (n : ℕ) → answer ≡ Result n → wrote ≡ Count n
 
 -- It tells whether the text belongs to the root's language on that side; if so, the path is its least.
 pub record RootPath (bytes : Text) (side : Side) (text : Text) (path : List ℕ) (answer : Bool) : Type 0 where

@@ -1,30 +1,38 @@
 -- The book that a call begins with, and the source that is written with it.
 use mathlib.Core.Path.{_≡_, refl, sym, ap, subst, _∙_}
-use mathlib.Core.Bool.{Bool, true, false, _||_}
-use mathlib.Core.List.{List, []}
+use mathlib.Core.Bool.{Bool, true, false, _||_, cond}
+use mathlib.Core.List.{List, [], _∷_}
 use mathlib.Core.Option.{some}
-use Prim.Native.Nat.{ℕ, _-_, _≤_, _<_}
+use Prim.Native.Nat.{ℕ, zero, suc, _+_, _-_, _%_, _^_, _≤_, _<_}
+use native.Mathlib.Nat.{zero-add, add-zero, not-suc-le-zero, mod-eq-of-lt}
 use native.Mathlib.Omega.{arith}
 use lib.Dec.{ltb}
-use lib.ListN.{length}
+use lib.ListN.{length, getD, take}
 use lib.Seq.{take-length}
 use borrow.Author.Tests.{lt-ltb, le-ltb}
 use Rattle.semantics.specs.Text.{Text}
-use Rattle.semantics.specs.Lens.{Lens, source, sheet, entries, andThen, put}
-use Rattle.semantics.specs.Table.{nodeCount, treeAt, trees}
+use Rattle.semantics.specs.Lens.{Lens, source, sheet, entries, andThen, write, put}
+use Rattle.semantics.specs.Lens.{Book as Entries}
+use Rattle.semantics.specs.Table.{Trees, nodeCount, treeAt, trees}
 use Rattle.semantics.specs.Calls.{gives, program, maxText, maxEntries, tooLong}
+use Rattle.semantics.specs.Calls.{Answer as Outcome}
+use Rattle.semantics.specs.Tally.{met, tallied, tally, putTally}
+use Rattle.semantics.specs.Tally.{Tally as Counts}
+use Rattle.laws.specs.Met.{writes-left, kept-dropped, kept-made, dropped-left}
+use Rattle.laws.specs.Accepted.{accepted}
+use Rattle.laws.specs.Tally.{met-few, tally-is}
 use Rattle.automaton.specs.declared.Side.{Side}
 use Rattle.automaton.specs.Rows.{sideOf}
 use Rattle.lens.specs.declared.Mode.{Mode}
 use Rattle.lens.specs.declared.Wrote.{Wrote}
-use Rattle.lens.specs.declared.Wrote.the-variants.{Count}
+use Rattle.lens.specs.declared.Wrote.the-variants.{Count, Full}
 use Rattle.lens.specs.Overlay.{writes-nothing}
 use Rattle.lens.specs.Parsed.{parsed-length}
 use Rattle.lens.specs.Reading.{reading}
 use Rattle.lens.specs.Emitting.{Emits}
 use Rattle.books.specs.declared.Book.{Book}
-use Rattle.books.specs.Listed.{Sized, unused, unused-none, fits-none, in-order-none, in-order-more}
-use Rattle.books.specs.Looking.{Dealt, EntriesParsed, OldParsed, partAt, over-more, unused-dealt, entries-parsed-deck, same-all}
+use Rattle.books.specs.Listed.{Sized, entryAt, unusedFrom, unused, unused-none, fits-none, in-order-none, in-order-more}
+use Rattle.books.specs.Looking.{BookOver, Dealt, EntriesParsed, OldParsed, partAt, over-more, unused-dealt, entries-parsed-deck, same-all}
 use Rattle.decks.specs.Below.{BelowIs}
 use Rattle.decks.specs.declared.deck.Dealing.{Dealing}
 use Rattle.decks.specs.Dealing.{PathRoom, DealtTo, DealtOn}
@@ -32,16 +40,81 @@ use Rattle.listing.specs.declared.Listing.{Listing}
 use Rattle.listing.specs.Listing.{treeEntries, entries-of, ToList, StandsIn, Untaken, Lists, PutBehind}
 use Rattle.bookless.specs.Bookless.{Given}
 use Rattle.writer.specs.declared.Done.{Done as Did}
-use Rattle.writer.specs.Writing.{WritesBehind, Fitted, Progress}
+use Rattle.writer.specs.Writing.{WritesBehind, Fitted, wrapped, Progress}
 use Rattle.writer.specs.Writing.{Ready as ToWrite}
-use Rattle.answers.specs.Answers.{Ready}
+use Rattle.answers.specs.declared.Answer.{Answer}
+use Rattle.answers.specs.declared.Answer.the-variants.{Result, Refusal}
+use Rattle.answers.specs.declared.Tally.{Tally}
+use Rattle.answers.specs.declared.Reply.{Reply}
+use Rattle.answers.specs.Answers.{IsAccepted, Ready}
+use Rattle.answers.specs.Contracts.{answerFor, GivesText, RepliesSource}
 use Rattle.answers.specs.Results.{RootPath, Makes}
+use Rattle.calls.specs.declared.tally.Made.{Made}
 use Rattle.calls.specs.declared.put.Desk.{Desk}
 use Rattle.calls.specs.declared.put.Desk.the-variants.{Small, Large}
 use Rattle.calls.specs.declared.put.Reach.{Reach}
 use Rattle.calls.specs.declared.put.Reach.the-variants.{Short, Long}
-use Rattle.calls.specs.Sources.{TextReady, BookReady, ListsSource, wholeOf, DeskReady}
+use Rattle.calls.specs.Sources.{TextReady, BookReady, ListsSource, SameCounts, MakesSource, unusedOf, CountsFit, TalliesFrom, wholeOf, DeskReady}
 use Rattle.answers.proofs.Giving.{root-at, root-node, too-long, not-too-long}
+
+-- ---- Counts
+
+-- a count is not that the buffer was too short
+not-full : {wrote : Wrote} {n : ℕ} → wrote ≡ Count n → ¬ (wrote ≡ Full)
+not-full p q = let z : _≡_ {A = ℕ} 0 1 = cc in omega arith
+
+-- a small number is itself modulo 2^64
+wrapped-same : {m : ℕ} {k : ℕ} → m < 2 ^ 64 → k ≤ 2097152 → wrapped m ≡ wrapped (0 + k) → m ≡ k
+unfolding wrapped
+wrapped-same {m} {k} small few e =
+    let k-small : k < 2 ^ 64 = omega (arith, few) in
+    sym (mod-eq-of-lt small) ∙ e ∙ ap (λ x. x % 2 ^ 64) (zero-add k) ∙ mod-eq-of-lt k-small
+
+-- one mark more
+pub unused-next : (us : List Bool) (i : ℕ) → i < length us → unusedOf (take (suc i) us) ≡ unusedOf (take i us) + cond (getD us i false) 0 1
+unfolding unusedOf
+unused-next [] i h = absurd (not-suc-le-zero h)
+unused-next (u ∷ us) zero h = omega arith
+unused-next (u ∷ us) (suc i) h = let later = unused-next us i (omega arith) in omega (arith, later)
+
+-- an entry counts for one at most
+pub one-at-most : (u : Bool) → cond u 0 1 ≤ 1
+one-at-most true = omega arith
+one-at-most false = omega arith
+
+-- the entries from a place on that were not taken are as many as the marks say
+unused-from :
+    (ts : Trees) (old : Text) (b : Book) (i n : ℕ)
+    → i + n ≤ length (b .used)
+    → length (unusedFrom ts old b i n) + unusedOf (take i (b .used)) ≡ unusedOf (take (i + n) (b .used))
+unfolding unusedFrom
+unused-from ts old b i zero h = rw (add-zero i) (zero-add (unusedOf (take i (b .used))))
+unused-from ts old b i (suc n) h = go (getD (b .used) i false) refl (unused-from ts old b (suc i) n (omega arith))
+  where
+    rest : Entries
+    rest = unusedFrom ts old b (suc i) n
+
+    place : i + suc n ≡ suc i + n
+    place = omega arith
+
+    go :
+        (u : Bool)
+        → getD (b .used) i false ≡ u
+        → length rest + unusedOf (take (suc i) (b .used)) ≡ unusedOf (take (suc i + n) (b .used))
+        → length (cond u rest (entryAt ts old b i ∷ rest)) + unusedOf (take i (b .used)) ≡ unusedOf (take (i + suc n) (b .used))
+    go true e later =
+        let next : unusedOf (take (suc i) (b .used)) ≡ unusedOf (take i (b .used)) + 0 = rw e at (unused-next (b .used) i (omega arith)) in
+        rw place (omega (arith, later, next))
+    go false e later =
+        let next : unusedOf (take (suc i) (b .used)) ≡ unusedOf (take i (b .used)) + 1 = rw e at (unused-next (b .used) i (omega arith)) in
+        rw place (omega (arith, later, next))
+
+-- so are those of the book
+unused-counted : (ts : Trees) (old : Text) (b : Book) → BookOver 4096 b → length (unused ts old b) ≡ unusedOf (take (b .count) (b .used))
+unfolding unused unusedOf
+unused-counted ts old b over =
+    let from = unused-from ts old b 0 (b .count) (omega (arith, over .fits .few, over .sized .used-sized)) in
+    sym (add-zero (length (unusedFrom ts old b 0 (b .count)))) ∙ from ∙ ap (λ n. unusedOf (take n (b .used))) (zero-add (b .count))
 
 -- ---- The empty book
 
@@ -117,6 +190,7 @@ module _ {bytes : Text} {prepared : List ℕ} (ready : Ready bytes prepared) {ro
             entries-parsed = lists .lists-parsed old trail (stands-whole old) (stands-whole trail) (parsed-none empty bytes old trail) within;
             old-ready = known;
             listed = listed within;
+            counted = all .untaken within .counted;
           }
 
   -- ---- What the root writes
@@ -161,26 +235,133 @@ module _ {bytes : Text} {prepared : List ℕ} (ready : Ready bytes prepared) {ro
         }
 
     -- what is then written, from nothing on, is what the root puts
-    pub put-made :
+    put-progress :
         (new : Text) {before after : Text} {r : Did}
-        → WritesBehind bytes root deck (some (partAt deck (wholeOf (length old)))) new (record { wrote = Count 0; book = b }) before after r
-        → Makes bytes (λ l. put l new old) before after (r .wrote)
-    unfolding put andThen
-    put-made new {before} {after} {r} behind =
+        → WritesBehind bytes root deck (some (partAt deck (wholeOf (length old)))) new (record { wrote = Count 0; book = b; met = 0 }) before after r
+        → (l : Lens)
+        → program bytes ≡ gives l
+        → Progress
+        bytes
+        deck
+        (andThen (record { text = []; book = entries l old }) (write l (some old) new))
+        (0 + length (met l (some old) new))
+        b
+        before
+        after
+        r
+    put-progress new {before} behind l e =
+        let same = unused-dealt (trees bytes) old deck (book .over) (dealt .source-is) ∙ book .listed l e in
+        let start : Progress bytes deck (record { text = []; book = unused (trees bytes) deck b }) 0 b before before (record { wrote = Count 0; book = b; met = 0 }) =
         record {
-          makes = λ l e.
-              let same = unused-dealt (trees bytes) old deck (book .over) (dealt .source-is) ∙ book .listed l e in
-              let start : Progress bytes deck (record { text = []; book = unused (trees bytes) deck b }) b before before (record { wrote = Count 0; book = b }) =
-              record {
-                bytes-are = writes-nothing before;
-                book-is = λ counted. refl;
-                over = over-more (book .old-ready .short) (book .over);
-                same-entries = same-all b;
-              } in
-              let all =
-              behind .writes l (root-at ready root-is l e) .progress (record { text = []; book = unused (trees bytes) deck b }) b before start in
-              rw (dealt .source-is, same) at (all .bytes-are);
+          bytes-are = writes-nothing before;
+          met-is = refl;
+          book-is = λ counted. refl;
+          over = over-more (book .old-ready .short) (book .over);
+          same-entries = same-all b;
+        } in
+        rw
+        (dealt .source-is, same)
+        at (behind .writes l (root-at ready root-is l e) .progress (record { text = []; book = unused (trees bytes) deck b }) 0 b before start)
+
+    -- the book that is left has its arrays
+    pub put-over :
+        (new : Text) {before after : Text} {r : Did}
+        → WritesBehind bytes root deck (some (partAt deck (wholeOf (length old)))) new (record { wrote = Count 0; book = b; met = 0 }) before after r
+        → BookOver 4096 (r .book)
+    put-over new behind = put-progress new behind (ready .accepted .root) (ready .accepted .gives-root) .over
+
+    pub put-made :
+        (new : Text) {before after : Text} {r : Did} (dropped : ℕ)
+        → length new ≤ maxText
+        → r .met < 2 ^ 64
+        → dropped ≡ unusedOf (take (r .book .count) (r .book .used))
+        → WritesBehind bytes root deck (some (partAt deck (wholeOf (length old)))) new (record { wrote = Count 0; book = b; met = 0 }) before after r
+        → MakesSource bytes new old before after (record { wrote = r .wrote; met = r .met; dropped = dropped })
+    unfolding put andThen tally
+    put-made new {r = r} dropped short small dropped-is behind =
+        record {
+          makes = record { makes = λ l e. put-progress new behind l e .bytes-are };
+          counts = λ l e room.
+              let p = put-progress new behind l e in
+              let few = met-few bytes l e (some old) new short in
+              let typed = accepted bytes l e .0 in
+              let ms = met l (some old) new in
+              let left : length (unused (trees bytes) deck (r .book)) ≡ (tallied ms (entries l old)) .dropped =
+              ap length (p .book-is room ∙ writes-left l typed (some old) new (entries l old)) ∙ sym (dropped-left ms (entries l old)) in
+              (wrapped-same small few (p .met-is), dropped-is ∙ sym (unused-counted (trees bytes) deck (r .book) (p .over)) ∙ left);
         }
+
+-- ---- What is counted
+
+module _ {bytes new old trail before after : Text} {r : Made} {b : Book} (book : BookReady bytes old trail b) (made : MakesSource bytes new old before after r) where
+  -- the counts of the definitions, where there was room
+  counts-are :
+      (l : Lens)
+      → program bytes ≡ gives l
+      → (n : ℕ)
+      → r .wrote ≡ Count n
+      → let t = tally l new old in
+      (t .dropped ≡ r .dropped) × (t .kept + r .dropped ≡ b .count) × (t .kept + t .made ≡ r .met)
+  unfolding tally
+  counts-are l e n counted =
+      let (met-is, dropped-is) = made .counts l e (not-full counted) in
+      let ms = met l (some old) new in
+      let all : length (entries l old) ≡ b .count = ap length (sym (book .listed l e)) ∙ book .counted in
+      let olds = kept-dropped ms (entries l old) in
+      let news = kept-made ms (entries l old) in
+      (sym dropped-is, omega (arith, olds, all, dropped-is), news ∙ sym met-is)
+
+  -- so the tally can be taken from them
+  pub counts-fit : (a : IsAccepted bytes) → CountsFit r (b .count)
+  counts-fit a =
+      record {
+        fit = λ n counted.
+            let (dropped-is, olds, news) = counts-are (a .root) (a .gives-root) n counted in
+            (omega (arith, olds), omega (arith, olds, news));
+      }
+
+  -- and is that of the definitions
+  pub tally-same :
+      {taken : Tally}
+      → TalliesFrom r (b .count) taken
+      → (l : Lens)
+      → program bytes ≡ gives l
+      → (n : ℕ)
+      → r .wrote ≡ Count n
+      → SameCounts taken (tally l new old)
+  tally-same from l e n counted =
+      let (dropped-is, olds, news) = counts-are l e n counted in
+      let (kept, met-all, dropped) = from .counts n counted in
+      (omega (arith, kept, olds), omega (arith, kept, olds, met-all, news), dropped ∙ sym dropped-is)
+
+-- ---- What is replied
+
+-- a refusal is no result
+pub no-result : {A : Type 0} {answer : Answer} {number node n : ℕ} → answer ≡ Refusal number node → answer ≡ Result n → A
+no-result e f = absurd (let z : _≡_ {A = ℕ} 0 1 = cc in omega arith)
+
+-- so it needs no counts
+pub refused-replies :
+    {outcome : Outcome Text} {n : Counts} {before after : Text} {reply : Reply} {number node : ℕ}
+    → reply .answer ≡ Refusal number node
+    → GivesText outcome before after (reply .answer)
+    → RepliesSource outcome n before after reply
+unfolding answerFor
+refused-replies e given = record { counts = λ t f. no-result e (given .answer-is ∙ ap (answerFor length) f); gives = given }
+
+-- and the counts of a result are those of the program's root
+pub put-replies :
+    {bytes : Text} (new old : Text) {before after : Text} {reply : Reply} {outcome : Outcome Text}
+    → IsAccepted bytes
+    → ((l : Lens) → program bytes ≡ gives l → (n : ℕ) → reply .answer ≡ Result n → SameCounts (reply .tally) (tally l new old))
+    → GivesText outcome before after (reply .answer)
+    → RepliesSource outcome (putTally bytes new old) before after reply
+unfolding answerFor
+put-replies {bytes} new old a tallies given =
+    record {
+      counts = λ t f. rw (tally-is bytes new old (a .root) (a .gives-root)) (tallies (a .root) (a .gives-root) (length t) (given .answer-is ∙ ap (answerFor length) f));
+      gives = given;
+    }
 
 -- nothing was written so far
 pub none-written : (out : Text) → Fitted (Count 0) out

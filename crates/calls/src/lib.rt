@@ -4,3 +4,4 @@ pub mod get;
 pub mod line;
 pub mod put;
 mod reading;
+mod tally;

@@ -1,9 +1,10 @@
 // What Put does with an accepted and prepared program: a source from a sheet and an old source.
+use crate::tally::Made;
+use crate::tally::tally_of;
+use crate::tally::unused_in;
 use answers::Reply;
-use answers::Tally;
 use answers::results::finish;
 use answers::results::no_marks;
-use answers::results::no_tally;
 use answers::results::no_text;
 use answers::results::refuse;
 use answers::results::room_in;
@@ -28,16 +29,17 @@ use writer::write::put;
 ghost use mathlib.Core.Path.{_≡_};
 ghost use Prim.Native.Nat.{_≤_, _<_};
 ghost use lib.ListN.{length};
-ghost use Rattle.semantics.specs.Lens.{put, source, sheet};
+ghost use Rattle.semantics.specs.Lens.{source, sheet};
 ghost use Rattle.semantics.specs.Calls.{putCall};
+ghost use Rattle.semantics.specs.Tally.{putTally};
 ghost use Rattle.answers.specs.Answers.{Ready};
-ghost use Rattle.answers.specs.Contracts.{GivesText};
-ghost use Rattle.answers.specs.Results.{Makes};
+ghost use Rattle.answers.specs.declared.Answer.the-variants.{Refusal};
+ghost use Rattle.answers.specs.Contracts.{RepliesSource};
 ghost use Rattle.decks.specs.Below.{BelowIs};
 ghost use Rattle.books.specs.Looking.{Dealt};
 ghost use Rattle.decks.specs.Dealing.{DealtTo, DealtOn};
 ghost use Rattle.calls.specs.declared.put.Desk.the-variants.{Small};
-ghost use Rattle.calls.specs.Sources.{TextReady, BookReady, ListsSource, PutsInto, wholeOf, DeskReady};
+ghost use Rattle.calls.specs.Sources.{TextReady, BookReady, ListsSource, MakesSource, PutsInto, wholeOf, DeskReady};
 
 // The entries of an old source, in a book of their own.
 fn entries_of(bytes: &[u8], prepared: &[u64], text: &[u8], path: &[u8]) -> Listing
@@ -59,7 +61,7 @@ pub fn put_with(
     out: &mut [u8],
 ) -> Reply
     requires { ⌜ Ready (now bytes) (now prepared) ⌝ }
-    ensures { λ r. ⌜ GivesText (putCall (now (bytes .entry)) (now (sheet .entry)) (now (source .entry)) (length (now (out .entry)))) (now (out .entry)) (now (out .exit)) r ⌝ }
+    ensures { λ r. ⌜ RepliesSource (putCall (now (bytes .entry)) (now (sheet .entry)) (now (source .entry)) (length (now (out .entry)))) (putTally (now (bytes .entry)) (now (sheet .entry)) (now (source .entry))) (now (out .entry)) (now (out .exit)) r ⌝ }
 {
     if Table::TEXT < sheet.len() {
         return refuse_put(12);
@@ -106,18 +108,9 @@ fn put_parsed(
     let made = &mut result[0..room];
     let source = write_source(bytes, prepared, new, path, old, trail, book, made);
     let wrote = source.wrote;
+    let tally = tally_of(source, book.count);
     let answer = finish(wrote, made, out);
-    Reply {
-        answer,
-        tally: tally_of(source, book.count),
-    }
-}
-
-// What was written of a source, the matches that were met, and how many entries of the book are left.
-pub struct Made {
-    pub wrote: Wrote,
-    pub met: usize,
-    pub dropped: usize,
+    Reply { answer, tally }
 }
 
 // A refusal has no counts.
@@ -125,43 +118,6 @@ fn refuse_put(number: usize) -> Reply
     ensures { λ r. ⌜ r .answer ≡ Refusal number 0 ⌝ }
 {
     uncounted(refuse(number))
-}
-
-// How many entries were not taken, by their marks.
-fn unused_in(used: &[bool]) -> usize
-    ensures { λ r. ⌜ r ≡ unusedOf (now (used .entry)) ⌝ }
-{
-    let mut i = 0;
-    let mut n = 0;
-    while i < used.len() {
-        n += one_if_unused(used[i]);
-        i += 1;
-    }
-    n
-}
-
-fn one_if_unused(used: bool) -> usize
-    ensures { λ r. ⌜ r ≡ cond used 0 1 ⌝ }
-{
-    if used {
-        return 0;
-    }
-    1
-}
-
-// The tally of a source that was written, from the number of old entries. One that did not fit has none.
-fn tally_of(source: Made, entries: usize) -> Tally
-{
-    let wrote = source.wrote;
-    if let Wrote::Full = wrote {
-        return no_tally();
-    }
-    let kept = entries - source.dropped;
-    Tally {
-        kept,
-        made: source.met - kept,
-        dropped: source.dropped,
-    }
 }
 
 // The desks that a put is written from: one with a small deck, and one with a deck for the cards of any keys, which goes on from what the small one has.
@@ -357,7 +313,7 @@ fn write_from(
     requires { ⌜ TextReady (now bytes) sheet (now new) (now path) ⌝ }
     requires { ⌜ BookReady (now bytes) (now old) (now trail) book ⌝ }
     requires { ⌜ Dealt (now bytes) (now old) (now trail) book (now deck) × (9216 ≤ length (now deck)) ⌝ }
-    ensures { λ r. ⌜ Makes (now (bytes .entry)) (λ l. put l (now (new .entry)) (now (old .entry))) (now (out .entry)) (now (out .exit)) r ⌝ }
+    ensures { λ r. ⌜ MakesSource (now (bytes .entry)) (now (new .entry)) (now (old .entry)) (now (out .entry)) (now (out .exit)) r ⌝ }
 {
     let node = root_of(bytes);
     let spot = Spot { node, base: 0 };
@@ -385,10 +341,11 @@ fn write_from(
     let wrote = done.wrote;
     let rest = done.book;
     let n = rest.count;
+    let dropped = unused_in(&rest.used, n);
     Made {
         wrote,
         met: done.met,
-        dropped: unused_in(&rest.used[0..n]),
+        dropped,
     }
 }
 
@@ -410,7 +367,7 @@ fn write_large(
     requires { ⌜ TextReady (now bytes) sheet (now new) (now path) ⌝ }
     requires { ⌜ BookReady (now bytes) (now old) (now trail) book ⌝ }
     requires { ⌜ DealtTo (now bytes) (now old) (now trail) book (now cards) dealt × (length (now cards) ≤ 18432) ⌝ }
-    ensures { λ r. ⌜ Makes (now (bytes .entry)) (λ l. put l (now (new .entry)) (now (old .entry))) (now (out .entry)) (now (out .exit)) r ⌝ }
+    ensures { λ r. ⌜ MakesSource (now (bytes .entry)) (now (new .entry)) (now (old .entry)) (now (out .entry)) (now (out .exit)) r ⌝ }
 {
     let mut deck = large_deck();
     move_deck(cards, dealt, &mut deck);
@@ -462,7 +419,7 @@ fn write_small(
     requires { ⌜ Ready (now bytes) (now prepared) × BelowIs (now bytes) (now below) ⌝ }
     requires { ⌜ TextReady (now bytes) sheet (now new) (now path) ⌝ }
     requires { ⌜ BookReady (now bytes) (now old) (now trail) book ⌝ }
-    ensures { λ r. ⌜ Makes (now (bytes .entry)) (λ l. put l (now (new .entry)) (now (old .entry))) (now (out .entry)) (now (out .exit)) r ⌝ }
+    ensures { λ r. ⌜ MakesSource (now (bytes .entry)) (now (new .entry)) (now (old .entry)) (now (out .entry)) (now (out .exit)) r ⌝ }
 {
     let mut deck = small_deck();
     let begun = begin_deck(old, trail, &mut deck);
@@ -515,7 +472,7 @@ fn write_at(
     requires { ⌜ TextReady (now bytes) sheet (now new) (now path) ⌝ }
     requires { ⌜ BookReady (now bytes) (now old) (now trail) book ⌝ }
     requires { ⌜ DeskReady desk (now bytes) (now old) (now trail) book (now cards) ⌝ }
-    ensures { λ r. ⌜ Makes (now (bytes .entry)) (λ l. put l (now (new .entry)) (now (old .entry))) (now (out .entry)) (now (out .exit)) r ⌝ }
+    ensures { λ r. ⌜ MakesSource (now (bytes .entry)) (now (new .entry)) (now (old .entry)) (now (out .entry)) (now (out .exit)) r ⌝ }
 {
     match desk {
         Desk::Small => { write_small(bytes, prepared, new, path, old, trail, below, book, out) }
@@ -563,7 +520,7 @@ fn write_source(
     requires { ⌜ Ready (now bytes) (now prepared) ⌝ }
     requires { ⌜ TextReady (now bytes) sheet (now new) (now path) ⌝ }
     requires { ⌜ BookReady (now bytes) (now old) (now trail) book ⌝ }
-    ensures { λ r. ⌜ Makes (now (bytes .entry)) (λ l. put l (now (new .entry)) (now (old .entry))) (now (out .entry)) (now (out .exit)) r ⌝ }
+    ensures { λ r. ⌜ MakesSource (now (bytes .entry)) (now (new .entry)) (now (old .entry)) (now (out .entry)) (now (out .exit)) r ⌝ }
 {
     let mut below = no_below();
     let nodes = root_of(bytes) + 1;

@@ -26,20 +26,26 @@ use Rattle.positions.specs.Positions.{Empty, Joined}
 use Rattle.lens.specs.SourceKeys.{hasUnion}
 use Rattle.lens.specs.Nodes.{sizes-are, same-lens, shown-join, shown-union, shown-repeat, shown-match}
 use Rattle.decks.specs.declared.below.Standing.{Standing}
-use Rattle.decks.specs.Below.{unionAt, standingAt, stored, NodeBelow, OverTwo, OverChild, Stands, NodeStands, BelowTo, BelowIs}
+use Rattle.decks.specs.Below.{unionAt, countAt, standingAt, stored, Even, NodeBelow, countOver, OverTwo, OverChild, OverParts, Stands, NodeStands, BelowTo, BelowIs}
+use Rattle.decks.specs.Counts.{even-copy, even-const, even-key, even-join, even-union, even-repeat, even-match}
 
 -- ---- What stands at two nodes
 
 pub over-two :
-    {below : List ℕ} {left right : ℕ} {one e e′ : Bool} {a b : Standing} {s : Set}
+    {below : List ℕ} {left right n : ℕ} {one e e′ : Bool} {a b : Standing} {s : Set}
     → a ≡ standingAt below left
     → b ≡ standingAt below right
     → Joined (a .asked) (b .asked) s
     → e ≡ (a .union || b .union)
     → e′ ≡ (one || e)
-    → OverTwo below left right one (record { asked = s; union = e′ })
-over-two a-is b-is joined inner outer =
-    record { asked-is = λ q. rw (a-is, b-is) at (joined q); union-is = outer ∙ rw (inner, a-is, b-is) }
+    → n ≡ countOver one (a .count) (b .count)
+    → OverTwo below left right one (record { asked = s; union = e′; count = n })
+over-two a-is b-is joined inner outer counted =
+    record {
+      asked-is = λ q. rw (a-is, b-is) at (joined q);
+      union-is = outer ∙ rw (inner, a-is, b-is);
+      count-is = counted ∙ rw (a-is, b-is);
+    }
 
 -- ---- What stands at a node, by its kind
 
@@ -61,13 +67,32 @@ stands-none r is = record { stands = λ l e. no-lens r l (sym is ∙ e) }
 
 module _ {bytes : Text} {k : ℕ} {n : Node} (read : NodeRead bytes k n) where
   -- patterns, and lenses that hold no other
-  pub leaf-stands : {s : Standing} → OneOf leaf-kinds (tagOf the-type (n .kind)) → Empty (s .asked) → s .union ≡ false → NodeStands bytes k s
+  pub leaf-stands :
+      {s : Standing}
+      → OneOf leaf-kinds (tagOf the-type (n .kind))
+      → Empty (s .asked)
+      → s .union ≡ false
+      → s .count ≡ 0
+      → NodeStands bytes k s
   unfolding Shows asks hasUnion
-  leaf-stands {s} tag none free = go (n .kind) tag (read .shows)
+  leaf-stands {s} tag none free zero-met = go (n .kind) tag (read .shows)
     where
-      leaf : (l : Lens) → treeAt (trees bytes) k ≡ lens l → ((m : ℕ) → asks l m ≡ false) → hasUnion l ≡ false → NodeStands bytes k s
-      leaf l is asks-none no-union =
-          stands-as l is (record { asked-is = λ m h. none m ∙ sym (asks-none m); union-is = free ∙ sym no-union })
+      leaf :
+          (l : Lens)
+          → treeAt (trees bytes) k ≡ lens l
+          → ((m : ℕ) → asks l m ≡ false)
+          → hasUnion l ≡ false
+          → Even 0 l
+          → NodeStands bytes k s
+      leaf l is asks-none no-union even =
+          stands-as
+          l
+          is
+          (record {
+            asked-is = λ m h. none m ∙ sym (asks-none m);
+            union-is = free ∙ sym no-union;
+            count-is = rw zero-met even;
+          })
 
       go : (κ : Kind) → OneOf leaf-kinds (tagOf the-type κ) → Shows bytes k κ → NodeStands bytes k s
       go (Word start len) tag s = stands-none _ (s .tree-is)
@@ -75,9 +100,9 @@ module _ {bytes : Text} {k : ℕ} {n : Node} (read : NodeRead bytes k n) where
       go (PatternJoin a b) tag s = stands-none _ (s .tree-is)
       go (PatternUnion a b) tag s = stands-none _ (s .tree-is)
       go (PatternRepeat a) tag s = stands-none _ (s .tree-is)
-      go (Copy a) tag s = leaf _ (s .tree-is) (λ m. refl) refl
-      go (Const a b c) tag s = leaf _ (s .tree-is) (λ m. refl) refl
-      go (Key a) tag s = leaf _ (s .tree-is) (λ m. refl) refl
+      go (Copy a) tag s = leaf _ (s .tree-is) (λ m. refl) refl (even-copy _)
+      go (Const a b c) tag s = leaf _ (s .tree-is) (λ m. refl) refl (even-const _ _ _)
+      go (Key a) tag s = leaf _ (s .tree-is) (λ m. refl) refl (even-key _)
       go (LensJoin a b) tag s = absurd (miss leaf-kinds 8 tt tag)
       go (LensUnion a b) tag s = absurd (miss leaf-kinds 9 tt tag)
       go (LensRepeat a) tag s = absurd (miss leaf-kinds 10 tt tag)
@@ -106,6 +131,7 @@ module _ {bytes : Text} {k : ℕ} {n : Node} (read : NodeRead bytes k n) where
         (record {
           asked-is = λ m h. over .asked-is m ∙ rw (left .asked-is m h, right .asked-is m h);
           union-is = over .union-is ∙ rw (left .union-is, right .union-is);
+          count-is = rw (over .count-is) (even-join (s .left) (s .right) _ _ (left .count-is) (right .count-is));
         })
 
     pub union-stands : {a b : ℕ} {r : Standing} → n .kind ≡ LensUnion a b → OverTwo below a b true r → NodeStands bytes k r
@@ -120,17 +146,22 @@ module _ {bytes : Text} {k : ℕ} {n : Node} (read : NodeRead bytes k n) where
         (record {
           asked-is = λ m h. over .asked-is m ∙ rw (left .asked-is m h, right .asked-is m h);
           union-is = over .union-is;
+          count-is = rw (over .count-is) (even-union (s .left) (s .right) _ _ (left .count-is) (right .count-is));
         })
 
-    pub repeat-stands : {a : ℕ} {r : Standing} → n .kind ≡ LensRepeat a → r ≡ standingAt below a → NodeStands bytes k r
+    pub repeat-stands : {a : ℕ} {r : Standing} → n .kind ≡ LensRepeat a → OverParts below a r → NodeStands bytes k r
     unfolding asks hasUnion
-    repeat-stands e r-is =
+    repeat-stands e over =
         let s = shown-repeat read e in
         let child = child-below s in
         stands-as
         (repeat (s .child))
         (s .tree-is)
-        (rw r-is (record { asked-is = λ m h. child .asked-is m h; union-is = child .union-is }))
+        (record {
+          asked-is = λ m h. rw (over .asked-is) (child .asked-is m h);
+          union-is = over .union-is ∙ child .union-is;
+          count-is = rw (over .count-is) (even-repeat (s .child) _ (child .count-is));
+        })
 
     pub match-stands : {a : ℕ} {r : Standing} → n .kind ≡ Match a → OverChild below a r → NodeStands bytes k r
     unfolding asks hasUnion
@@ -143,24 +174,25 @@ module _ {bytes : Text} {k : ℕ} {n : Node} (read : NodeRead bytes k n) where
         (record {
           asked-is = λ m h. over .asked-is m ∙ rw (child .asked-is m h);
           union-is = over .union-is ∙ child .union-is;
+          count-is = rw (over .count-is) (even-match a (s .child));
         })
 
   -- ---- The numbers of the nodes below are there
 
-  module _ (below : List ℕ) {prepared : List ℕ} (sized : AllSized bytes prepared) (inside : k < nodeCount bytes) (room : 288 ≤ length below) where
-    node-room : {a : ℕ} → a < k → (3 * a + 3 ≤ length below) × (a < 128)
+  module _ (below : List ℕ) {prepared : List ℕ} (sized : AllSized bytes prepared) (inside : k < nodeCount bytes) (room : 384 ≤ length below) where
+    node-room : {a : ℕ} → a < k → (4 * a + 4 ≤ length below) × (a < 128)
     node-room lower = (omega (arith, (sizes-are sized) .few-nodes), omega (arith, (sizes-are sized) .few-nodes))
 
-    pub join-room : {a b : ℕ} → n .kind ≡ LensJoin a b → (3 * a + 3 ≤ length below) × (3 * b + 3 ≤ length below)
+    pub join-room : {a b : ℕ} → n .kind ≡ LensJoin a b → (4 * a + 4 ≤ length below) × (4 * b + 4 ≤ length below)
     join-room e = let s = shown-join read e in (node-room (s .left-lower) .0, node-room (s .right-lower) .0)
 
-    pub union-room : {a b : ℕ} → n .kind ≡ LensUnion a b → (3 * a + 3 ≤ length below) × (3 * b + 3 ≤ length below)
+    pub union-room : {a b : ℕ} → n .kind ≡ LensUnion a b → (4 * a + 4 ≤ length below) × (4 * b + 4 ≤ length below)
     union-room e = let s = shown-union read e in (node-room (s .left-lower) .0, node-room (s .right-lower) .0)
 
-    pub repeat-room : {a : ℕ} → n .kind ≡ LensRepeat a → 3 * a + 3 ≤ length below
+    pub repeat-room : {a : ℕ} → n .kind ≡ LensRepeat a → 4 * a + 4 ≤ length below
     repeat-room e = node-room (shown-repeat read e .lower) .0
 
-    pub match-room : {a : ℕ} → n .kind ≡ Match a → (3 * a + 3 ≤ length below) × (a < 128)
+    pub match-room : {a : ℕ} → n .kind ≡ Match a → (4 * a + 4 ≤ length below) × (a < 128)
     match-room e = node-room (shown-match read e .lower)
 
 -- ---- The numbers of a node are stored
@@ -171,36 +203,48 @@ flag-tells true = refl
 flag-tells false = refl
 
 module _ (below : List ℕ) (k : ℕ) (s : Standing) where
+  -- the numbers as they are stored, one after the other
+  abbrev one : List ℕ
+  one = set below (4 * k) (s .asked .low)
+
+  abbrev two : List ℕ
+  two = set one (4 * k + 1) (s .asked .high)
+
+  abbrev three : List ℕ
+  three = set two (4 * k + 2) (cond (s .union) 1 0)
+
   -- the numbers in front of it are as they were
-  stored-other : (i : ℕ) → i < 3 * k → getD (stored below k s) i 0 ≡ getD below i 0
+  stored-other : (i : ℕ) → i < 4 * k → getD (stored below k s) i 0 ≡ getD below i 0
   stored-other i h =
-      getD-set-other (set (set below (3 * k) (s .asked .low)) (3 * k + 1) (s .asked .high)) (3 * k + 2) i (cond (s .union) 1 0) 0 (λ e. omega arith)
-      ∙ getD-set-other (set below (3 * k) (s .asked .low)) (3 * k + 1) i (s .asked .high) 0 (λ e. omega arith)
-      ∙ getD-set-other below (3 * k) i (s .asked .low) 0 (λ e. omega arith)
+      getD-set-other three (4 * k + 3) i (s .count) 0 (λ e. omega arith)
+      ∙ getD-set-other two (4 * k + 2) i (cond (s .union) 1 0) 0 (λ e. omega arith)
+      ∙ getD-set-other one (4 * k + 1) i (s .asked .high) 0 (λ e. omega arith)
+      ∙ getD-set-other below (4 * k) i (s .asked .low) 0 (λ e. omega arith)
 
-  module _ (room : 3 * k + 3 ≤ length below) where
-    stored-low : getD (stored below k s) (3 * k) 0 ≡ s .asked .low
+  module _ (room : 4 * k + 4 ≤ length below) where
+    stored-low : getD (stored below k s) (4 * k) 0 ≡ s .asked .low
     stored-low =
-        getD-set-other (set (set below (3 * k) (s .asked .low)) (3 * k + 1) (s .asked .high)) (3 * k + 2) (3 * k) (cond (s .union) 1 0) 0 (λ e. omega arith)
-        ∙ getD-set-other (set below (3 * k) (s .asked .low)) (3 * k + 1) (3 * k) (s .asked .high) 0 (λ e. omega arith)
-        ∙ getD-set-same below (3 * k) (s .asked .low) 0 (omega arith)
+        getD-set-other three (4 * k + 3) (4 * k) (s .count) 0 (λ e. omega arith)
+        ∙ getD-set-other two (4 * k + 2) (4 * k) (cond (s .union) 1 0) 0 (λ e. omega arith)
+        ∙ getD-set-other one (4 * k + 1) (4 * k) (s .asked .high) 0 (λ e. omega arith)
+        ∙ getD-set-same below (4 * k) (s .asked .low) 0 (omega arith)
 
-    stored-high : getD (stored below k s) (3 * k + 1) 0 ≡ s .asked .high
+    stored-high : getD (stored below k s) (4 * k + 1) 0 ≡ s .asked .high
     stored-high =
-        getD-set-other (set (set below (3 * k) (s .asked .low)) (3 * k + 1) (s .asked .high)) (3 * k + 2) (3 * k + 1) (cond (s .union) 1 0) 0 (λ e. omega arith)
-        ∙ getD-set-same (set below (3 * k) (s .asked .low)) (3 * k + 1) (s .asked .high) 0 (simp length-set (omega arith))
+        getD-set-other three (4 * k + 3) (4 * k + 1) (s .count) 0 (λ e. omega arith)
+        ∙ getD-set-other two (4 * k + 2) (4 * k + 1) (cond (s .union) 1 0) 0 (λ e. omega arith)
+        ∙ getD-set-same one (4 * k + 1) (s .asked .high) 0 (simp length-set (omega arith))
 
     stored-union : unionAt (stored below k s) k ≡ s .union
     stored-union =
         ap
         (λ (m : ℕ). eqb m 1)
-        (getD-set-same
-        (set (set below (3 * k) (s .asked .low)) (3 * k + 1) (s .asked .high))
-        (3 * k + 2)
-        (cond (s .union) 1 0)
-        0
-        (simp length-set (omega arith)))
+        (getD-set-other three (4 * k + 3) (4 * k + 2) (s .count) 0 (λ e. omega arith)
+        ∙ getD-set-same two (4 * k + 2) (cond (s .union) 1 0) 0 (simp length-set (omega arith)))
         ∙ flag-tells (s .union)
+
+    stored-count : countAt (stored below k s) k ≡ s .count
+    stored-count = getD-set-same three (4 * k + 3) (s .count) 0 (simp length-set (omega arith))
 
     -- they are its own,
     stored-here : (l : Lens) → Stands s l → NodeBelow (stored below k s) k l
@@ -208,6 +252,7 @@ module _ (below : List ℕ) (k : ℕ) (s : Standing) where
         record {
           asked-is = λ m h. rw (stored-low, stored-high) (stands .asked-is m h);
           union-is = stored-union ∙ stands .union-is;
+          count-is = rw stored-count (stands .count-is);
         }
 
     -- and those of the nodes before it
@@ -221,8 +266,9 @@ module _ (below : List ℕ) (k : ℕ) (s : Standing) where
             let before = to .each j l (omega arith) e in
             record {
               asked-is = λ m small.
-                  rw (stored-other (3 * j) (omega arith), stored-other (3 * j + 1) (omega arith)) (before .asked-is m small);
-              union-is = rw (stored-other (3 * j + 2) (omega arith)) (before .union-is);
+                  rw (stored-other (4 * j) (omega arith), stored-other (4 * j + 1) (omega arith)) (before .asked-is m small);
+              union-is = rw (stored-other (4 * j + 2) (omega arith)) (before .union-is);
+              count-is = rw (stored-other (4 * j + 3) (omega arith)) (before .count-is);
             }
 
 -- no node, and all
@@ -234,7 +280,7 @@ pub stored-all :
     → AllSized bytes prepared
     → BelowTo bytes below k
     → nodeCount bytes ≤ k
-    → 288 ≤ length below
+    → 384 ≤ length below
     → BelowIs bytes below
 stored-all sized to all room =
     record { room = omega (arith, (sizes-are sized) .few-nodes); each = λ j l h e. to .each j l (omega (arith, all)) e }

@@ -7,13 +7,17 @@ use table::Table;
 ghost use mathlib.Core.Path.{_≡_};
 ghost use mathlib.Core.Logic.{_↔_};
 ghost use mathlib.Core.Bool.{true, false, _||_, cond};
-ghost use Prim.Native.Nat.{_+_, _*_, _≤_, _<_};
+ghost use Prim.Native.Nat.{_+_, _*_, _≤_, _<_, min};
+ghost use lib.Dec.{eqb};
 ghost use lib.ListN.{length};
 ghost use Rattle.semantics.specs.Table.{nodeCount};
 ghost use Rattle.table.specs.Rules.{AllSized};
 ghost use Rattle.automaton.specs.Rows.{setAt};
 ghost use Rattle.positions.specs.Positions.{Empty, Shared};
-ghost use Rattle.decks.specs.Below.{unionAt, standingAt, OverTwo, OverChild, NodeStands, BelowTo, stored, BelowIs};
+ghost use Rattle.decks.specs.Below.{unionAt, countAt, standingAt, countOver, OverTwo, OverChild, OverParts, NodeStands, BelowTo, stored, BelowIs, PlainlyMet};
+
+// What a count is where it depends on the texts, or is too large to be kept.
+pub const VARIES: u64 = 65536;
 
 // Whether no match at or below a node has one of these children.
 fn asks_none(below: &[u64], node: usize, children: Set) -> bool
@@ -46,9 +50,6 @@ pub fn has_union(below: &[u64], node: usize) -> bool
     below[4 * node + 2] == 1
 }
 
-// What a count is where it depends on the texts, or is too large to be kept.
-pub const VARIES: u64 = 65536;
-
 // How many matches a put meets at a node, or VARIES.
 pub fn count_at(below: &[u64], node: usize) -> u64
     requires { ⌜ 4 * node + 4 ≤ length (now below) ⌝ }
@@ -77,13 +78,15 @@ fn at_node(below: &[u64], node: usize) -> Standing
 
 // The count of a join: that of both halves.
 fn sum_of(a: u64, b: u64) -> u64
-    requires { ⌜ (a ≤ 65536) × (b ≤ 65536) ⌝ }
     ensures { λ r. ⌜ r ≡ min (a + b) 65536 ⌝ }
 {
-    if a + b < VARIES {
-        return a + b;
+    if VARIES <= a {
+        return VARIES;
     }
-    VARIES
+    if VARIES - a <= b {
+        return VARIES;
+    }
+    a + b
 }
 
 // The count of a union: that of whichever arm is taken.
@@ -117,7 +120,6 @@ fn either(a: bool, b: bool) -> bool
 
 // The count of a union or of a join.
 fn of_two(union: bool, a: u64, b: u64) -> u64
-    requires { ⌜ (a ≤ 65536) × (b ≤ 65536) ⌝ }
     ensures { λ r. ⌜ r ≡ countOver union a b ⌝ }
 {
     if union {
@@ -162,15 +164,16 @@ fn over_parts(below: &[u64], child: usize) -> Standing
     ensures { λ r. ⌜ OverParts (now (below .entry)) child r ⌝ }
 {
     let a = at_node(below, child);
+    let asked = a.asked;
     Standing {
-        asked: a.asked,
+        asked,
         union: a.union,
         count: none_of(a.count),
     }
 }
 
 fn nothing() -> Standing
-    ensures { λ r. ⌜ Empty (r .asked) × (r .union ≡ false) ⌝ }
+    ensures { λ r. ⌜ Empty (r .asked) × (r .union ≡ false) × (r .count ≡ 0) ⌝ }
 {
     Standing {
         asked: Set::empty(),

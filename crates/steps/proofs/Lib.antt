@@ -1,3 +1,4 @@
 -- What the proofs of this crate share.
 mod Answers
 mod Choosing
+mod Counting

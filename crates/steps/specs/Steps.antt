@@ -5,14 +5,15 @@ use mathlib.Core.List.{List, [], _∷_}
 use mathlib.Core.Option.{Option, none, some}
 use Prim.Native.Nat.{ℕ, _+_, _-_, _^_, _≤_, _<_}
 use lib.Dec.{eqb}
+use lib.ListN.{length}
 use Rattle.semantics.specs.Text.{Text, orElse, apply}
 use Rattle.semantics.specs.Pattern.{Pattern, matches}
-use Rattle.semantics.specs.Lens.{Lens, union, source, sheet, language, parts, write}
+use Rattle.semantics.specs.Lens.{Lens, union, repeat, source, sheet, language, parts, write}
 use Rattle.semantics.specs.Lens.{Book as Entries}
 use Rattle.semantics.specs.Tally.{met}
 use Rattle.semantics.specs.Table.{trees, treeAt, lens}
 use Rattle.laws.specs.Paths.{LeastPath, border, firstLoop}
-use Rattle.table.specs.Prepared.{TwoLenses}
+use Rattle.table.specs.Prepared.{OneLens, TwoLenses}
 use Rattle.positions.specs.Positions.{holds, Moved}
 use Rattle.automaton.specs.declared.Side.{Side}
 use Rattle.automaton.specs.declared.Side.the-variants.{Source, Sheet}
@@ -150,6 +151,17 @@ firstOf (t ∷ ts) = some t
 unfoldable pub othersOf : List Text → List Text
 othersOf [] = []
 othersOf (t ∷ ts) = ts
+
+-- The number of the parts of a sheet that has this path at a repeat. It is at most the path's length, whatever the path is.
+pub record CountsParts (path : List ℕ) (ends : Ends) (r : ℕ) : Type 0 where
+  pub at-most : r ≤ length path
+  pub counts :
+      (bytes : Text) (prepared : List ℕ) (node child base : ℕ) (new : Text)
+      → LensNode bytes prepared child
+      → (s : OneLens (trees bytes) node child (λ l. lens (repeat l)))
+      → EndsAre prepared child Sheet base ends
+      → Parsed bytes node sheet base path new
+      → r ≡ length (parts (language sheet (s .child)) new)
 
 -- ---- What is written behind what
 

@@ -17,7 +17,7 @@ ghost use Prim.Native.Nat.{_+_, _*_, _≤_};
 ghost use lib.ListN.{length};
 ghost use Rattle.automaton.specs.declared.Side.the-variants.{Source, Sheet};
 ghost use Rattle.lens.specs.Emitting.{Prepared};
-ghost use Rattle.steps.specs.Steps.{PlaceInside, OldInside, cutSheet, halvesOf, Refitted, createdAt, putAt, ChosenNew, Chosen, EndsAre, oldBase, nextOf, Fits64, countBehind};
+ghost use Rattle.steps.specs.Steps.{PlaceInside, OldInside, cutSheet, halvesOf, Refitted, createdAt, putAt, ChosenNew, Chosen, EndsAre, oldBase, nextOf, CountsParts, Fits64, countBehind};
 
 // A node, and where its positions begin on the sheet side.
 pub struct Spot {
@@ -273,6 +273,7 @@ pub fn behind(n: usize, more: Wrote) -> Wrote
 
 // How many parts a sheet of a repeat has.
 pub fn count_parts(path: &[u8], ends: Ends) -> usize
+    ensures { λ r. ⌜ CountsParts (now (path .entry)) ends r ⌝ }
 {
     let last = ends.last;
     let first = ends.first;

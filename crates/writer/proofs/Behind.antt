@@ -1,8 +1,9 @@
 -- What was written so far, and what is written directly behind it.
-use mathlib.Core.Path.{_≡_, refl, sym, ap, subst, _∙_}
+use mathlib.Core.Path.{_≡_, refl, sym, ap, subst, subst₂, _∙_}
 use mathlib.Core.List.{[], _∷_, _++_, append-assoc, append-nil}
 use mathlib.Core.Option.{Option, none, some}
-use Prim.Native.Nat.{ℕ, _≤_, _<_}
+use Prim.Native.Nat.{ℕ, _+_, _%_, _^_, _≤_, _<_}
+use native.Mathlib.Nat.{add-zero, mod-add-mod}
 use native.Mathlib.Omega.{arith}
 use lib.ListN.{length, take, length-append, take-append-drop}
 use lib.Seq.{take-append-seam, length-take-le}
@@ -10,6 +11,7 @@ use Rattle.semantics.specs.Text.{Text}
 use Rattle.semantics.specs.Lens.{Lens, Written, andThen, write}
 use Rattle.semantics.specs.Lens.{Book as Entries}
 use Rattle.semantics.specs.Table.{trees, treeAt, lens}
+use Rattle.semantics.specs.Tally.{met}
 use Rattle.laws.specs.Bookless.{plain}
 use Rattle.lens.specs.declared.Wrote.{Wrote}
 use Rattle.lens.specs.declared.Wrote.the-variants.{Count, Full}
@@ -22,7 +24,7 @@ use Rattle.books.specs.declared.Place.{Place}
 use Rattle.books.specs.Listed.{unused}
 use Rattle.books.specs.Looking.{partAt, oldText, BookOver, SameEntries, same-all, same-then}
 use Rattle.writer.specs.declared.Done.{Done}
-use Rattle.writer.specs.Writing.{Fitted, WithinBuffer, Progress, LensBehind, WritesBehind, WritesNext}
+use Rattle.writer.specs.Writing.{Fitted, WithinBuffer, wrapped, Progress, LensBehind, WritesBehind, WritesNext}
 
 -- ---- Two steps, one behind the other
 
@@ -46,6 +48,16 @@ then-swap :
     (w w′ : Written) (next next′ : Entries → Written) → w .text ≡ w′ .text → next (w .book) ≡ next′ (w′ .book) → andThen w next ≡ andThen w′ next′
 unfolding andThen
 then-swap w w′ next next′ text-is same = rw (text-is, same)
+
+-- ---- Counts
+
+-- n matches more
+pub counted-more : (m k n : ℕ) {next : ℕ} → wrapped m ≡ wrapped k → next ≡ (m + n) % 2 ^ 64 → wrapped next ≡ wrapped (k + n)
+unfolding wrapped
+counted-more m k n same is =
+    let once : (m + n) % 2 ^ 64 % 2 ^ 64 ≡ (m + n) % 2 ^ 64 =
+    ap (λ x. x % 2 ^ 64) (sym (add-zero ((m + n) % 2 ^ 64))) ∙ mod-add-mod (m + n) (2 ^ 64) 0 ∙ ap (λ x. x % 2 ^ 64) (add-zero (m + n)) in
+    ap (λ x. x % 2 ^ 64) is ∙ once ∙ sym (mod-add-mod m (2 ^ 64) n) ∙ ap (λ x. (x + n) % 2 ^ 64) same ∙ mod-add-mod k (2 ^ 64) n
 
 -- ---- Texts that did not fit
 
@@ -102,13 +114,14 @@ pub record Left (done : Done) (after : Text) (r : Done) : Type 0 where
   pub within : WithinBuffer r after
 
 module _ {bytes deck : Text} where
-  -- the text and the book by another name
+  -- the text, the book and the count by other names
   pub progress-is :
-      {w w′ : Written} {b : Book} {before after : Text} {r : Done}
+      {w w′ : Written} {k k′ : ℕ} {b : Book} {before after : Text} {r : Done}
       → w ≡ w′
-      → Progress bytes deck w b before after r
-      → Progress bytes deck w′ b before after r
-  progress-is {b = b} {before = before} {after = after} {r = r} e = subst (λ x. Progress bytes deck x b before after r) e
+      → k ≡ k′
+      → Progress bytes deck w k b before after r
+      → Progress bytes deck w′ k′ b before after r
+  progress-is {b = b} {before = before} {after = after} {r = r} e f = subst₂ (λ x n. Progress bytes deck x n b before after r) e f
 
   pub behind-left :
       {l : Lens} {old : Option Text} {new mid after : Text} {done r : Done}
@@ -119,7 +132,9 @@ module _ {bytes deck : Text} where
   behind-left {l} {old} {new} {mid} {after} {done} {r} over within behind =
       let (text, before) = some-written (done .wrote) mid within in
       let w : Written = record { text = text; book = unused (trees bytes) deck (done .book) } in
-      let p = behind .progress w (done .book) mid (record { bytes-are = before; book-is = λ h. refl; over = over; same-entries = same-all (done .book) }) in
+      let p =
+      behind .progress w (done .met) (done .book) mid (record { bytes-are = before; met-is = refl; book-is = λ h. refl; over = over; same-entries = same-all (done .book) })
+      in
       record {
         over = p .over;
         same-entries = p .same-entries;
@@ -153,26 +168,29 @@ module _ {bytes deck : Text} where
   unfolding oldText
   old-created e w = rw e w
 
-  -- a lens that writes the same with every book
+  -- a lens that writes the same with every book, and meets the same matches
   pub behind-same :
       {l m : Lens} {old old′ : Option Text} {new mid after : Text} {done r : Done}
       → ((b : Entries) → write l old new b ≡ write m old′ new b)
+      → met l old new ≡ met m old′ new
       → LensBehind bytes deck m old′ new done mid after r
       → LensBehind bytes deck l old new done mid after r
-  behind-same same behind = record { progress = λ w b before p. progress-is (sym (then-same w same)) (behind .progress w b before p) }
+  behind-same same meets behind =
+      record { progress = λ w k b before p. progress-is (sym (then-same w same)) (ap (λ ms. k + length ms) (sym meets)) (behind .progress w k b before p) }
 
   -- behind a text that did not fit, any step is the same
   progress-full :
-      (w w′ : Written) (next next′ : Entries → Written) {b : Book} {before mid after : Text} {r : Done}
+      (w w′ : Written) (next next′ : Entries → Written) {k : ℕ} {b : Book} {before mid after : Text} {r : Done}
       → w .text ≡ w′ .text
       → Writes (w′ .text) before mid Full
-      → Progress bytes deck (andThen w next) b before after r
-      → Progress bytes deck (andThen w′ next′) b before after r
+      → Progress bytes deck (andThen w next) k b before after r
+      → Progress bytes deck (andThen w′ next′) k b before after r
   unfolding andThen
-  progress-full w w′ next next′ {b} {before} {mid} {after} {r} text-is first p =
+  progress-full w w′ next next′ {before = before} {mid = mid} {after = after} {r = r} text-is first p =
       let (after-is, full) = full-stays (w′ .text) (next (w .book) .text) before mid after (r .wrote) first (rw text-is at (p .bytes-are)) in
       record {
         bytes-are = rw (after-is, full) (writes-full (w′ .text) (next′ (w′ .book) .text) before mid first);
+        met-is = p .met-is;
         book-is = λ h. absurd (h full);
         over = p .over;
         same-entries = p .same-entries;
@@ -180,38 +198,40 @@ module _ {bytes deck : Text} where
 
   -- another step behind the same text, which is the same where there was room
   pub progress-swap :
-      (w w′ : Written) (next next′ : Entries → Written) {b : Book} {before mid after : Text} {wrote : Wrote} {r : Done}
+      (w w′ : Written) (next next′ : Entries → Written) {k : ℕ} {b : Book} {before mid after : Text} {wrote : Wrote} {r : Done}
       → w .text ≡ w′ .text
       → Writes (w′ .text) before mid wrote
       → (¬ (wrote ≡ Full) → next (w .book) ≡ next′ (w′ .book))
-      → Progress bytes deck (andThen w next) b before after r
-      → Progress bytes deck (andThen w′ next′) b before after r
-  progress-swap w w′ next next′ {b} {before} {mid} {after} {wrote} {r} text-is first same p = go wrote refl
+      → Progress bytes deck (andThen w next) k b before after r
+      → Progress bytes deck (andThen w′ next′) k b before after r
+  progress-swap w w′ next next′ {k} {b} {before} {mid} {after} {wrote} {r} text-is first same p = go wrote refl
     where
-      go : (k : Wrote) → wrote ≡ k → Progress bytes deck (andThen w′ next′) b before after r
-      go (Count n) e = progress-is (then-swap w w′ next next′ text-is (same (not-full e))) p
+      go : (answer : Wrote) → wrote ≡ answer → Progress bytes deck (andThen w′ next′) k b before after r
+      go (Count n) e = progress-is (then-swap w w′ next next′ text-is (same (not-full e))) refl p
       go Full e = progress-full w w′ next next′ text-is (rw e at first) p
 
   known-behind :
-      (w : Written) (t : Text) {b : Book} {before after : Text} {r : Wrote} {left : Book}
+      (w : Written) (t : Text) {k m : ℕ} {b : Book} {before after : Text} {r : Wrote} {left : Book}
       → BookOver 4096 left
       → SameEntries b left
+      → wrapped m ≡ wrapped k
       → Writes (w .text ++ t) before after r
-      → Progress bytes deck (andThen w (λ any. record { text = t; book = unused (trees bytes) deck left })) b before after (record { wrote = r; book = left })
+      → Progress bytes deck (andThen w (λ any. record { text = t; book = unused (trees bytes) deck left })) k b before after (record { wrote = r; book = left; met = m })
   unfolding andThen
-  known-behind w t over same writes = record { bytes-are = writes; book-is = λ room. refl; over = over; same-entries = same }
+  known-behind w t over same counted writes = record { bytes-are = writes; met-is = counted; book-is = λ room. refl; over = over; same-entries = same }
 
-  -- a step of which it is known what it writes with the book that is left, and what it leaves
+  -- a step of which it is known what it writes with the book that is left, what it leaves, and how many matches it meets
   pub text-behind :
-      (next : Entries → Written) (t : Text) {mid after : Text} {done : Done} {r : Wrote} {left : Book}
+      (next : Entries → Written) (t : Text) (n : ℕ) {mid after : Text} {done : Done} {r : Wrote} {left : Book} {m : ℕ}
       → next (unused (trees bytes) deck (done .book)) ≡ record { text = t; book = unused (trees bytes) deck left }
       → BookOver 4096 left
       → SameEntries (done .book) left
+      → m ≡ (done .met + n) % 2 ^ 64
       → ((text before : Text) → Writes text before mid (done .wrote) → Writes (text ++ t) before after r)
-      → (w : Written) (b : Book) (before : Text)
-      → Progress bytes deck w b before mid done
-      → Progress bytes deck (andThen w next) b before after (record { wrote = r; book = left })
-  text-behind next t {mid} {after} {done} {r} {left} is over same writes w b before p =
+      → (w : Written) (k : ℕ) (b : Book) (before : Text)
+      → Progress bytes deck w k b before mid done
+      → Progress bytes deck (andThen w next) (k + n) b before after (record { wrote = r; book = left; met = m })
+  text-behind next t n {done = done} {left = left} is over same m-is writes w k b before p =
       let known : Entries → Written = λ any. record { text = t; book = unused (trees bytes) deck left } in
       progress-swap
       w
@@ -221,4 +241,4 @@ module _ {bytes deck : Text} where
       refl
       (p .bytes-are)
       (λ room. sym (ap next (sym (p .book-is room)) ∙ is))
-      (known-behind w t over (same-then (p .same-entries) same) (writes (w .text) before (p .bytes-are)))
+      (known-behind w t over (same-then (p .same-entries) same) (counted-more (done .met) k n (p .met-is) m-is) (writes (w .text) before (p .bytes-are)))

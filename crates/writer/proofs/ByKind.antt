@@ -2,13 +2,14 @@
 use mathlib.Core.Path.{_≡_, refl, sym, ap, _∙_}
 use mathlib.Core.List.{List}
 use mathlib.Core.Option.{Option}
-use Prim.Native.Nat.{ℕ, _-_}
-use native.Mathlib.Nat.{sub-zero}
-use lib.ListN.{length, take, drop}
+use Prim.Native.Nat.{ℕ, _+_, _-_, _%_, _^_}
+use native.Mathlib.Nat.{sub-zero, add-zero, add-assoc}
+use lib.ListN.{length, take, drop, length-append}
 use Rattle.semantics.specs.Text.{Text, orElse, apply}
 use Rattle.semantics.specs.Lens.{Lens, join, union, match, source, sheet, language, cutAt, keyOf, Written, andThen, writeMatch, write}
 use Rattle.semantics.specs.Lens.{Book as Entries}
 use Rattle.semantics.specs.Table.{trees, treeAt, lens}
+use Rattle.semantics.specs.Tally.{met}
 use Rattle.laws.specs.Bookless.{plain, Unasked, unasked-writes}
 use Rattle.table.specs.Prepared.{TwoLenses}
 use Rattle.lens.specs.declared.Wrote.{Wrote}
@@ -20,8 +21,8 @@ use Rattle.books.specs.Looking.{oldText, BookOver, LookedUp, same-all, same-the
 use Rattle.steps.specs.declared.Spot.{Spot}
 use Rattle.steps.specs.Steps.{ArmIs}
 use Rattle.writer.specs.declared.Done.{Done}
-use Rattle.writer.specs.Writing.{Progress, LensBehind, WritesBehind, WritesNext, EntryFound, WritesMatch}
-use Rattle.writer.proofs.Behind.{then-same, then-again, progress-is, at-node, behind-same, progress-swap, text-behind}
+use Rattle.writer.specs.Writing.{MeetsThere, Progress, LensBehind, WritesBehind, WritesNext, EntryFound, WritesMatch}
+use Rattle.writer.proofs.Behind.{then-same, then-again, counted-more, progress-is, at-node, behind-same, progress-swap, text-behind}
 
 -- what it writes, from where the sheet and the old text are cut
 write-join :
@@ -32,29 +33,53 @@ write-join :
 unfolding write
 write-join l m old new i first second i-is (first-is, second-is) b = rw (first-is, second-is, i-is)
 
+-- and how many matches it meets
+meet-join :
+    (l m : Lens) (old : Option Text) (new : Text) (i : ℕ) (first second : Option Text)
+    → i ≡ cutAt (language sheet l) (language sheet m) new
+    → (let j = orElse 0 (apply (cutAt (language source l) (language source m)) old) in (first ≡ apply (take j) old) × (second ≡ apply (drop j) old))
+    → length (met l first (take i new)) + length (met m second (drop i new)) ≡ length (met (join l m) old new)
+unfolding met
+meet-join l m old new i first second i-is (first-is, second-is) =
+    let j = orElse 0 (apply (cutAt (language source l) (language source m)) old) in
+    rw (first-is, second-is, i-is)
+    (sym
+    (length-append
+    (met l (apply (take j) old) (take (cutAt (language sheet l) (language sheet m) new) new))
+    (met m (apply (drop j) old) (drop (cutAt (language sheet l) (language sheet m) new) new))))
+
+-- one match is met at a match
+one-met : (child : ℕ) (l : Lens) (old : Option Text) (new : Text) → length (met (match child l) old new) ≡ 1
+unfolding met
+one-met child l old new = refl
+
 -- ---- A node that looks nothing up
 
 module _ {bytes deck : Text} where
   -- it writes without the book, which stays as it is
   pub plain-writes :
-      {node : ℕ} {old : Option Text} {new mid after : Text} {done : Done} {r : Wrote}
+      {node : ℕ} {old : Option Text} {new mid after : Text} {done : Done} {r : Wrote} {matches m : ℕ}
       → ((l : Lens) → treeAt (trees bytes) node ≡ lens l → Unasked l (unused (trees bytes) deck (done .book)))
       → BookOver 4096 (done .book)
+      → MeetsThere bytes node old new matches
+      → m ≡ (done .met + matches) % 2 ^ 64
       → WritesNext bytes node old new (done .wrote) mid after r
-      → WritesBehind bytes node deck old new done mid after (record { wrote = r; book = done .book })
-  plain-writes {old = old} {new = new} {done = done} unasked over w =
+      → WritesBehind bytes node deck old new done mid after (record { wrote = r; book = done .book; met = m })
+  plain-writes {old = old} {new = new} {done = done} {matches = matches} unasked over there m-is w =
       record {
         writes = λ l e.
-            record {
-              progress =
-                  text-behind
-                  (write l old new)
-                  (plain l old new)
-                  (unasked-writes l old new (unused (trees bytes) deck (done .book)) (unasked l e))
-                  over
-                  (same-all (done .book))
-                  (w .writes l e);
-            };
+            let step =
+            text-behind
+            (write l old new)
+            (plain l old new)
+            matches
+            (unasked-writes l old new (unused (trees bytes) deck (done .book)) (unasked l e))
+            over
+            (same-all (done .book))
+            m-is
+            (w .writes l e)
+            in
+            record { progress = λ v k b before p. progress-is refl (ap (λ n. k + n) (sym (there .meets l e))) (step v k b before p) };
       }
 
   -- ---- A match
@@ -69,48 +94,59 @@ module _ {bytes deck : Text} where
 
   -- where the child holds no match, it writes without the book
   pub match-plain :
-      {child : ℕ} {new mid after : Text} {done : Done} {lookup : Lookup} {r : Wrote}
+      {child : ℕ} {new mid after : Text} {done : Done} {lookup : Lookup} {r : Wrote} {m : ℕ}
       → ((l : Lens) → treeAt (trees bytes) child ≡ lens l → (b : Entries) → Unasked l b)
       → EntryFound bytes child deck new (done .book) lookup
+      → m ≡ (done .met + 1) % 2 ^ 64
       → WritesNext bytes child (oldText deck (lookup .old)) new (done .wrote) mid after r
-      → WritesMatch bytes child deck new done mid after (record { wrote = r; book = lookup .book })
-  match-plain {child} {new} {done = done} {lookup = lookup} unasked entry w =
+      → WritesMatch bytes child deck new done mid after (record { wrote = r; book = lookup .book; met = m })
+  match-plain {child} {new} {done = done} {lookup = lookup} unasked entry m-is w =
       record {
         writes = λ l e old.
             let looked = entry .found l e in
             let found = oldText deck (lookup .old) in
             let left = unused (trees bytes) deck (lookup .book) in
-            record {
-              progress =
-                  text-behind
-                  (write (match child l) old new)
-                  (plain l found new)
-                  (found-write l old new looked ∙ unasked-writes l found new left (unasked l e left))
-                  (looked .over)
-                  (looked .same-entries)
-                  (w .writes l e);
-            };
+            let step =
+            text-behind
+            (write (match child l) old new)
+            (plain l found new)
+            1
+            (found-write l old new looked ∙ unasked-writes l found new left (unasked l e left))
+            (looked .over)
+            (looked .same-entries)
+            m-is
+            (w .writes l e)
+            in
+            record { progress = λ v k b before p. progress-is refl (ap (λ n. k + n) (sym (one-met child l old new))) (step v k b before p) };
       }
 
-  -- otherwise its child writes with the book that is left
+  -- otherwise its child, which meets none, writes with the book that is left
   pub match-writes :
-      {child : ℕ} {new mid after : Text} {done : Done} {lookup : Lookup} {r : Done}
+      {child : ℕ} {new mid after : Text} {done : Done} {lookup : Lookup} {r : Done} {m : ℕ}
       → EntryFound bytes child deck new (done .book) lookup
-      → WritesBehind bytes child deck (oldText deck (lookup .old)) new (record { wrote = done .wrote; book = lookup .book }) mid after r
+      → m ≡ (done .met + 1) % 2 ^ 64
+      → MeetsThere bytes child (oldText deck (lookup .old)) new 0
+      → WritesBehind bytes child deck (oldText deck (lookup .old)) new (record { wrote = done .wrote; book = lookup .book; met = m }) mid after r
       → WritesMatch bytes child deck new done mid after r
-  match-writes {child} {new} {mid} {after} {done} {lookup} {r} entry behind =
+  match-writes {child} {new} {mid} {after} {done} {lookup} {r} {m} entry m-is inside behind =
       record {
         writes = λ l e old.
-            record { progress = λ w b before p. found-behind w l old before (entry .found l e) (behind .writes l e) p };
+            record {
+              progress = λ w k b before p.
+                  progress-is
+                  refl
+                  (ap (λ n. k + 1 + n) (inside .meets l e) ∙ add-zero (k + 1) ∙ ap (λ n. k + n) (sym (one-met child l old new)))
+                  (found-behind w k l old before (entry .found l e) (behind .writes l e) p);
+            };
       }
     where
       found-behind :
-          (w : Written) (l : Lens) (old : Option Text) {b : Book} (before : Text)
+          (w : Written) (k : ℕ) (l : Lens) (old : Option Text) {b : Book} (before : Text)
           → LookedUp bytes deck child (keyOf l new) (done .book) lookup
-          → LensBehind bytes deck l (oldText deck (lookup .old)) new (record { wrote = done .wrote; book = lookup .book }) mid after r
-          → Progress bytes deck w b before mid done
-          → Progress bytes deck (andThen w (write (match child l) old new)) b before after r
-      found-behind w l old {b} before looked behind p =
+          → LensBehind bytes deck l (oldText deck (lookup .old)) new (record { wrote = done .wrote; book = lookup .book; met = m }) mid after r
+          → Progress bytes deck w k b before mid done
+          → Progress bytes deck (andThen w (write (match child l) old new)) (k + 1 + length (met l (oldText deck (lookup .old)) new)) b before after r
+      found-behind w k l old {b} before looked behind p =
           let left : Written = record { text = w .text; book = unused (trees bytes) deck (lookup .book) } in
           progress-swap
           left
@@ -120,9 +156,10 @@ module _ {bytes deck : Text} where
           refl
           (p .bytes-are)
           (λ room. sym (ap (write (match child l) old new) (sym (p .book-is room)) ∙ found-write l old new looked))
-          (behind .progress left b before
+          (behind .progress left (k + 1) b before
           (record {
             bytes-are = p .bytes-are;
+            met-is = counted-more (done .met) k 1 (p .met-is) m-is;
             book-is = λ room. refl;
             over = looked .over;
             same-entries = same-then (p .same-entries) (looked .same-entries);
@@ -140,12 +177,15 @@ module _ {bytes deck : Text} where
       → LensBehind bytes deck (join l m) old new done out after r
   join-writes {l} {m} {old} {first} {second} {new} {i = i} i-is halves-are left right =
       record {
-        progress = λ w b before p.
+        progress = λ w k b before p.
             let front = write l first (take i new) in
             let back = write m second (drop i new) in
+            let near = length (met l first (take i new)) in
+            let far = length (met m second (drop i new)) in
             progress-is
             (sym (then-same w (write-join l m old new i first second i-is halves-are) ∙ then-again w front back))
-            ((rw (rest-lent new i) at right) .progress (andThen w front) b before ((rw sub-zero at left) .progress w b before p));
+            (add-assoc k near far ∙ ap (λ n. k + n) (meet-join l m old new i first second i-is halves-are))
+            ((rw (rest-lent new i) at right) .progress (andThen w front) (k + near) b before ((rw sub-zero at left) .progress w k b before p));
       }
 
   -- ---- A union
@@ -157,4 +197,4 @@ module _ {bytes deck : Text} where
       → ArmIs bytes node (s .left) (s .right) old kept new path spot
       → WritesBehind bytes (spot .node) deck kept new done out after r
       → WritesBehind bytes node deck old new done out after r
-  union-writes s arm w = at-node (union (s .left) (s .right)) (s .tree-is) (behind-same (arm .writes-same) (w .writes (arm .arm) (arm .arm-is)))
+  union-writes s arm w = at-node (union (s .left) (s .right)) (s .tree-is) (behind-same (arm .writes-same) (arm .meets-same) (w .writes (arm .arm) (arm .arm-is)))

@@ -87,7 +87,7 @@ module _ {bytes : Text} {prepared : List ℕ} {node : ℕ} {deck : Text} {below 
   ready-left known over same = record { lens-node = known; looks-in = looks-left (ready .looks-in) over same; below-is = ready .below-is }
 
   -- the numbers of a node below it are there
-  pub below-room : 3 * node + 3 ≤ length below
+  pub below-room : 4 * node + 4 ≤ length below
   below-room = omega (arith, ready .lens-node .inside, ready .below-is .room)
 
 -- ---- The sheet

@@ -1,15 +1,17 @@
 -- The parts of a repeat, written one by one: before the first, with one more, behind the last.
-use mathlib.Core.Path.{_≡_, refl, sym, ap, _∙_}
+use mathlib.Core.Path.{_≡_, refl, sym, ap, ap₂, _∙_}
 use mathlib.Core.List.{List, [], _∷_, _++_}
 use mathlib.Core.Option.{Option, none, some}
 use Prim.Native.Nat.{ℕ, _+_, _-_, _≤_, _<_}
+use native.Mathlib.Nat.{add-zero, add-assoc}
 use native.Mathlib.Omega.{arith}
-use lib.ListN.{length, take, drop, length-take, length-drop, drop-of-length-le}
+use lib.ListN.{length, take, drop, length-append, length-take, length-drop, drop-of-length-le}
 use lib.Seq.{drop-drop}
 use Rattle.semantics.specs.Text.{Text, orElse, apply}
 use Rattle.semantics.specs.Lens.{Lens, repeat, match, source, sheet, language, parts, Written, Writer, andThen, writeParts, write}
 use Rattle.semantics.specs.Lens.{Book as Entries}
 use Rattle.semantics.specs.Table.{trees, lens}
+use Rattle.semantics.specs.Tally.{Meeting, meetParts, met}
 use Rattle.laws.specs.Paths.{firstLoop}
 use Rattle.positions.specs.declared.Set.{Set}
 use Rattle.positions.specs.Positions.{holds}
@@ -44,6 +46,16 @@ unfolding writeParts firstOf othersOf
 parts-step w [] news new b = refl
 parts-step w (t ∷ olds) news new b = refl
 
+-- the parts of a sheet: the next one, and those behind it
+next-parts :
+    (l : Lens) (new : Text) (o i : ℕ)
+    → o < length new
+    → i ≡ firstPart (language sheet l) (drop o new)
+    → parts (language sheet l) (drop o new) ≡ take (o + i - o) (drop o new) ∷ parts (language sheet l) (drop (o + i) new)
+next-parts l new o i more i-is =
+    let as-long : o + i - o ≡ i = omega arith in
+    rw (as-long, i-is, ← (drop-drop (firstPart (language sheet l) (drop o new)) o new)) (parts-next (language sheet l) (drop o new) (rw length-drop (omega arith)))
+
 left-next :
     (l : Lens) (deck new : Text) (left : Old) (next : Next) (o i : ℕ)
     → o < length new
@@ -54,17 +66,40 @@ left-next :
     → writeParts (write l) (oldParts l deck left) (parts (language sheet l) (drop o new)) b
     ≡ andThen (write l (oldText deck (next .part)) (take (o + i - o) (drop o new)) b) (writeParts (write l) (oldParts l deck (next .rest)) (parts (language sheet l) (drop (o + i) new)))
 left-next l deck new left next o i more i-is part-is rest-are b =
-    let as-long : o + i - o ≡ i = omega arith in
-    let cut : parts (language sheet l) (drop o new) ≡ take i (drop o new) ∷ parts (language sheet l) (drop i (drop o new)) =
-    rw i-is (parts-next (language sheet l) (drop o new) (rw length-drop (omega arith))) in
     rw
-    (as-long, part-is, rest-are, cut, ← (drop-drop i o new))
-    (parts-step (write l) (oldParts l deck left) (parts (language sheet l) (drop i (drop o new))) (take i (drop o new)) b)
+    (part-is, rest-are, next-parts l new o i more i-is)
+    (parts-step (write l) (oldParts l deck left) (parts (language sheet l) (drop (o + i) new)) (take (o + i - o) (drop o new)) b)
+
+-- and how many matches they meet
+parts-met :
+    (f : Meeting) (olds news : List Text) (new : Text)
+    → length (meetParts f olds (new ∷ news)) ≡ length (f (firstOf olds) new) + length (meetParts f (othersOf olds) news)
+unfolding meetParts firstOf othersOf
+parts-met f [] news new = length-append (f none new) (meetParts f [] news)
+parts-met f (t ∷ olds) news new = length-append (f (some t) new) (meetParts f olds news)
+
+left-met :
+    (l : Lens) (deck new : Text) (left : Old) (next : Next) (o i : ℕ)
+    → o < length new
+    → i ≡ firstPart (language sheet l) (drop o new)
+    → oldText deck (next .part) ≡ firstOf (oldParts l deck left)
+    → oldParts l deck (next .rest) ≡ othersOf (oldParts l deck left)
+    → length (meetParts (met l) (oldParts l deck left) (parts (language sheet l) (drop o new)))
+    ≡ length (met l (oldText deck (next .part)) (take (o + i - o) (drop o new)))
+    + length (meetParts (met l) (oldParts l deck (next .rest)) (parts (language sheet l) (drop (o + i) new)))
+left-met l deck new left next o i more i-is part-is rest-are =
+    rw
+    (part-is, rest-are, next-parts l new o i more i-is)
+    (parts-met (met l) (oldParts l deck left) (parts (language sheet l) (drop (o + i) new)) (take (o + i - o) (drop o new)))
 
 -- no part is left
 parts-over : (w : Writer) (olds : List Text) (v : Written) → andThen v (writeParts w olds []) ≡ v
 unfolding writeParts
 parts-over w olds v = then-nothing v
+
+none-met : (f : Meeting) (olds : List Text) → length (meetParts f olds []) ≡ 0
+unfolding meetParts
+none-met f olds = refl
 
 -- a writer that does not look at old texts writes parts that do not
 parts-free :
@@ -77,11 +112,23 @@ parts-free w free [] (a ∷ news) b = refl
 parts-free w free (t ∷ olds) (a ∷ news) b =
     ap (λ v. andThen v (writeParts w olds news)) (free (some t) a b) ∙ then-same (w none a b) (λ b′. parts-free w free olds news b′)
 
+-- so with the matches that they meet
+met-free : (f : Meeting) → ((old : Option Text) (a : Text) → f old a ≡ f none a) → (olds news : List Text) → meetParts f olds news ≡ meetParts f [] news
+unfolding meetParts
+met-free f free olds [] = refl
+met-free f free [] (a ∷ news) = refl
+met-free f free (t ∷ olds) (a ∷ news) = ap₂ _++_ (free (some t) a) (met-free f free olds news)
+
 -- so with a repeat of a match
 matches-free : (n : ℕ) (l : Lens) (old : Option Text) (new : Text) (b : Entries) → write (repeat (match n l)) old new b ≡ write (repeat (match n l)) none new b
 unfolding write apply orElse
 matches-free n l old new b =
     parts-free (write (match n l)) (λ t a b′. refl) (orElse [] (apply (parts (language source (match n l))) old)) (parts (language sheet (match n l)) new) b
+
+matches-met : (n : ℕ) (l : Lens) (old : Option Text) (new : Text) → met (repeat (match n l)) old new ≡ met (repeat (match n l)) none new
+unfolding met apply orElse
+matches-met n l old new =
+    met-free (met (match n l)) (λ t a. refl) (orElse [] (apply (parts (language source (match n l))) old)) (parts (language sheet (match n l)) new)
 
 pub matches-written :
     {bytes : Text} {node child n : ℕ} (deck : Text) {new mid after : Text} {done r : Done}
@@ -93,7 +140,7 @@ unfolding oldText
 matches-written {n = n} deck {new = new} s inner w =
     let l = match n (inner .child) in
     let tree-is = s .tree-is ∙ ap (λ k. lens (repeat k)) (same-lens (s .child) l (sym (s .at-child) ∙ inner .tree-is)) in
-    record { writes = λ old. at-node (repeat l) tree-is (behind-same (matches-free n (inner .child) old new) (w .writes (repeat l) tree-is)) }
+    record { writes = λ old. at-node (repeat l) tree-is (behind-same (matches-free n (inner .child) old new) (matches-met n (inner .child) old new) (w .writes (repeat l) tree-is)) }
 
 -- ---- The turns of the loop
 
@@ -129,8 +176,14 @@ pub record Parting
       (b : Entries)
       → write (repeat (one .child)) (oldText deck old) new b
       ≡ andThen (so-far b) (writeParts (write (one .child)) (oldParts (one .child) deck left) (parts (language sheet (one .child)) (drop o new)))
+  pub met-so-far : ℕ
+  pub met-is :
+      length (met (repeat (one .child)) (oldText deck old) new)
+      ≡ met-so-far + length (meetParts (met (one .child)) (oldParts (one .child) deck left) (parts (language sheet (one .child)) (drop o new)))
   pub progress :
-      (w : Written) (b : Book) (first : Text) → Progress bytes deck w b first before start → Progress bytes deck (andThen w so-far) b first out done
+      (w : Written) (k : ℕ) (b : Book) (first : Text)
+      → Progress bytes deck w k b first before start
+      → Progress bytes deck (andThen w so-far) (k + met-so-far) b first out done
   pub kept : Left start out done
 
 -- no part was written yet
@@ -145,7 +198,7 @@ pub parting-begins :
     → BookOver 4096 (done .book)
     → WithinBuffer done out
     → Parting bytes prepared child base (ends .last) (ends .first) olds new deck old done out path old 0 out done
-unfolding write andThen
+unfolding write met andThen
 parting-begins {done = done} known one parsed are fits old-are over within =
     record {
       node = _;
@@ -157,7 +210,9 @@ parting-begins {done = done} known one parsed are fits old-are over within =
       left-ends = old-are;
       so-far = λ b. record { text = []; book = b };
       so-far-is = λ b. refl;
-      progress = λ w b first p. progress-is (sym (then-nothing w)) p;
+      met-so-far = 0;
+      met-is = omega arith;
+      progress = λ w k b first p. progress-is (sym (then-nothing w)) (sym (add-zero k)) p;
       kept = record { over = over; same-entries = same-all (done .book); within = within };
     }
 
@@ -229,10 +284,12 @@ module _
       let none-left : parts (language sheet l) (drop o new) ≡ [] = rw (drop-of-length-le new end) (parts-none (language sheet l)) in
       let whole : (b : Entries) → write (repeat l) (oldText deck old) new b ≡ parting .so-far b =
       λ b. parting .so-far-is b ∙ rw none-left (parts-over (write l) (oldParts l deck left) (parting .so-far b)) in
+      let all-met : length (met (repeat l) (oldText deck old) new) ≡ parting .met-so-far =
+      parting .met-is ∙ rw (none-left, none-met (met l) (oldParts l deck left)) (add-zero (parting .met-so-far)) in
       at-node
       (repeat l)
       (s .tree-is ∙ ap (λ k. lens (repeat k)) same)
-      (record { progress = λ w b front p. progress-is (sym (then-same w whole)) (parting .progress w b front p) })
+      (record { progress = λ w k b front p. progress-is (sym (then-same w whole)) (ap (λ n. k + n) (sym all-met)) (parting .progress w k b front p) })
 
   -- one part more: behind it, the path is as it was
   pub parting-next :
@@ -264,8 +321,16 @@ module _
         left-fits = fits .rest-fits;
         left-ends = fits .rest-ends;
         so-far = λ b. andThen (parting .so-far b) one-part;
+        met-so-far = parting .met-so-far + length (met l (oldText deck (next .part)) (take (o + i - o) (drop o new)));
+        met-is =
+            parting .met-is
+            ∙ ap (λ n. parting .met-so-far + n) (left-met l deck new left next o i more (loop-is-part-from (parting .parsed) s (parting .ends) more i-is) (fits .part-is) (fits .rest-are))
+            ∙ sym (add-assoc (parting .met-so-far) _ _);
         so-far-is = λ b. parting .so-far-is b ∙ then-same (parting .so-far b) (left-next l deck new left next o i more (loop-is-part-from (parting .parsed) s (parting .ends) more i-is) (fits .part-is) (fits .rest-are)) ∙ then-again (parting .so-far b) one-part _;
-        progress = λ w b front p.
-            progress-is (sym (then-again w (parting .so-far) one-part)) (wrote-part .progress (andThen w (parting .so-far)) b front (parting .progress w b front p));
+        progress = λ w k b front p.
+            progress-is
+            (sym (then-again w (parting .so-far) one-part))
+            (add-assoc k (parting .met-so-far) _)
+            (wrote-part .progress (andThen w (parting .so-far)) (k + parting .met-so-far) b front (parting .progress w k b front p));
         kept = record { over = after .over; same-entries = same-then (parting .kept .same-entries) (after .same-entries); within = after .within };
       }

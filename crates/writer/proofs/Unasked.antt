@@ -1,11 +1,12 @@
 -- Where a lens looks nothing up: no entry that is left is of a child that its matches ask for, or it holds no match.
-use mathlib.Core.Path.{_≡_, refl, sym, _∙_}
+use mathlib.Core.Path.{_≡_, refl, sym, ap, _∙_}
 use mathlib.Core.Bool.{Bool, true, false, cond}
 use mathlib.Core.List.{List, [], _∷_}
+use mathlib.Core.Option.{Option}
 use Prim.Native.Nat.{ℕ, zero, suc, _+_, _<_}
 use native.Mathlib.Omega.{arith}
 use lib.Dec.{ltb}
-use lib.ListN.{getD}
+use lib.ListN.{length, getD}
 use borrow.Author.Tests.{ltb-true, ltb-false}
 use types.Run.{OneOf, miss}
 use denote.Enum.Declared.{tagOf}
@@ -15,6 +16,7 @@ use Rattle.semantics.specs.Lens.{Book as Entries}
 use Rattle.semantics.specs.Table.{Trees, trees, treeAt, lens, holdsMatch, nestedMatch, nested}
 use Rattle.laws.specs.Basics.{not-both, false-of-not-true, all-of}
 use Rattle.laws.specs.Bookless.{asks, Unasked, asks-nothing}
+use Rattle.laws.specs.Met.{met-nothing}
 use Rattle.positions.specs.declared.Set.{Set}
 use Rattle.positions.specs.Positions.{holds}
 use Rattle.positions.proofs.Bits.{holds-past}
@@ -30,7 +32,7 @@ use Rattle.books.specs.declared.Book.{Book}
 use Rattle.books.specs.Listed.{entryAt, unusedFrom, unused}
 use Rattle.books.specs.Looking.{BookOver}
 use Rattle.decks.specs.Below.{BelowIs}
-use Rattle.writer.specs.Writing.{AsksNone}
+use Rattle.writer.specs.Writing.{AsksNone, MeetsThere, NoMatch}
 
 -- what holds of the child of each entry that was not taken holds of those of the book
 left-children :
@@ -86,17 +88,25 @@ none-asked {bytes} deck {node = node} {b = b} l known below-is over asks-none e 
           (λ asked. asks-none .none-shared (n, small, (below-is .each node l (known .inside) e) .asked-is n small ∙ asked, held)));
     }
 
--- the child of a match holds no match, so it looks nothing up
-pub inner-unasked :
+-- the child of a match holds no match,
+pub inner-flat :
     {bytes : Text} {prepared : List ℕ} {node child : ℕ}
     → LensNode bytes prepared node
     → OneLens (trees bytes) node child (λ l. lens (match child l))
-    → (l : Lens) → treeAt (trees bytes) child ≡ lens l → (b : Entries) → Unasked l b
+    → NoMatch bytes child
 unfolding nested nestedMatch
-inner-unasked {bytes} {node = node} {child = child} known s l e b =
+inner-flat {node = node} known s =
     let flat : holdsMatch (s .child) ≡ false = rw (s .tree-is) at (known .built .sized .sized .each node (known .inside) .not-nested) in
-    let same : s .child ≡ l = same-lens (s .child) l (sym (s .at-child) ∙ e) in
-    record { each = all-of (λ (x : Entry). asks l (x .child) ≡ false) b (λ x at-x. asks-nothing l (rw same at flat) (x .child)) }
+    record { holds-none = λ l e. rw (same-lens (s .child) l (sym (s .at-child) ∙ e)) at flat }
+
+-- so it looks nothing up,
+pub inner-unasked : {bytes : Text} {child : ℕ} → NoMatch bytes child → (l : Lens) → treeAt (trees bytes) child ≡ lens l → (b : Entries) → Unasked l b
+inner-unasked flat l e b =
+    record { each = all-of (λ (x : Entry). asks l (x .child) ≡ false) b (λ x at-x. asks-nothing l (flat .holds-none l e) (x .child)) }
+
+-- and meets none
+pub inner-met : {bytes : Text} {child : ℕ} (old : Option Text) (new : Text) → NoMatch bytes child → MeetsThere bytes child old new 0
+inner-met old new flat = record { meets = λ l e. ap length (met-nothing l (flat .holds-none l e) old new) }
 
 -- ---- A node with no lens below it
 
@@ -105,17 +115,17 @@ abbrev pub LeafTags : List ℕ
 LeafTags = 0 ∷ 1 ∷ 2 ∷ 3 ∷ 4 ∷ 5 ∷ 6 ∷ 7 ∷ []
 
 module _ {bytes : Text} {prepared : List ℕ} {node : ℕ} {r : Node} (known : LensNode bytes prepared node) (read : NodeRead bytes node r) where
-  -- it looks nothing up
+  -- it looks nothing up, and meets nothing
   leaf-asks :
       (κ : Kind)
       → r .kind ≡ κ
       → Shows bytes node κ
       → OneOf LeafTags (tagOf the-type κ)
-      → (l : Lens) × (treeAt (trees bytes) node ≡ lens l) × ((n : ℕ) → asks l n ≡ false)
-  unfolding Shows asks
-  leaf-asks (Copy a) e s h = (copy (s .child), s .tree-is, λ n. refl)
-  leaf-asks (Key a) e s h = (key (s .child), s .tree-is, λ n. refl)
-  leaf-asks (Const a b c) e s h = (const (s .child) (s .sheet-word) (s .default-word), s .tree-is, λ n. refl)
+      → (l : Lens) × (treeAt (trees bytes) node ≡ lens l) × ((n : ℕ) → asks l n ≡ false) × (holdsMatch l ≡ false)
+  unfolding Shows asks holdsMatch
+  leaf-asks (Copy a) e s h = (copy (s .child), s .tree-is, λ n. refl, refl)
+  leaf-asks (Key a) e s h = (key (s .child), s .tree-is, λ n. refl, refl)
+  leaf-asks (Const a b c) e s h = (const (s .child) (s .sheet-word) (s .default-word), s .tree-is, λ n. refl, refl)
   leaf-asks (Word a b) e s h = lens-read (Word a b) known read e refl
   leaf-asks (Range a b) e s h = lens-read (Range a b) known read e refl
   leaf-asks (PatternJoin a b) e s h = lens-read (PatternJoin a b) known read e refl
@@ -129,9 +139,14 @@ module _ {bytes : Text} {prepared : List ℕ} {node : ℕ} {r : Node} (known : L
   pub leaf-asks-none :
       {below : List ℕ} {b : Book} → BelowIs bytes below → OneOf LeafTags (tagOf the-type (r .kind)) → AsksNone below node b
   leaf-asks-none below-is leaf =
-      let (l, e, none-asked) = leaf-asks (r .kind) refl (read .shows) leaf in
+      let (l, e, none-asked, flat) = leaf-asks (r .kind) refl (read .shows) leaf in
       record {
         none-shared = λ shared.
             let (n, small, held, left) = shared in
             not-both held ((below-is .each node l (known .inside) e) .asked-is n small ∙ none-asked n);
       }
+
+  pub leaf-met : (old : Option Text) (new : Text) → OneOf LeafTags (tagOf the-type (r .kind)) → MeetsThere bytes node old new 0
+  leaf-met old new leaf =
+      let (l, e, none-asked, flat) = leaf-asks (r .kind) refl (read .shows) leaf in
+      inner-met old new (record { holds-none = λ m f. rw (same-lens l m (sym e ∙ f)) at flat })

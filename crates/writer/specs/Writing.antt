@@ -1,12 +1,14 @@
 -- What put and create owe, in terms of the definitions' `write`, and what they are given.
 use mathlib.Core.Path.{_≡_}
+use mathlib.Core.Bool.{false}
 use mathlib.Core.List.{List, _++_}
 use mathlib.Core.Option.{Option}
-use Prim.Native.Nat.{ℕ, _*_, _≤_, _<_}
+use Prim.Native.Nat.{ℕ, _+_, _*_, _%_, _^_, _≤_, _<_}
 use lib.ListN.{length, getD}
 use Rattle.semantics.specs.Text.{Text}
 use Rattle.semantics.specs.Lens.{Lens, match, Written, andThen, write, keyOf}
-use Rattle.semantics.specs.Table.{trees, treeAt, lens}
+use Rattle.semantics.specs.Table.{trees, treeAt, lens, holdsMatch}
+use Rattle.semantics.specs.Tally.{met}
 use Rattle.laws.specs.Bookless.{plain}
 use Rattle.positions.specs.Positions.{Shared}
 use Rattle.automaton.specs.Rows.{setAt}
@@ -38,7 +40,15 @@ pub record Ready (bytes prepared : List ℕ) (node : ℕ) (deck : Text) (below :
 
 -- No match at or below the node has a child of which an entry may be left.
 pub record AsksNone (below : List ℕ) (node : ℕ) (b : Book) : Type 0 where
-  pub none-shared : ¬ Shared (setAt below (3 * node)) (b .left)
+  pub none-shared : ¬ Shared (setAt below (4 * node)) (b .left)
+
+-- So many matches are met at a node.
+pub record MeetsThere (bytes : Text) (node : ℕ) (old : Option Text) (new : Text) (matches : ℕ) : Type 0 where
+  pub meets : (l : Lens) → treeAt (trees bytes) node ≡ lens l → length (met l old new) ≡ matches
+
+-- No match stands there or below.
+pub record NoMatch (bytes : Text) (node : ℕ) : Type 0 where
+  pub holds-none : (l : Lens) → treeAt (trees bytes) node ≡ lens l → holdsMatch l ≡ false
 
 -- What was written lies within the buffer.
 pub record Fitted (wrote : Wrote) (out : Text) : Type 0 where
@@ -49,9 +59,14 @@ WithinBuffer done out = Fitted (done .wrote) out
 
 -- ---- What a writer owes
 
--- What was written so far, from the book b on, is the text of the definitions, and, unless the buffer was too short, the book that is left is theirs.
-pub record Progress (bytes deck : Text) (w : Written) (b : Book) (before after : Text) (r : Done) : Type 0 where
+-- matches are counted modulo 2^64
+unfoldable pub wrapped : ℕ → ℕ
+wrapped n = n % 2 ^ 64
+
+-- What was written so far, from the book b on, is the text of the definitions, and k matches were met; unless the buffer was too short, the book that is left is theirs.
+pub record Progress (bytes deck : Text) (w : Written) (k : ℕ) (b : Book) (before after : Text) (r : Done) : Type 0 where
   pub bytes-are : Writes (w .text) before after (r .wrote)
+  pub met-is : wrapped (r .met) ≡ wrapped k
   pub book-is : ¬ (r .wrote ≡ Full) → unused (trees bytes) deck (r .book) ≡ w .book
   pub over : BookOver 4096 (r .book)
   pub same-entries : SameEntries b (r .book)
@@ -59,9 +74,9 @@ pub record Progress (bytes deck : Text) (w : Written) (b : Book) (before after :
 -- What a lens writes behind whatever was written before,
 pub record LensBehind (bytes deck : Text) (l : Lens) (old : Option Text) (new : Text) (done : Done) (mid after : Text) (r : Done) : Type 0 where
   pub progress :
-      (w : Written) (b : Book) (before : Text)
-      → Progress bytes deck w b before mid done
-      → Progress bytes deck (andThen w (write l old new)) b before after r
+      (w : Written) (k : ℕ) (b : Book) (before : Text)
+      → Progress bytes deck w k b before mid done
+      → Progress bytes deck (andThen w (write l old new)) (k + length (met l old new)) b before after r
 
 -- that of a node,
 pub record WritesBehind (bytes : Text) (node : ℕ) (deck : Text) (old : Option Text) (new : Text) (done : Done) (mid after : Text) (r : Done) : Type 0 where

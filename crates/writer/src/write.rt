@@ -39,7 +39,7 @@ ghost use Rattle.lens.specs.Emitting.{LensNode};
 ghost use Rattle.books.specs.Looking.{partAt, oldText};
 ghost use Rattle.bookless.specs.Bookless.{NewGiven, Given, GivenOld};
 ghost use Rattle.steps.specs.Steps.{EndsAre};
-ghost use Rattle.writer.specs.Writing.{LooksIn, Ready, AsksNone, Fitted, WithinBuffer, WritesBehind, WritesMatch, WritesMatches, WritesNext, EntryFound};
+ghost use Rattle.writer.specs.Writing.{LooksIn, Ready, AsksNone, MeetsThere, NoMatch, Fitted, WithinBuffer, WritesBehind, WritesMatch, WritesMatches, WritesNext, EntryFound};
 
 // What a node writes behind what was written, with no book.
 fn next_plain(
@@ -83,6 +83,7 @@ fn plain_behind(
     requires { ⌜ Ready (now bytes) (now prepared) (spot .node) (now deck) (now below) (done .book) ⌝ }
     requires { ⌜ GivenOld (now bytes) spot (now new) (now path) old (now deck) ⌝ }
     requires { ⌜ WithinBuffer done (now out) × AsksNone (now below) (spot .node) (done .book) ⌝ }
+    requires { ⌜ MeetsThere (now bytes) (spot .node) (oldText (now deck) old) (now new) matches ⌝ }
     ensures { λ r. ⌜ WritesBehind (now (bytes .entry)) (spot .node) (now (deck .entry)) (oldText (now (deck .entry)) old) (now (new .entry)) done (now (out .entry)) (now (out .exit)) r ⌝ }
 {
     let book = done.book;
@@ -323,7 +324,7 @@ fn find_entry(
     book.take(child, print, &card[0..n], deck)
 }
 
-// A match: put onto the entry that the key finds, or create where there is none.
+// A match: put onto the entry that the key finds, or create where there is none. Its child holds no match.
 fn write_match(
     done: Done,
     bytes: &[u8],
@@ -337,7 +338,7 @@ fn write_match(
     out: &mut [u8],
 ) -> Done
     requires { ⌜ Ready (now bytes) (now prepared) (spot .node) (now deck) (now below) (done .book) ⌝ }
-    requires { ⌜ NewGiven (now bytes) spot (now new) (now path) (now deck) ⌝ }
+    requires { ⌜ NewGiven (now bytes) spot (now new) (now path) (now deck) × NoMatch (now bytes) (spot .node) ⌝ }
     requires { ⌜ WithinBuffer done (now out) × (length (now card) ≡ 4098) ⌝ }
     ensures { λ r. ⌜ WritesMatch (now (bytes .entry)) (spot .node) (now (deck .entry)) (now (new .entry)) done (now (out .entry)) (now (out .exit)) r ⌝ }
 {

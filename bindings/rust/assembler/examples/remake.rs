@@ -21,7 +21,7 @@ fn main() {
         let assembled = assemble(&read("program.lens")).unwrap_or_else(|mistake| panic!("{name}: {mistake}"));
         let (table, source, edited) = (assembled.table, read("source"), read("edited"));
         let sheet = given(name, |out| Reference.get(&table, &source, out));
-        let result = given(name, |out| Reference.put(&table, &edited, &source, out));
+        let result = given(name, |out| Reference.put(&table, &edited, &source, out).map(|put| put.length));
         let created = given(name, |out| Reference.create(&table, &edited, out));
         write("program.table", &table);
         write("sheet", &sheet);

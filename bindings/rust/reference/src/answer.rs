@@ -1,7 +1,29 @@
-//! What a call answers: the length of its result, or a refusal with its node.
+//! What a call answers: the length of its result, or a refusal with its node. A
+//! put that gives a result says too what became of the entries.
 
 /// The length of the result (for check: the number of nodes), or a refusal.
 pub type Answer = Result<usize, Refusal>;
+
+/// The length and the tally of a put's result, or a refusal.
+pub type PutAnswer = Result<Put, Refusal>;
+
+/// A put's result.
+#[derive(Clone, Copy, Debug, PartialEq, Eq)]
+pub struct Put {
+    pub length: usize,
+    pub tally: Tally,
+}
+
+/// What became of the entries in a put.
+#[derive(Clone, Copy, Debug, Default, PartialEq, Eq)]
+pub struct Tally {
+    /// Entries of the sheet that took an old entry.
+    pub kept: usize,
+    /// Entries of the sheet that took none.
+    pub made: usize,
+    /// Old entries left unused.
+    pub dropped: usize,
+}
 
 /// A numbered refusal and the node it concerns.
 #[derive(Clone, Copy, Debug, PartialEq, Eq, Hash, PartialOrd, Ord)]

@@ -25,8 +25,8 @@ pub trait Calls {
     fn check(&self, table: &[u8]) -> Answer;
     /// Gives the sheet of a source.
     fn get(&self, table: &[u8], source: &[u8], out: &mut [u8]) -> Answer;
-    /// Gives a source from a sheet and an old source.
-    fn put(&self, table: &[u8], sheet: &[u8], source: &[u8], out: &mut [u8]) -> Answer;
+    /// Gives a source from a sheet and an old source, and a tally of the entries.
+    fn put(&self, table: &[u8], sheet: &[u8], source: &[u8], out: &mut [u8]) -> PutAnswer;
     /// Gives a source from a sheet only.
     fn create(&self, table: &[u8], sheet: &[u8], out: &mut [u8]) -> Answer;
 }
@@ -81,7 +81,7 @@ impl<R: Reads> Calls for R {
         hand_over(&program.get(source), out)
     }
 
-    fn put(&self, table: &[u8], sheet: &[u8], source: &[u8], out: &mut [u8]) -> Answer {
+    fn put(&self, table: &[u8], sheet: &[u8], source: &[u8], out: &mut [u8]) -> PutAnswer {
         let program = self.read(table)?;
         limit_lengths(&[sheet, source])?;
         admit_source(&program, source)?;
@@ -89,8 +89,9 @@ impl<R: Reads> Calls for R {
         if program.count_entries(source) > MAX_ENTRIES {
             return Err(Refusal::of_call(TOO_MANY_ENTRIES));
         }
-        let book = program.book(source);
-        hand_over(&program.put(sheet, source, book), out)
+        let written = program.put(sheet, source);
+        let length = hand_over(&written.source, out)?;
+        Ok(Put { length, tally: written.tally })
     }
 
     fn create(&self, table: &[u8], sheet: &[u8], out: &mut [u8]) -> Answer {

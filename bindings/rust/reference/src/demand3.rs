@@ -27,8 +27,7 @@ struct Whole<'a>(&'a dyn Calls);
 impl Whole<'_> {
     fn call(&self, call: Call, table: &[u8], sheet: &[u8], source: &[u8]) -> Text {
         let case = Case { call, table: table.to_vec(), sheet: sheet.to_vec(), source: source.to_vec(), lent: MAX_TEXT };
-        let outcome = run(self.0, &case);
-        outcome.answer.map(|length| outcome.buffer[..length].to_vec())
+        run(self.0, &case).text().map(<[u8]>::to_vec)
     }
 
     fn get(&self, table: &[u8], source: &[u8]) -> Text {

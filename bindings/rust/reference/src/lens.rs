@@ -3,6 +3,7 @@
 //! Every function here expects texts of the right language; the calls test this
 //! once for the whole text, and the typing rules pass it on to the parts.
 
+use crate::answer::Tally;
 use crate::program::Program;
 use crate::table::{Node, Side};
 
@@ -16,10 +17,14 @@ pub struct Entry {
     pub source: Vec<u8>,
 }
 
-/// The old entries that no match has taken yet, in the order of the old source.
+/// The old entries that no match has taken yet, in the order of the old source,
+/// and how many lookups there were.
 #[derive(Clone, Debug, Default)]
 pub struct Book {
     entries: Vec<Entry>,
+    /// Lookups that found an entry, and those that found none.
+    found: usize,
+    in_vain: usize,
 }
 
 impl Book {
@@ -29,9 +34,26 @@ impl Book {
 
     /// Takes out the first entry with this child and key.
     pub fn take(&mut self, child: usize, key: &[u8]) -> Option<Entry> {
-        let place = self.entries.iter().position(|entry| entry.child == child && entry.key == key)?;
-        Some(self.entries.remove(place))
+        let place = self.entries.iter().position(|entry| entry.child == child && entry.key == key);
+        match place {
+            Some(_) => self.found += 1,
+            None => self.in_vain += 1,
+        }
+        place.map(|place| self.entries.remove(place))
     }
+
+    /// What became of the entries so far: every match that a put passes makes one
+    /// lookup, and what is left at its end is dropped.
+    pub fn tally(&self) -> Tally {
+        Tally { kept: self.found, made: self.in_vain, dropped: self.entries.len() }
+    }
+}
+
+/// A put's new source, and what became of the entries.
+#[derive(Clone, Debug, PartialEq, Eq)]
+pub struct Written {
+    pub source: Vec<u8>,
+    pub tally: Tally,
 }
 
 impl Program {
@@ -42,11 +64,11 @@ impl Program {
         sheet
     }
 
-    /// The source that a sheet gives on an old source with its book.
-    pub fn put(&self, sheet: &[u8], old: &[u8], mut book: Book) -> Vec<u8> {
-        let mut source = Vec::new();
+    /// The source that a sheet gives on an old source.
+    pub fn put(&self, sheet: &[u8], old: &[u8]) -> Written {
+        let (mut book, mut source) = (self.book(old), Vec::new());
         self.put_at(self.root(), sheet, old, &mut book, &mut source);
-        source
+        Written { source, tally: book.tally() }
     }
 
     /// The source that a sheet gives with no old source.
@@ -71,7 +93,7 @@ impl Program {
             self.get_at(child, text, &mut sheet);
             entries.push(Entry { child, key: self.key(child, &sheet), source: text.to_vec() });
         });
-        Book { entries }
+        Book { entries, ..Book::default() }
     }
 
     /// The key of a sheet text of a node: key parts joined in order.

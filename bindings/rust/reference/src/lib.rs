@@ -1,11 +1,11 @@
 //! An independent implementation of lens programs over sheets and sources.
 //!
-//! It exists to be compared with the sheet engine. Both follow the same paper
-//! ("document 01") and share no code and, where there is a choice, no method:
-//! this one uses Thompson automata with free moves, plain vectors and whole
-//! results in memory, and prefers the obvious way to the fast one. It is still
-//! exact for texts of any length: whether a text has two cuts is decided on
-//! pairs of automaton states, never by trying texts.
+//! It exists to be compared with the sheet engine. Both follow the same papers
+//! ("document 01" and the requests of "document 02") and share no code and, where
+//! there is a choice, no method: this one uses Thompson automata with free moves,
+//! plain vectors and whole results in memory, and prefers the obvious way to the
+//! fast one. It is still exact for texts of any length: whether a text has two cuts
+//! is decided on pairs of automaton states, never by trying texts.
 //!
 //! Reading order:
 //!
@@ -25,6 +25,7 @@
 //! | [`census`] | what the programs and calls of a comparison are like |
 //! | [`trial`] | any implementation compared with this one, call by call |
 //! | [`demand3`] | the clauses of demand 3, tried on any implementation |
+//! | [`tallies`] | what must hold of a put's tally, tried on any implementation |
 
 pub mod ambiguity;
 pub mod answer;
@@ -38,9 +39,10 @@ pub mod lens;
 pub mod program;
 pub mod reach;
 pub mod table;
+pub mod tallies;
 pub mod trial;
 pub mod walk;
 
-pub use answer::{Answer, Refusal};
+pub use answer::{Answer, Put, PutAnswer, Refusal, Tally};
 pub use calls::{Calls, Reference, Remembering};
 pub use program::Program;

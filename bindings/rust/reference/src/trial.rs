@@ -1,10 +1,10 @@
 //! Any implementation of the calls compared with the reference, call by call:
-//! the answer and every byte of the buffer.
+//! the answer, a put's tally and every byte of the buffer.
 
 use std::collections::BTreeMap;
 use std::fmt;
 
-use crate::answer::Answer;
+use crate::answer::{Answer, PutAnswer, Refusal, Tally};
 use crate::calls::{Calls, Remembering};
 use crate::census::Census;
 use crate::generator::cases::{program_cases, Call, Case};
@@ -14,7 +14,16 @@ use crate::generator::random::Random;
 #[derive(Clone, Debug, PartialEq, Eq)]
 pub struct Outcome {
     pub answer: Answer,
+    /// Only a put's result has one.
+    pub tally: Option<Tally>,
     pub buffer: Vec<u8>,
+}
+
+impl Outcome {
+    /// The text that a get, a put or a create gave, or the refusal.
+    pub fn text(&self) -> Result<&[u8], Refusal> {
+        self.answer.map(|length| &self.buffer[..length])
+    }
 }
 
 /// What a lent buffer holds before the call: no two neighbours alike, so that a
@@ -25,22 +34,27 @@ pub fn lent_buffer(length: usize) -> Vec<u8> {
 
 pub fn run(calls: &dyn Calls, case: &Case) -> Outcome {
     let mut buffer = lent_buffer(case.lent);
-    let answer = match case.call {
-        Call::Check => calls.check(&case.table),
-        Call::Get => calls.get(&case.table, &case.source, &mut buffer),
-        Call::Put => calls.put(&case.table, &case.sheet, &case.source, &mut buffer),
-        Call::Create => calls.create(&case.table, &case.sheet, &mut buffer),
+    let (answer, tally) = match case.call {
+        Call::Check => (calls.check(&case.table), None),
+        Call::Get => (calls.get(&case.table, &case.source, &mut buffer), None),
+        Call::Put => without_tally(calls.put(&case.table, &case.sheet, &case.source, &mut buffer)),
+        Call::Create => (calls.create(&case.table, &case.sheet, &mut buffer), None),
     };
-    Outcome { answer, buffer }
+    Outcome { answer, tally, buffer }
+}
+
+/// A put's answer as that of any call, and the tally beside it.
+fn without_tally(answer: PutAnswer) -> (Answer, Option<Tally>) {
+    (answer.map(|put| put.length), answer.ok().map(|put| put.tally))
 }
 
 /// How often each call gave a result (0) or each refusal (its number).
 #[derive(Clone, Debug, Default)]
-pub struct Tally {
+pub struct Counts {
     counts: BTreeMap<(Call, u8), usize>,
 }
 
-impl Tally {
+impl Counts {
     pub fn note(&mut self, call: Call, answer: Answer) {
         let number = answer.map_or_else(|refusal| refusal.number, |_| 0);
         *self.counts.entry((call, number)).or_default() += 1;
@@ -56,7 +70,7 @@ impl Tally {
     }
 }
 
-impl fmt::Display for Tally {
+impl fmt::Display for Counts {
     fn fmt(&self, f: &mut fmt::Formatter<'_>) -> fmt::Result {
         for number in 0..=16 {
             let name = if number == 0 { "result".to_string() } else { format!("refusal {number}") };
@@ -82,7 +96,7 @@ pub struct Difference {
 /// What a comparison without a difference saw.
 #[derive(Clone, Debug, Default)]
 pub struct Compared {
-    pub tally: Tally,
+    pub counts: Counts,
     pub census: Census,
 }
 
@@ -99,7 +113,7 @@ pub fn compare(calls: &dyn Calls, seed: u64, programs: usize) -> Result<Compared
             if found != expected {
                 return Err(Box::new(Difference { case, expected, found }));
             }
-            compared.tally.note(case.call, expected.answer);
+            compared.counts.note(case.call, expected.answer);
             answered.push((case, expected.answer));
         }
         compared.census.note(&answered);

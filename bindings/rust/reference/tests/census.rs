@@ -9,8 +9,17 @@ use noontrough_reference::generator::draft::Draft;
 use noontrough_reference::trial::run;
 use noontrough_reference::Reference;
 
-/// The kinds of one put and its program.
+/// The kinds of one put and its program, save those of its tally.
 fn kinds(table: &[u8], sheet: &[u8], source: &[u8]) -> Vec<Kind> {
+    all_kinds(table, sheet, source).into_iter().filter(|kind| !kind.is_of_tally()).collect()
+}
+
+/// What became of the entries in one put.
+fn tally_kinds(table: &[u8], sheet: &[u8], source: &[u8]) -> Vec<Kind> {
+    all_kinds(table, sheet, source).into_iter().filter(|kind| kind.is_of_tally()).collect()
+}
+
+fn all_kinds(table: &[u8], sheet: &[u8], source: &[u8]) -> Vec<Kind> {
     let case =
         Case { call: Call::Put, table: table.to_vec(), sheet: sheet.to_vec(), source: source.to_vec(), lent: 4096 };
     let answer = run(&Reference, &case).answer;
@@ -102,6 +111,44 @@ fn many_empty_matches() {
     assert_eq!(met(99, b"a", b""), [Kind::EmptyMatches30]);
     assert_eq!(met(100, b"a", b""), [Kind::EmptyMatches30, Kind::EmptyMatches100]);
     assert_eq!(met(30, b"B", b"aA"), [], "the sheet has no such part");
+}
+
+#[test]
+fn what_became_of_the_entries() {
+    let of_k = |sheet: &[u8], source: &[u8]| tally_kinds(&program_k(), sheet, source);
+    assert_eq!(of_k(b"C;D;", b"AB1;C22;"), [Kind::EntryMade, Kind::EntryDropped, Kind::KeptMadeAndDropped]);
+    assert_eq!(of_k(b"AB;C;", b"AB1;C22;"), []);
+    assert_eq!(of_k(b"A;A;A;", b"A1;"), [Kind::EntryMade]);
+    assert_eq!(of_k(b"", b"A1;"), [Kind::EntryDropped, Kind::DroppedUnasked]);
+    assert_eq!(of_k(&b"A;".repeat(255), b""), [Kind::EntryMade]);
+    assert_eq!(of_k(&b"A;".repeat(256), b""), [Kind::EntryMade, Kind::MadeOver255]);
+
+    let of_empty = |sheet: &[u8], source: &[u8]| tally_kinds(&empty_matches(100), sheet, source);
+    let made = [Kind::EntryMade, Kind::EmptyEntryMade];
+    assert_eq!(of_empty(b"a", b"a"), [Kind::EmptyEntryKept]);
+    assert_eq!(of_empty(b"a", b""), made);
+    assert_eq!(of_empty(b"aA", b""), [&made[..], &[Kind::EntriesOfSeveralChildren]].concat());
+    let unasked = [Kind::EntryMade, Kind::EntryDropped, Kind::EmptyEntryMade, Kind::DroppedUnasked];
+    assert_eq!(of_empty(b"a", b"A"), unasked);
+    let many = [&made[..], &[Kind::MadeOver255]].concat();
+    assert_eq!(of_empty(&b"a".repeat(655), b""), many, "65,500 entries");
+    assert_eq!(of_empty(&b"a".repeat(656), b""), [&many[..], &[Kind::MadeOver65535]].concat(), "65,600 entries");
+}
+
+/// One arm reads two letters as one entry, the other as two.
+#[test]
+fn entries_by_other_arms() {
+    let mut draft = Draft::new();
+    let letter = draft.range(b'a', b'z');
+    let two = draft.pattern_join(letter, letter);
+    let (pair, single) = (draft.copy(two), draft.copy(letter));
+    let (pair, single) = (draft.matched(pair), draft.matched(single));
+    let mark = draft.replace(b"=", b"");
+    let (whole, halves) = (draft.lens_join(pair, mark), draft.lens_join(single, single));
+    draft.lens_union(whole, halves);
+    let table = draft.table();
+    assert_eq!(tally_kinds(&table, b"cd", b"ab="), []);
+    assert_eq!(tally_kinds(&table, b"cd", b"ab"), [Kind::EntriesByOtherArms]);
 }
 
 /// Nested unions of marks and entries: all arms can read the sheet of any.

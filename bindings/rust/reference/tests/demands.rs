@@ -11,7 +11,7 @@ use noontrough_reference::generator::cases::{program_cases, Call};
 use noontrough_reference::generator::faults::{mutated, refused as draw_refused, PROGRAM_REFUSALS};
 use noontrough_reference::generator::programs::accepted;
 use noontrough_reference::generator::random::Random;
-use noontrough_reference::trial::{compare, lent_buffer, run, Tally};
+use noontrough_reference::trial::{compare, lent_buffer, run, Counts};
 use noontrough_reference::Reference;
 
 const PROGRAMS: usize = 2000;
@@ -40,7 +40,7 @@ fn entries_with_different_keys_are_put_in_any_order() {
 #[test]
 fn every_refusal_comes_up_and_none_touches_the_buffer() {
     let mut random = Random::new(4);
-    let mut tally = Tally::default();
+    let mut counts = Counts::default();
     for _ in 0..PROGRAMS {
         for case in program_cases(&mut random) {
             let outcome = run(&Reference, &case);
@@ -50,12 +50,12 @@ fn every_refusal_comes_up_and_none_touches_the_buffer() {
                 Ok(length) => assert_eq!(outcome.buffer[length..], before[length..]),
                 Err(_) => assert_eq!(outcome.buffer, before),
             }
-            tally.note(case.call, outcome.answer);
+            counts.note(case.call, outcome.answer);
         }
     }
-    println!("{} calls\n{tally}", tally.total());
+    println!("{} calls\n{counts}", counts.total());
     for number in 0..=16 {
-        assert!(tally.of_number(number) >= 20, "{number} came up {} times", tally.of_number(number));
+        assert!(counts.of_number(number) >= 20, "{number} came up {} times", counts.of_number(number));
     }
 }
 
@@ -99,6 +99,6 @@ fn accepted_once_in_a_while(random: &mut Random) -> Vec<u8> {
 
 #[test]
 fn the_reference_agrees_with_itself() {
-    let tally = compare(&Reference, 7, 200).expect("no difference").tally;
-    assert!(tally.total() > 1000);
+    let counts = compare(&Reference, 7, 200).expect("no difference").counts;
+    assert!(counts.total() > 1000);
 }

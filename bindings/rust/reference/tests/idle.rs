@@ -2,9 +2,9 @@
 //! here is the reference with one thing changed.
 
 use noontrough_reference::calls::MAX_TEXT;
-use noontrough_reference::table::{kind, HEADER};
+use noontrough_reference::table::{kind, Node, Side, HEADER};
 use noontrough_reference::trial::compare;
-use noontrough_reference::{Answer, Calls, Reference, Refusal};
+use noontrough_reference::{Answer, Calls, Program, Put, PutAnswer, Reference, Refusal, Tally};
 
 /// The reference, with its answers changed by `after` once a call is done.
 struct Changed<F: Fn(Answer, &mut [u8]) -> Answer> {
@@ -19,9 +19,10 @@ impl<F: Fn(Answer, &mut [u8]) -> Answer> Calls for Changed<F> {
         let answer = Reference.get(table, source, out);
         (self.after)(answer, out)
     }
-    fn put(&self, table: &[u8], sheet: &[u8], source: &[u8], out: &mut [u8]) -> Answer {
+    fn put(&self, table: &[u8], sheet: &[u8], source: &[u8], out: &mut [u8]) -> PutAnswer {
         let answer = Reference.put(table, sheet, source, out);
-        (self.after)(answer, out)
+        let tally = answer.map_or(Tally::default(), |put| put.tally);
+        (self.after)(answer.map(|put| put.length), out).map(|length| Put { length, tally })
     }
     fn create(&self, table: &[u8], sheet: &[u8], out: &mut [u8]) -> Answer {
         let answer = Reference.create(table, sheet, out);
@@ -30,18 +31,18 @@ impl<F: Fn(Answer, &mut [u8]) -> Answer> Calls for Changed<F> {
 }
 
 /// The reference with another put.
-struct OtherPut<F: Fn(&[u8], &[u8], &[u8], &mut [u8]) -> Answer> {
+struct OtherPut<F: Fn(&[u8], &[u8], &[u8], &mut [u8]) -> PutAnswer> {
     put: F,
 }
 
-impl<F: Fn(&[u8], &[u8], &[u8], &mut [u8]) -> Answer> Calls for OtherPut<F> {
+impl<F: Fn(&[u8], &[u8], &[u8], &mut [u8]) -> PutAnswer> Calls for OtherPut<F> {
     fn check(&self, table: &[u8]) -> Answer {
         Reference.check(table)
     }
     fn get(&self, table: &[u8], source: &[u8], out: &mut [u8]) -> Answer {
         Reference.get(table, source, out)
     }
-    fn put(&self, table: &[u8], sheet: &[u8], source: &[u8], out: &mut [u8]) -> Answer {
+    fn put(&self, table: &[u8], sheet: &[u8], source: &[u8], out: &mut [u8]) -> PutAnswer {
         (self.put)(table, sheet, source, out)
     }
     fn create(&self, table: &[u8], sheet: &[u8], out: &mut [u8]) -> Answer {
@@ -122,17 +123,22 @@ fn a_byte_behind_the_result_is_found() {
 fn a_put_that_gives_the_old_source_is_found() {
     let put = |table: &[u8], sheet: &[u8], source: &[u8], out: &mut [u8]| {
         let before = out.to_vec();
-        Reference.put(table, sheet, source, out)?;
+        let put = Reference.put(table, sheet, source, out)?;
         out.copy_from_slice(&before);
         out.get_mut(..source.len()).ok_or(Refusal::of_call(16))?.copy_from_slice(source);
-        Ok(source.len())
+        Ok(Put { length: source.len(), ..put })
     };
     assert!(is_found(&OtherPut { put }));
 }
 
 #[test]
 fn a_put_that_only_creates_is_found() {
-    let put = |table: &[u8], sheet: &[u8], _: &[u8], out: &mut [u8]| Reference.create(table, sheet, out);
+    let put = |table: &[u8], sheet: &[u8], source: &[u8], out: &mut [u8]| {
+        let before = out.to_vec();
+        let put = Reference.put(table, sheet, source, out)?;
+        out.copy_from_slice(&before);
+        Ok(Put { length: Reference.create(table, sheet, out)?, ..put })
+    };
     assert!(is_found(&OtherPut { put }));
 }
 
@@ -163,9 +169,103 @@ fn a_put_that_gives_up_long_old_entries_is_found() {
             return answer;
         }
         out.copy_from_slice(&before);
-        Reference.create(table, sheet, out)
+        Ok(Put { length: Reference.create(table, sheet, out)?, ..answer? })
     };
     assert!(is_found(&OtherPut { put }));
+}
+
+/// What a tally is counted from.
+struct Counted<'a> {
+    program: &'a Program,
+    sheet: &'a [u8],
+    old: &'a [u8],
+    new: &'a [u8],
+}
+
+impl Counted<'_> {
+    fn old_entries(&self) -> usize {
+        self.program.count_entries(self.old)
+    }
+
+    /// The parts of a text that a match reads, those of the sheet by its left arms.
+    fn matched(&self, side: Side) -> Vec<(usize, Vec<u8>)> {
+        let mut found = Vec::new();
+        let text = if side == Side::Source { self.new } else { self.sheet };
+        self.program.each_part(side, text, &mut |node, part| {
+            if let Node::Match(child) = *self.program.node(node) {
+                found.push((child, part.to_vec()));
+            }
+        });
+        found
+    }
+}
+
+/// Whether the comparison finds an engine that is the reference but for its
+/// tallies.
+fn tally_is_found(tally: impl Fn(Tally, &Counted) -> Tally) -> bool {
+    let put = |table: &[u8], sheet: &[u8], source: &[u8], out: &mut [u8]| {
+        let put = Reference.put(table, sheet, source, out)?;
+        let program = Program::read(table)?;
+        let counted = Counted { program: &program, sheet, old: source, new: &out[..put.length] };
+        Ok(Put { tally: tally(put.tally, &counted), ..put })
+    };
+    is_found(&OtherPut { put })
+}
+
+#[test]
+fn the_right_tally_is_not_found() {
+    assert!(!tally_is_found(|tally, _| tally));
+}
+
+#[test]
+fn a_tally_without_counts_is_found() {
+    assert!(tally_is_found(|_, _| Tally::default()));
+}
+
+#[test]
+fn kept_and_made_changed_round_are_found() {
+    assert!(tally_is_found(|tally, _| Tally { kept: tally.made, made: tally.kept, ..tally }));
+}
+
+#[test]
+fn dropped_as_what_the_sheet_has_less_is_found() {
+    assert!(tally_is_found(|tally, counted| {
+        let dropped = counted.old_entries().saturating_sub(tally.kept + tally.made);
+        Tally { dropped, ..tally }
+    }));
+}
+
+#[test]
+fn dropped_without_what_nobody_asked_for_is_found() {
+    assert!(tally_is_found(|tally, counted| {
+        let asked: Vec<usize> = counted.matched(Side::Source).into_iter().map(|(child, _)| child).collect();
+        let book = counted.program.book(counted.old);
+        let unasked = book.entries().iter().filter(|entry| !asked.contains(&entry.child)).count();
+        Tally { dropped: tally.dropped - unasked, ..tally }
+    }));
+}
+
+#[test]
+fn made_without_empty_entries_is_found() {
+    assert!(tally_is_found(|tally, counted| {
+        let empty = counted.matched(Side::Source).iter().filter(|(_, text)| text.is_empty()).count();
+        Tally { made: tally.made.saturating_sub(empty), ..tally }
+    }));
+}
+
+#[test]
+fn made_by_a_reading_of_the_sheet_is_found() {
+    assert!(tally_is_found(|tally, counted| {
+        let read = counted.matched(Side::Sheet).len();
+        Tally { made: read.saturating_sub(tally.kept), ..tally }
+    }));
+}
+
+/// (A count in two bytes is found by longer comparisons, and by the cases of
+/// `tally.rs`.)
+#[test]
+fn made_in_a_byte_is_found() {
+    assert!(tally_is_found(|tally, _| Tally { made: tally.made % 256, ..tally }));
 }
 
 #[test]

@@ -1,15 +1,29 @@
 //! The linked engine as an implementation of the reference's calls.
 
-use noontrough::Answer;
-use noontrough_reference::{Answer as Expected, Calls, Refusal};
+use noontrough::{Answer, PutAnswer};
+use noontrough_reference::{Answer as Expected, Calls, Put, PutAnswer as ExpectedPut, Refusal, Tally};
 
 pub struct Engine;
 
 fn as_reference(answer: Answer) -> Expected {
     match answer {
         Answer::Result { length } => Ok(length),
-        Answer::Refusal { number, node } => Err(Refusal { number: byte(number), node: byte(node) }),
+        Answer::Refusal { number, node } => Err(refusal(number, node)),
     }
+}
+
+fn put_as_reference(answer: PutAnswer) -> ExpectedPut {
+    match answer {
+        PutAnswer::Result { length, tally } => {
+            let noontrough::Tally { kept, made, dropped } = tally;
+            Ok(Put { length, tally: Tally { kept, made, dropped } })
+        }
+        PutAnswer::Refusal { number, node } => Err(refusal(number, node)),
+    }
+}
+
+fn refusal(number: u64, node: u64) -> Refusal {
+    Refusal { number: byte(number), node: byte(node) }
 }
 
 fn byte(number: u64) -> u8 {
@@ -25,8 +39,8 @@ impl Calls for Engine {
         as_reference(noontrough::get(table, source, out))
     }
 
-    fn put(&self, table: &[u8], sheet: &[u8], source: &[u8], out: &mut [u8]) -> Expected {
-        as_reference(noontrough::put(table, sheet, source, out))
+    fn put(&self, table: &[u8], sheet: &[u8], source: &[u8], out: &mut [u8]) -> ExpectedPut {
+        put_as_reference(noontrough::put(table, sheet, source, out))
     }
 
     fn create(&self, table: &[u8], sheet: &[u8], out: &mut [u8]) -> Expected {

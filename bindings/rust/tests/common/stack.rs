@@ -58,7 +58,7 @@ impl Case {
         let answer = match call {
             Call::Check => check(&self.table),
             Call::Get => get(&self.table, &self.source, &mut out),
-            Call::Put => put(&self.table, &self.sheet, &self.old, &mut out),
+            Call::Put => put(&self.table, &self.sheet, &self.old, &mut out).into(),
             Call::Create => create(&self.table, &self.sheet, &mut out),
         };
         assert!(matches!(answer, Answer::Result { .. }), "{}: {call:?} gives {answer:?}", self.name);

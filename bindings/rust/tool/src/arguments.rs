@@ -27,6 +27,13 @@ struct Form {
     help: &'static str,
 }
 
+impl Form {
+    /// Whether something is told beside a result, and can be left out.
+    fn tells_more(&self) -> bool {
+        self.command == Command::Put
+    }
+}
+
 /// Every other operand is a file.
 const NODE: &str = "NODE";
 
@@ -54,7 +61,10 @@ const FORMS: [Form; 7] = [
         operands: &["PROGRAM", "SHEET", "SOURCE"],
         brief: "puts an edited sheet back onto its source",
         help: "Writes the new source, byte for byte. To replace the old one:\n\
-               noontrough put PROGRAM SHEET SOURCE -o SOURCE",
+               noontrough put PROGRAM SHEET SOURCE -o SOURCE\n\n\
+               Then it tells on standard error what became of the entries, in one line such as\n\
+               'kept 1 made 1 dropped 1': entries of the sheet that took an old entry, entries of\n\
+               the sheet that took none, and old entries left unused.",
     },
     Form {
         command: Command::Create,
@@ -97,6 +107,9 @@ const OPTIONS: &str = "  -o, --output FILE   write the result to FILE ('-': stan
                       save the SOURCE of put
   -h, --help          this text";
 
+/// Only put tells anything beside a result.
+const QUIET: &str = "  -q, --quiet         put: don't tell what became of the entries";
+
 const VERSION: &str = "  -V, --version       the version";
 
 const STATUS: &str = "\
@@ -111,6 +124,8 @@ pub struct Call {
     /// Only `where` has one.
     pub node: Option<usize>,
     pub output: Place,
+    /// A put's tally is not told.
+    pub is_quiet: bool,
 }
 
 #[derive(Debug)]
@@ -162,11 +177,12 @@ struct Words<'a> {
     operands: Vec<&'a OsStr>,
     outputs: Vec<&'a OsStr>,
     is_help: bool,
+    is_quiet: bool,
 }
 
 fn read_call(form: &Form, words: &[OsString]) -> Result<Request, Failure> {
     let wrong = |message: String| Failure::Trouble(format!("noontrough {}: {message}\n{}", form.name, usage(form)));
-    let found = sort(words).map_err(wrong)?;
+    let found = sort(form, words).map_err(wrong)?;
     if found.is_help {
         return Ok(Request::Tell(help_of(form)));
     }
@@ -181,11 +197,11 @@ fn read_call(form: &Form, words: &[OsString]) -> Result<Request, Failure> {
     }
     let output = found.outputs.first().map_or(Place::Standard, |file| Place::of(file));
     let (files, node) = operands(form, &found.operands).map_err(wrong)?;
-    Ok(Request::Run(Call { command: form.command, files, node, output }))
+    Ok(Request::Run(Call { command: form.command, files, node, output, is_quiet: found.is_quiet }))
 }
 
 /// Options and operands told apart; behind `--` all are operands.
-fn sort(words: &[OsString]) -> Result<Words<'_>, String> {
+fn sort<'a>(form: &Form, words: &'a [OsString]) -> Result<Words<'a>, String> {
     let mut found = Words::default();
     let mut rest = words.iter();
     while let Some(word) = rest.next() {
@@ -194,6 +210,8 @@ fn sort(words: &[OsString]) -> Result<Words<'_>, String> {
             found.operands.extend(rest.by_ref().map(OsString::as_os_str));
         } else if is_one_of(word, ["-h", "--help"]) {
             found.is_help = true;
+        } else if form.tells_more() && is_one_of(word, ["-q", "--quiet"]) {
+            found.is_quiet = true;
         } else if is_one_of(word, ["-o", "--output"]) {
             let file = rest.next().filter(|file| !file.is_empty());
             found.outputs.push(file.ok_or(format!("behind {shown} a file is missing"))?);
@@ -231,7 +249,8 @@ fn is_one_of<const N: usize>(word: &OsStr, words: [&str; N]) -> bool {
 }
 
 fn usage(form: &Form) -> String {
-    format!("usage: noontrough {} {} [-o FILE]", form.name, form.operands.join(" "))
+    let quiet = if form.tells_more() { " [-q]" } else { "" };
+    format!("usage: noontrough {} {} [-o FILE]{quiet}", form.name, form.operands.join(" "))
 }
 
 fn usage_of_all() -> String {
@@ -241,7 +260,8 @@ fn usage_of_all() -> String {
 
 fn help_of(form: &Form) -> String {
     let brief = sentence_case(form.brief);
-    format!("{}\n{brief}.\n\n{}\n\n{FILES}\n\n{OPTIONS}\n\n{STATUS}\n", usage(form), form.help)
+    let quiet = if form.tells_more() { format!("\n{QUIET}") } else { String::new() };
+    format!("{}\n{brief}.\n\n{}\n\n{FILES}\n\n{OPTIONS}{quiet}\n\n{STATUS}\n", usage(form), form.help)
 }
 
 fn help_of_all() -> String {
@@ -251,7 +271,7 @@ fn help_of_all() -> String {
         .collect();
     format!(
         "usage: noontrough COMMAND ... [-o FILE]\nSheets from kerning sources, and edited sheets back into sources.\n\n{}\n\n\
-         'noontrough COMMAND --help' tells more of a command.\n\n{FILES}\n\n{OPTIONS}\n{VERSION}\n\n{STATUS}\n",
+         'noontrough COMMAND --help' tells more of a command.\n\n{FILES}\n\n{OPTIONS}\n{QUIET}\n{VERSION}\n\n{STATUS}\n",
         lines.join("\n")
     )
 }

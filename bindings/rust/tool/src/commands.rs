@@ -1,6 +1,6 @@
 //! What each command does.
 
-use noontrough::{Answer, MAX_TEXT};
+use noontrough::{Answer, Tally, MAX_TEXT};
 use noontrough_assembler::show;
 use noontrough_reference::table::Table;
 
@@ -11,19 +11,25 @@ use crate::files::{self, Place};
 use crate::program::{self, Program};
 use crate::refusals::{told, wrong_sizes, Text, Texts};
 
-/// What is to be written.
-pub fn run(call: &Call) -> Result<Vec<u8>, Failure> {
+/// What is to be written, and what became of the entries if it is a put's.
+pub struct Done {
+    pub bytes: Vec<u8>,
+    pub tally: Option<Tally>,
+}
+
+pub fn run(call: &Call) -> Result<Done, Failure> {
     spare_inputs(call)?;
     let program = program::load(&call.files[0])?;
-    match call.command {
+    let bytes = match call.command {
         Command::Check => check(&program),
         Command::Get => get(&program, &call.files[1]),
-        Command::Put => put(&program, &call.files[1], &call.files[2]),
+        Command::Put => return put(&program, &call.files[1], &call.files[2]),
         Command::Create => create(&program, &call.files[1]),
         Command::Assemble => assemble(program),
         Command::Show => shown(&program),
         Command::Where => origin(&program, call.node.unwrap_or(0)),
-    }
+    };
+    bytes.map(|bytes| Done { bytes, tally: None })
 }
 
 /// The result must not take the place of a file that it was made from: a sheet in
@@ -63,9 +69,15 @@ fn get(program: &Program, source: &Place) -> Result<Vec<u8>, Failure> {
     given(program, &texts, |out| noontrough::get(&program.table, texts.source(), out))
 }
 
-fn put(program: &Program, sheet: &Place, source: &Place) -> Result<Vec<u8>, Failure> {
+fn put(program: &Program, sheet: &Place, source: &Place) -> Result<Done, Failure> {
     let texts = Texts { sheet: Some(text(sheet)?), source: Some(text(source)?) };
-    given(program, &texts, |out| noontrough::put(&program.table, texts.sheet(), texts.source(), out))
+    let mut tally = None;
+    let bytes = given(program, &texts, |out| {
+        let answer = noontrough::put(&program.table, texts.sheet(), texts.source(), out);
+        tally = answer.tally();
+        answer.into()
+    })?;
+    Ok(Done { bytes, tally })
 }
 
 fn create(program: &Program, sheet: &Place) -> Result<Vec<u8>, Failure> {

@@ -11,7 +11,7 @@ use std::sync::atomic::{AtomicBool, Ordering};
 
 pub const INPUT: RawFd = 0;
 pub const OUTPUT: RawFd = 1;
-const ERRORS: RawFd = 2;
+pub const ERRORS: RawFd = 2;
 
 extern "C" {
     fn fcntl(fd: c_int, command: c_int, ...) -> c_int;

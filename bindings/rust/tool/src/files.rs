@@ -11,7 +11,7 @@ use std::os::unix::fs::{fchown, FileTypeExt, MetadataExt, OpenOptionsExt, Permis
 use std::path::{Path, PathBuf};
 use std::time::{SystemTime, UNIX_EPOCH};
 
-use crate::descriptors::{self, INPUT, OUTPUT};
+use crate::descriptors::{self, ERRORS, INPUT, OUTPUT};
 use crate::failure::Failure;
 
 /// Where a text comes from or goes to.
@@ -64,6 +64,13 @@ pub fn is_same_file(output: &Place, input: &Place) -> bool {
     };
     let input = identity(input.path_or("/dev/stdin"));
     input.is_some() && identity(output.path_or("/dev/stdout")) == input
+}
+
+/// Whether standard error goes into the same file as a result, so that what is
+/// told there would stand behind it.
+pub fn is_told_into(output: &Place) -> bool {
+    let errors = Place::File(PathBuf::from("/dev/stderr"));
+    output.descriptor(OUTPUT) == Some(ERRORS) || is_same_file(output, &errors)
 }
 
 /// No program or text comes near this; what is longer is not read to its end.

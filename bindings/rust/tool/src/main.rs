@@ -1,13 +1,15 @@
 //! `noontrough`: lens programs, sheets and sources on the command line.
 //!
-//! The answers are the linked engine's, which is proved. What this program adds
-//! is not: where a refusal comes from, told on standard error, and the two numbers
-//! of positions that `check` writes behind its `ok`. They are worked out by the
-//! reference, by the assembler and here.
+//! The answers are the linked engine's, which is proved, and so are the counts of
+//! entries that `put` tells on standard error. What this program adds is not: where
+//! a refusal comes from, told there too, and the two numbers of positions that
+//! `check` writes behind its `ok`. They are worked out by the reference, by the
+//! assembler and here.
 //!
 //! It never harms a file. The exit status is 0 for a result, 1 for a refusal and
 //! 2 for wrong usage or a file that can't be read or written; standard output and
-//! the file of `-o` get a whole result or nothing.
+//! the file of `-o` get a whole result or nothing. What is only told changes no
+//! status: a result that is written is 0, also where standard error is closed.
 //!
 //! | Module | Holds |
 //! |---|---|
@@ -34,12 +36,14 @@ mod texts;
 mod words;
 
 use std::ffi::OsString;
+use std::io::{self, Write};
 use std::panic::catch_unwind;
 use std::process::ExitCode;
 
-use arguments::Request;
+use arguments::{Call, Request};
 use failure::Failure;
 use files::Place;
+use noontrough::Tally;
 
 fn main() -> ExitCode {
     descriptors::let_writes_fail();
@@ -56,6 +60,19 @@ fn main() -> ExitCode {
 fn run(words: &[OsString]) -> Result<(), Failure> {
     match arguments::read(words)? {
         Request::Tell(text) => files::write(&Place::Standard, text.as_bytes()),
-        Request::Run(call) => files::write(&call.output, &commands::run(&call)?),
+        Request::Run(call) => {
+            let done = commands::run(&call)?;
+            files::write(&call.output, &done.bytes)?;
+            done.tally.into_iter().for_each(|tally| tell(&call, tally));
+            Ok(())
+        }
+    }
+}
+
+/// Tells what became of the entries, unless it is not wanted or would stand in the
+/// new source. The result is written by now, so nothing is wrong if this can't be.
+fn tell(call: &Call, tally: Tally) {
+    if !call.is_quiet && !files::is_told_into(&call.output) {
+        let _ = writeln!(io::stderr(), "{tally}");
     }
 }

@@ -94,7 +94,7 @@ fn many_entries(program: &Program, source: &Text) -> Option<String> {
 fn long_result(program: &Program, given: &Texts) -> Option<String> {
     let reading = Reading::read(&program.table).ok()?;
     let result = match (&given.sheet, &given.source) {
-        (Some(sheet), Some(source)) => reading.put(&sheet.bytes, &source.bytes, reading.book(&source.bytes)),
+        (Some(sheet), Some(source)) => reading.put(&sheet.bytes, &source.bytes).source,
         (Some(sheet), None) => reading.create(&sheet.bytes),
         (None, Some(source)) => reading.get(&source.bytes),
         (None, None) => return None,

@@ -9,11 +9,12 @@
 //! check                              refused 7 4 in both
 //! get "AB1;"                         gives "AB;"
 //! put "C;" on 2 times "C1;"          gives "C1;"
+//! put "C;" on "C1;D2;"               gives "C1;"     kept 1 made 0 dropped 1
 //! create "AB;" into 2                refused 16 0
 //! ```
 //!
 //! `in both` says which line of the text made the node. `into 2` lends a buffer
-//! of 2 bytes; otherwise it is 4,096 bytes long. A line that ends in a backslash
+//! of 2 bytes; otherwise it is 4,096 bytes long. A put's tally may be said or not. A line that ends in a backslash
 //! goes on in the next. Each call is made on the linked engine and on the
 //! reference, and both must do what the line says.
 //!
@@ -32,7 +33,7 @@ use common::*;
 use linked::Engine;
 use noontrough_assembler::line::{quote_text, tokens, Token};
 use noontrough_assembler::{assemble, Origin};
-use noontrough_reference::{Calls, Reference, Refusal};
+use noontrough_reference::{Calls, Reference, Refusal, Tally};
 
 const BUFFER: usize = 4096;
 
@@ -82,8 +83,19 @@ struct Subject {
 #[derive(Debug, PartialEq, Eq)]
 enum Saying {
     Ok(usize),
-    Gives(Vec<u8>),
+    /// With a tally if it is a put's; a line need not say it.
+    Gives(Vec<u8>, Option<Tally>),
     Refused(Refusal),
+}
+
+impl Saying {
+    /// Whether it is what happened, as far as it says.
+    fn holds(&self, happened: &Saying) -> bool {
+        match (self, happened) {
+            (Saying::Gives(text, None), Saying::Gives(given, _)) => text == given,
+            _ => self == happened,
+        }
+    }
 }
 
 /// Reads a line's tokens from left to right.
@@ -131,6 +143,12 @@ impl Reader<'_> {
         }
     }
 
+    /// `kept 1 made 1 dropped 1`, if it is there.
+    fn tally(&mut self) -> Option<Tally> {
+        let mut count = |name: &str| self.word(name).then(|| self.number());
+        Some(Tally { kept: count("kept")?, made: count("made")?, dropped: count("dropped")? })
+    }
+
     fn lent(&mut self) -> usize {
         if self.word("into") {
             self.number()
@@ -170,11 +188,13 @@ fn outcome(calls: &dyn Calls, table: &[u8], wanted: &Wanted) -> Saying {
     let mut out = vec![b'?'; BUFFER.max(8192)];
     let answer = match wanted {
         Wanted::Check => return calls.check(table).map_or_else(Saying::Refused, Saying::Ok),
-        Wanted::Get(source, lent) => calls.get(table, source, &mut out[..*lent]),
-        Wanted::Put(sheet, source, lent) => calls.put(table, sheet, source, &mut out[..*lent]),
-        Wanted::Create(sheet, lent) => calls.create(table, sheet, &mut out[..*lent]),
+        Wanted::Get(source, lent) => calls.get(table, source, &mut out[..*lent]).map(|length| (length, None)),
+        Wanted::Put(sheet, source, lent) => {
+            calls.put(table, sheet, source, &mut out[..*lent]).map(|put| (put.length, Some(put.tally)))
+        }
+        Wanted::Create(sheet, lent) => calls.create(table, sheet, &mut out[..*lent]).map(|length| (length, None)),
     };
-    answer.map_or_else(Saying::Refused, |length| Saying::Gives(out[..length].to_vec()))
+    answer.map_or_else(Saying::Refused, |(length, tally)| Saying::Gives(out[..length].to_vec(), tally))
 }
 
 /// What the rest of a line says; a refusal of a node must name its line.
@@ -182,7 +202,7 @@ fn saying(reader: &mut Reader, subject: &Subject) -> Result<Saying, String> {
     let said = if reader.word("ok") {
         Saying::Ok(reader.number())
     } else if reader.word("gives") {
-        Saying::Gives(reader.text())
+        Saying::Gives(reader.text(), reader.tally())
     } else if reader.word("refused") {
         let refusal = Refusal { number: reader.number() as u8, node: reader.number() as u8 };
         let name = match reader.rest {
@@ -209,22 +229,25 @@ fn saying(reader: &mut Reader, subject: &Subject) -> Result<Saying, String> {
 fn told(saying: &Saying) -> String {
     match saying {
         Saying::Ok(count) => format!("ok {count}"),
-        Saying::Gives(text) => format!("gives {}", quote_text(text)),
+        Saying::Gives(text, None) => format!("gives {}", quote_text(text)),
+        Saying::Gives(text, Some(Tally { kept, made, dropped })) => {
+            format!("gives {} kept {kept} made {made} dropped {dropped}", quote_text(text))
+        }
         Saying::Refused(refusal) => format!("refused {} {}", refusal.number, refusal.node),
     }
 }
 
 /// What came of the calls of the guide so far.
 #[derive(Default)]
-struct Tally {
+struct Run {
     count: usize,
     faults: Vec<String>,
     /// The refusals that were shown under a heading with their number.
     shown: BTreeSet<u8>,
 }
 
-impl Tally {
-    fn run(&mut self, block: &Block, subject: &Subject, call: &str) {
+impl Run {
+    fn call(&mut self, block: &Block, subject: &Subject, call: &str) {
         let tokens = tokens(call.as_bytes()).unwrap_or_else(|error| panic!("{call}: {error}"));
         if tokens.is_empty() {
             return;
@@ -238,7 +261,7 @@ impl Tally {
             self.shown.extend((refusal.number == heading).then_some(heading));
         }
         let wrong = match saying(&mut reader, subject) {
-            Ok(said) if said == happened => return,
+            Ok(said) if said.holds(&happened) => return,
             Ok(_) => "but".to_string(),
             Err(error) => format!("{error};"),
         };
@@ -248,7 +271,7 @@ impl Tally {
 
 #[test]
 fn programs_and_calls() {
-    let mut tally = Tally::default();
+    let mut run = Run::default();
     let mut subject: Option<Subject> = None;
     let mut waiting = false;
     for block in blocks(&page("docs/GUIDE.md")) {
@@ -261,16 +284,16 @@ fn programs_and_calls() {
             "calls" => {
                 waiting = false;
                 let subject = subject.as_ref().expect("a program stands above the calls");
-                block.text.replace("\\\n", " ").lines().for_each(|call| tally.run(&block, subject, call));
+                block.text.replace("\\\n", " ").lines().for_each(|call| run.call(&block, subject, call));
             }
             console if console.starts_with("console ") => (),
             other => panic!("line {}: a block marked '{other}' is not run", block.line),
         }
     }
     assert!(!waiting, "the last program has no calls");
-    assert!(tally.faults.is_empty(), "\n{}", tally.faults.join("\n"));
-    assert_eq!(tally.shown, (1..=16).collect(), "every refusal is shown under its own heading");
-    println!("{} calls", tally.count);
+    assert!(run.faults.is_empty(), "\n{}", run.faults.join("\n"));
+    assert_eq!(run.shown, (1..=16).collect(), "every refusal is shown under its own heading");
+    println!("{} calls", run.count);
 }
 
 fn read_program(block: &Block) -> Subject {

@@ -25,7 +25,8 @@ fn the_example_of_the_readme() {
     folder.write("source", between(&source));
     folder.gives("noontrough get program.lens source", &column(0));
     folder.write("edited", column(1));
-    folder.gives("noontrough put program.lens edited source", &between(&result));
+    // T;comma and A;V stay, A;W goes.
+    folder.puts("noontrough put program.lens edited source", &between(&result), "kept 2 made 0 dropped 1");
 }
 
 /// Each step, and the source that is left, worked out from the example's files.
@@ -46,6 +47,7 @@ fn the_demo() {
         "{}",
         done.stdout
     );
+    assert!(done.stderr.starts_with("kept 8 made 1 dropped 1\n"), "V;A is made, A;W dropped: {}", done.stderr);
     assert!(done.stderr.contains("wrong:5:6: 'A;V;- 80' cannot go on here; '1' to '9' could"), "{}", done.stderr);
 }
 

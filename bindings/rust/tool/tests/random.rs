@@ -1,11 +1,12 @@
 //! Random programs and texts through the tool: it ends with one of its exit
 //! statuses, writes nothing to standard output beside a refusal, tells the engine's
-//! number and node of it, and otherwise gives what the linked engine gives.
+//! number and node of it, and otherwise gives what the linked engine gives, and
+//! tells a put's tally.
 
 mod common;
 
 use common::*;
-use noontrough::{Answer, MAX_TEXT};
+use noontrough::{Answer, Tally, MAX_TEXT};
 use noontrough_assembler::{assemble, show};
 use noontrough_reference::generator::cases::{program_cases, Call, Case};
 use noontrough_reference::generator::faults::mutated;
@@ -16,19 +17,23 @@ use noontrough_reference::generator::texts::garbage;
 const PROGRAMS: usize = 100;
 const TEXTS: usize = 400;
 
-/// The engine's answer, and the bytes that it gave.
-fn answer(case: &Case) -> (Answer, Vec<u8>) {
-    let mut out = vec![0; MAX_TEXT];
+/// The engine's answer, the bytes that it gave, and a put's tally.
+fn answer(case: &Case) -> (Answer, Vec<u8>, Option<Tally>) {
+    let (mut out, mut tally) = (vec![0; MAX_TEXT], None);
     let answer = match case.call {
         Call::Check => noontrough::check(&case.table),
         Call::Get => noontrough::get(&case.table, &case.source, &mut out),
-        Call::Put => noontrough::put(&case.table, &case.sheet, &case.source, &mut out),
+        Call::Put => {
+            let answer = noontrough::put(&case.table, &case.sheet, &case.source, &mut out);
+            tally = answer.tally();
+            answer.into()
+        }
         Call::Create => noontrough::create(&case.table, &case.sheet, &mut out),
     };
     if let Answer::Result { length } = answer {
         out.truncate(length);
     }
-    (answer, out)
+    (answer, out, tally)
 }
 
 /// Makes the same call in a shell. True for a refusal.
@@ -46,8 +51,9 @@ fn agrees(folder: &Folder, case: &Case) -> bool {
     let done = folder.sh(line);
     let result = folder.read("result");
     match answer(case) {
-        (Answer::Result { length }, out) => {
-            assert_eq!((done.status, done.stderr.as_str()), (0, ""), "{case:?}");
+        (Answer::Result { length }, out, tally) => {
+            let told = tally.map_or(String::new(), |tally| format!("{tally}\n"));
+            assert_eq!((done.status, done.stderr), (0, told), "{case:?}");
             if case.call == Call::Check {
                 assert!(result.starts_with(format!("ok {length} ").as_bytes()), "{case:?}");
             } else {
@@ -55,7 +61,7 @@ fn agrees(folder: &Folder, case: &Case) -> bool {
             }
             false
         }
-        (Answer::Refusal { number, node }, _) => {
+        (Answer::Refusal { number, node }, ..) => {
             assert_eq!((done.status, result.len()), (1, 0), "{case:?}: {}", done.stderr);
             let told = done.stderr.contains(&format!("refused {number} {node}: "));
             // What looks like a text is read as one, and told in the assembler's words.

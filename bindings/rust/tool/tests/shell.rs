@@ -9,14 +9,19 @@ use common::*;
 
 const EXAMPLES: [&str; 3] = ["k", "composers", "kerning"];
 
+/// What a put of each example's `edited` on its `source` tells, counted by hand: D
+/// is made and Z dropped; Tansman and Sibelius; V;A and A;W.
+const TALLIES: [&str; 3] = ["kept 4 made 1 dropped 1", "kept 2 made 1 dropped 1", "kept 8 made 1 dropped 1"];
+
 #[test]
 fn each_call_by_text_and_by_table() {
-    for name in EXAMPLES {
+    for (name, tally) in EXAMPLES.into_iter().zip(TALLIES) {
         let folder = Folder::of_example(name);
         let text = |file: &str| String::from_utf8(folder.read(file)).expect("the examples are ASCII");
         for program in ["program.lens", "program.table"] {
             folder.gives(&format!("noontrough get {program} source"), &text("sheet"));
-            folder.gives(&format!("noontrough put {program} edited source"), &text("result"));
+            folder.puts(&format!("noontrough put {program} edited source"), &text("result"), tally);
+            folder.gives(&format!("noontrough put {program} edited source --quiet"), &text("result"));
             folder.gives(&format!("noontrough create {program} edited"), &text("created"));
         }
     }
@@ -53,8 +58,9 @@ fn standard_input_and_output() {
     let k = Folder::of_example("k");
     k.gives("noontrough get program.lens - < source", "AB;C;Z;A;A;");
     k.gives("noontrough get - source < program.lens", "AB;C;Z;A;A;");
-    k.gives("cat program.table | noontrough put - edited source -o -", "C22;D0;A1;AB1;A2;");
-    k.gives("noontrough get program.lens source | noontrough put program.lens - source | cmp - source", "");
+    k.puts("cat program.table | noontrough put - edited source -o -", "C22;D0;A1;AB1;A2;", "kept 4 made 1 dropped 1");
+    let unedited = "noontrough get program.lens source | noontrough put program.lens - source | cmp - source";
+    k.puts(unedited, "", "kept 5 made 0 dropped 0");
     k.gives("noontrough get -o - -- program.lens source", "AB;C;Z;A;A;");
     k.gives(
         "cp source ./-odd && noontrough get program.lens ./-odd && noontrough get program.lens -- -odd",
@@ -101,8 +107,100 @@ fn a_source_is_not_replaced_by_a_refusal() {
     assert_eq!(k.read("source"), source);
     k.fails("noontrough put program.lens wrong source -o source", 1, &["refused 14 0"]);
     assert_eq!(k.read("source"), source);
-    k.gives("noontrough put program.lens edited source -o source", "");
+    k.puts("noontrough put program.lens edited source -o source", "", "kept 4 made 1 dropped 1");
     assert_eq!(k.read("source"), k.read("result"));
+}
+
+#[test]
+fn a_put_tells_what_became_of_the_entries() {
+    let k = Folder::of_example("k");
+    k.write("old", "AB1;C22;");
+    let puts = |sheet: &str, stdout: &str, tally: &str| {
+        k.write("new", sheet);
+        k.puts("noontrough put program.lens new old", stdout, tally);
+        k.puts("noontrough put program.lens new old -o out && cat out", stdout, tally);
+        for quiet in ["-q", "--quiet", "-q --quiet"] {
+            k.gives(&format!("noontrough put {quiet} program.lens new old"), stdout);
+            k.gives(&format!("noontrough put program.lens new old -o out {quiet} && cat out"), stdout);
+        }
+    };
+    puts("C;D;", "C22;D0;", "kept 1 made 1 dropped 1");
+    puts("C;AB;", "C22;AB1;", "kept 2 made 0 dropped 0");
+    puts("", "", "kept 0 made 0 dropped 2");
+    k.write("old", "A1;");
+    puts("A;A;A;", "A1;A0;A0;", "kept 1 made 2 dropped 0");
+    k.write("new", "A;");
+    k.gives("noontrough put program.lens new old 2>&1 | cat", "A1;kept 1 made 0 dropped 0\n");
+    k.write("-q", "A;");
+    k.puts("noontrough put program.lens -- -q old", "A1;", "kept 1 made 0 dropped 0");
+}
+
+/// The result stands, and the status with it. Only what was to be told is lost.
+#[test]
+fn where_a_tally_cannot_be_told() {
+    let k = Folder::of_example("k");
+    let result = String::from_utf8(k.read("result")).expect("it is ASCII");
+    for line in
+        ["noontrough put program.lens edited source", "noontrough put program.lens edited source -o out && cat out"]
+    {
+        k.gives(&line.replace("source", "source 2>&-"), &result);
+        k.gives(&line.replace("source", "source 2> /dev/full"), &result);
+        k.gives(&line.replace("source", "source 2< /dev/null"), &result);
+    }
+    k.gives(
+        "{ sleep 0.5; noontrough put program.lens edited source 2>&1 > out; echo $? > status; } | true; cat out",
+        &result,
+    );
+    assert_eq!(k.read("status"), b"0\n", "a tally that nobody reads changes nothing");
+}
+
+/// A source with the words of a tally behind it would be none.
+#[test]
+fn no_tally_goes_into_the_result() {
+    let k = Folder::of_example("k");
+    let result = k.read("result");
+    for line in [
+        "noontrough put program.lens edited source > out 2>&1",
+        "noontrough put program.lens edited source 2> out >&2",
+        "noontrough put program.lens edited source > out 2>> out",
+        "noontrough put program.lens edited source -o /dev/stderr 2> out",
+        "noontrough put program.lens edited source -o /dev/stdout > out 2>&1",
+        "noontrough put program.lens edited source -o /dev/fd/3 3> out 2>&3",
+    ] {
+        k.gives(line, "");
+        assert_eq!(k.read("out"), result, "{line}");
+    }
+    k.gives("noontrough put program.lens edited source -o out 2> told; cat told", "kept 4 made 1 dropped 1\n");
+    assert_eq!(k.read("out"), result);
+}
+
+/// Nor is it told where nothing is written.
+#[test]
+fn a_refusal_has_no_tally() {
+    let k = Folder::of_example("k");
+    k.write("none", "[;");
+    k.write("wrong", "C1;");
+    k.write("many", b"A;".repeat(257));
+    k.write("long", b"A;".repeat(2049));
+    k.write("full", b"A;".repeat(2048));
+    for (line, status) in [
+        ("noontrough put edited edited source", 1),
+        ("noontrough put program.lens long source", 1),
+        ("noontrough put program.lens edited no-such-file", 2),
+        ("noontrough put program.lens edited none", 1),
+        ("noontrough put program.lens wrong source", 1),
+        ("noontrough put program.lens edited many", 1),
+        ("noontrough put program.lens full source", 1),
+        ("noontrough put program.lens edited source > /dev/full", 2),
+        ("noontrough put program.lens edited source -o no/such/folder", 2),
+    ] {
+        for quiet in ["", " -q"] {
+            let line = line.replace("noontrough put", &format!("noontrough put{quiet}"));
+            let done = k.sh(&line);
+            assert_eq!((done.status, done.stdout.as_str()), (status, ""), "{line}");
+            assert!(!done.stderr.is_empty() && !done.stderr.contains("kept"), "{line}: {}", done.stderr);
+        }
+    }
 }
 
 #[test]
@@ -211,7 +309,7 @@ fn a_small_stack() {
     folder.write("deep.lens", format!("x = copy \"a\"\nj0 = lens join x x\n{joins}"));
     folder.write("text", "a".repeat(95));
     folder.gives("ulimit -s 512 && noontrough check deep.lens", "ok 96 95 95\n");
-    folder.gives("ulimit -s 512 && noontrough put deep.lens text text", &"a".repeat(95));
+    folder.puts("ulimit -s 512 && noontrough put deep.lens text text", &"a".repeat(95), "kept 0 made 0 dropped 0");
 }
 
 /// The file system refuses the bytes half way, as a full disk does. (A limit on
@@ -292,7 +390,7 @@ fn a_written_file_keeps_its_permissions_and_links() {
     let mode = |name: &str| std::fs::metadata(k.0.join(name)).expect("it is there").permissions().mode() & 0o777;
     std::fs::set_permissions(k.0.join("source"), PermissionsExt::from_mode(0o640)).expect("it is ours");
     symlink("source", k.0.join("link")).expect("links can be made");
-    k.gives("noontrough put program.lens edited source -o link", "");
+    k.puts("noontrough put program.lens edited source -o link", "", "kept 4 made 1 dropped 1");
     assert_eq!(k.read("source"), k.read("result"));
     assert!(std::fs::symlink_metadata(k.0.join("link")).expect("it is there").is_symlink());
     assert_eq!(mode("source"), 0o640);
@@ -315,7 +413,14 @@ fn wrong_usage_names_the_argument() {
         ("noontrough get --version", "noontrough get: there is no option '--version'"),
         ("noontrough list x", "noontrough: there is no command 'list'\nusage:"),
         ("noontrough check", "noontrough check: PROGRAM is missing\nusage: noontrough check PROGRAM [-o FILE]"),
-        ("noontrough put program.lens sheet", "noontrough put: SOURCE is missing"),
+        (
+            "noontrough put program.lens sheet",
+            "noontrough put: SOURCE is missing\nusage: noontrough put PROGRAM SHEET SOURCE [-o FILE] [-q]",
+        ),
+        ("noontrough -q put program.lens sheet source", "noontrough: '-q' stands before the command"),
+        ("noontrough get program.lens source -q", "noontrough get: there is no option '-q'"),
+        ("noontrough check --quiet program.lens", "noontrough check: there is no option '--quiet'"),
+        ("noontrough put program.lens sheet source --quiet=yes", "noontrough put: there is no option '--quiet=yes'"),
         ("noontrough get program.lens source more", "noontrough get: 'more' is one argument too many"),
         (
             "noontrough get -x program.lens source",
@@ -342,6 +447,9 @@ fn help_and_version() {
         assert!(one.stdout.starts_with(&format!("usage: noontrough {command} PROGRAM")), "{}", one.stdout);
         assert_eq!((one.status, one.stderr.as_str()), (0, ""));
         assert_eq!(k.sh(&format!("noontrough help {command}")).stdout, one.stdout);
+        assert_eq!(one.stdout.contains("\n  -q, --quiet  "), command == "put", "{}", one.stdout);
     }
+    assert!(all.stdout.contains("\n  -q, --quiet  "), "{}", all.stdout);
+    assert!(k.sh("noontrough put --help").stdout.contains("'kept 1 made 1 dropped 1'"));
     assert!(all.stdout.contains("Exit status: 0 a result, 1 a refusal"));
 }

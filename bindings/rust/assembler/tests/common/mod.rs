@@ -30,7 +30,7 @@ pub fn get(table: &[u8], source: &[u8], lent: usize) -> Result<Vec<u8>, Refusal>
 }
 
 pub fn put(table: &[u8], sheet: &[u8], source: &[u8], lent: usize) -> Result<Vec<u8>, Refusal> {
-    given(lent, |out| Reference.put(table, sheet, source, out))
+    given(lent, |out| Reference.put(table, sheet, source, out).map(|put| put.length))
 }
 
 pub fn create(table: &[u8], sheet: &[u8], lent: usize) -> Result<Vec<u8>, Refusal> {

@@ -109,10 +109,29 @@ pub enum Kind {
     LongKeysFound,
     /// An old entry has a key of such a length.
     KeyAt4095To4097,
+
+    // Puts that give a result, by what became of the entries.
+    /// An entry was made, was dropped; some were kept, some made, some dropped.
+    EntryMade,
+    EntryDropped,
+    KeptMadeAndDropped,
+    /// A match that read no bytes of the sheet took an old entry, took none.
+    EmptyEntryKept,
+    EmptyEntryMade,
+    /// More entries were made than a byte counts, than two bytes count.
+    MadeOver255,
+    MadeOver65535,
+    /// The sheet's entries are of several children.
+    EntriesOfSeveralChildren,
+    /// The arms that were taken have more or fewer entries than the arms that read
+    /// the sheet where no old source decides.
+    EntriesByOtherArms,
+    /// Old entries were left of a child that no match asked for.
+    DroppedUnasked,
 }
 
 impl Kind {
-    pub const ALL: [Kind; 52] = [
+    pub const ALL: [Kind; 62] = [
         Kind::UnionsTwoDeep,
         Kind::UnionsThreeDeep,
         Kind::UnionsOnTheLeft,
@@ -165,7 +184,22 @@ impl Kind {
         Kind::LongKeys,
         Kind::LongKeysFound,
         Kind::KeyAt4095To4097,
+        Kind::EntryMade,
+        Kind::EntryDropped,
+        Kind::KeptMadeAndDropped,
+        Kind::EmptyEntryKept,
+        Kind::EmptyEntryMade,
+        Kind::MadeOver255,
+        Kind::MadeOver65535,
+        Kind::EntriesOfSeveralChildren,
+        Kind::EntriesByOtherArms,
+        Kind::DroppedUnasked,
     ];
+
+    /// Whether it tells what became of the entries in a put.
+    pub fn is_of_tally(self) -> bool {
+        self >= Kind::EntryMade
+    }
 }
 
 /// How many accepted programs and how many calls were of each kind. A program
@@ -197,8 +231,10 @@ impl Census {
         let Some(program) = calls.first().and_then(|(case, _)| Program::read(&case.table).ok()) else { return };
         let facts = Facts::of(&program);
         let mut met = facts.kinds.clone();
-        for (case, _) in calls.iter().filter(|(case, answer)| has_legal_texts(case, answer)) {
-            let of_call = call_kinds(&program, &facts, case);
+        for (case, answer) in calls.iter().filter(|(case, answer)| has_legal_texts(case, answer)) {
+            let mut of_call = call_kinds(&program, &facts, case);
+            // A refusal has no tally.
+            of_call.retain(|kind| answer.is_ok() || !kind.is_of_tally());
             for kind in facts.kinds.iter().chain(&of_call) {
                 *self.calls.entry(*kind).or_default() += 1;
             }

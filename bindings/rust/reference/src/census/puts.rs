@@ -1,7 +1,10 @@
 //! What a put meets on its way: the arms that it keeps, the entries that it
 //! finds, the parts that it has too many or too few of.
 
+use std::collections::BTreeSet;
+
 use super::Kind;
+use crate::answer::Tally;
 use crate::calls::MAX_TEXT;
 use crate::generator::cases::Case;
 use crate::lens::{Book, Entry};
@@ -24,8 +27,10 @@ pub(super) fn put_kinds(program: &Program, has_union: &[bool], case: &Case) -> V
     let book = program.book(&case.source);
     let kinds = book_kinds(book.entries());
     let children = book.entries().iter().map(|entry| entry.child).collect();
-    let mut walk = Walk { program, has_union, children, book, empty: Vec::new(), found_by_key: false, kinds };
+    let (empty, met) = (Vec::new(), BTreeSet::new());
+    let mut walk = Walk { program, has_union, children, book, empty, met, found_by_key: false, kinds };
     walk.go(program.root(), &case.sheet, Some(&case.source), Above::default());
+    walk.note_tally(&case.sheet);
     if walk.found_by_key && walk.kinds.contains(&Kind::LongKeys) {
         walk.kinds.push(Kind::LongKeysFound);
     }
@@ -76,6 +81,8 @@ struct Walk<'a> {
     book: Book,
     /// The children of the matches met that read the empty text.
     empty: Vec<usize>,
+    /// The children of all matches met.
+    met: BTreeSet<usize>,
     /// An entry was found by a key that is not empty.
     found_by_key: bool,
     kinds: Vec<Kind>,
@@ -149,12 +156,30 @@ impl Walk<'_> {
         self.note(count >= MANY && any_old && !asks, Kind::EmptyMatchesOldOfOtherChild);
     }
 
+    /// Notes what became of the entries, once all of the sheet is worked.
+    fn note_tally(&mut self, sheet: &[u8]) {
+        let Tally { kept, made, dropped } = self.book.tally();
+        let by_left_arms = self.has_union[self.program.root()].then(|| entries_read(self.program, sheet));
+        let unasked = self.book.entries().iter().any(|entry| !self.met.contains(&entry.child));
+        self.note(made > 0, Kind::EntryMade);
+        self.note(dropped > 0, Kind::EntryDropped);
+        self.note(kept > 0 && made > 0 && dropped > 0, Kind::KeptMadeAndDropped);
+        self.note(made > usize::from(u8::MAX), Kind::MadeOver255);
+        self.note(made > usize::from(u16::MAX), Kind::MadeOver65535);
+        self.note(self.met.len() > 1, Kind::EntriesOfSeveralChildren);
+        self.note(by_left_arms.is_some_and(|read| read != kept + made), Kind::EntriesByOtherArms);
+        self.note(unasked, Kind::DroppedUnasked);
+    }
+
     fn entry(&mut self, child: usize, sheet: &[u8], above: Above) {
         let key = self.program.key(child, sheet);
+        self.met.insert(child);
+        let found = self.book.take(child, &key);
         if sheet.is_empty() {
             self.empty.push(child);
+            self.note(found.is_some(), Kind::EmptyEntryKept);
+            self.note(found.is_none(), Kind::EmptyEntryMade);
         }
-        let found = self.book.take(child, &key);
         if let Some(entry) = &found {
             self.found_by_key = self.found_by_key || !key.is_empty();
             let (union, right) = (self.has_union[child], takes_right_arm(self.program, entry));
@@ -164,6 +189,15 @@ impl Walk<'_> {
         }
         self.go(child, sheet, found.as_ref().map(|entry| &entry.source[..]), above);
     }
+}
+
+/// The entries of a sheet, read by the left arm where both fit.
+fn entries_read(program: &Program, sheet: &[u8]) -> usize {
+    let mut count = 0;
+    program.each_part(Side::Sheet, sheet, &mut |node, _| {
+        count += usize::from(matches!(program.node(node), Node::Match(_)));
+    });
+    count
 }
 
 fn takes_right_arm(program: &Program, entry: &Entry) -> bool {

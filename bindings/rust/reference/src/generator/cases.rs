@@ -155,9 +155,7 @@ pub(super) fn lent_length(random: &mut Random, program: &Program, call: Call, sh
         Call::Get if legal => program.get(source).len(),
         Call::Create if legal => program.create(sheet).len(),
         // Over the limit put is refused before a result is measured.
-        Call::Put if legal && program.count_entries(source) <= MAX_ENTRIES => {
-            program.put(sheet, source, program.book(source)).len()
-        }
+        Call::Put if legal && program.count_entries(source) <= MAX_ENTRIES => program.put(sheet, source).source.len(),
         _ => random.below(16),
     };
     // Results far over the limit need no buffer of their size.

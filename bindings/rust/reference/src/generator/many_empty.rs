@@ -4,9 +4,12 @@
 use super::cases::{case, lent_length, Call, Case};
 use super::draft::{Draft, NodeNumber};
 use super::random::Random;
-use crate::calls::MAX_ENTRIES;
+use crate::calls::{MAX_ENTRIES, MAX_TEXT};
 use crate::program::Program;
 
+/// So many empty matches in each of so many parts are over 65,536.
+const VERY_MANY: usize = 110;
+const MANY_PARTS: usize = 600;
 const LETTERS: &[u8] = b"abc";
 const NAMES: &[u8] = b"ABCD";
 const DIGITS: &[u8] = b"0123456789";
@@ -20,6 +23,12 @@ pub fn many_empty_cases(random: &mut Random) -> Vec<Case> {
         let (sheet, source) = (shape.sheet(random), shape.source(random));
         let lent = lent_length(random, &program, call, &sheet, &source);
         cases.push(case(call, &shape.table, (sheet, source), lent));
+    }
+    // A result has room for very many only where they are empty in the source too.
+    let is_wide = matches!(shape.hidden, Hidden::Nothing) && shape.before + shape.behind >= VERY_MANY;
+    if is_wide && random.once_in(2) {
+        let texts = (shape.sheet_of(random, MANY_PARTS), shape.source(random));
+        cases.push(case(Call::Put, &shape.table, texts, MAX_TEXT));
     }
     cases
 }
@@ -119,6 +128,10 @@ impl Shape {
 
     fn sheet(&self, random: &mut Random) -> Vec<u8> {
         let parts = *random.pick(&[0, 1, 1, 2, 2, 3, 4, 7, 12]);
+        self.sheet_of(random, parts)
+    }
+
+    fn sheet_of(&self, random: &mut Random, parts: usize) -> Vec<u8> {
         let names = if self.named { random.below(5) } else { 0 };
         let letters = (0..parts).map(|_| *random.pick(LETTERS));
         let mut sheet: Vec<u8> = letters.collect();

@@ -6,6 +6,7 @@
 //! | [`draft`] | nothing: it writes tables node by node |
 //! | [`programs`] | accepted programs of varied shape |
 //! | [`unions`] | nested unions whose sheets overlap |
+//! | [`counted_arms`] | unions whose arms read one sheet as different entries |
 //! | [`empties`] | programs with empty leaves |
 //! | [`depths`] | programs nested deep, and texts in which the way is not forced |
 //! | [`several_matches`] | programs with several matches in a part |
@@ -18,6 +19,7 @@
 //! | [`small`] | calls small enough to be evaluated from definitions |
 
 pub mod cases;
+pub mod counted_arms;
 pub mod depths;
 pub mod draft;
 pub mod empties;

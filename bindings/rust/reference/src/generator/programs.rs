@@ -3,9 +3,11 @@
 //! Several ways, since each finds what the others miss: programs grown from any
 //! nodes that still check (odd shapes, sharing, unreached nodes), records with
 //! fields and separators (what a publishing house would write), small programs
-//! around a union, and programs that go up to the limits. Nested unions, empty
-//! leaves, deep nesting and several matches have modules of their own.
+//! around a union, and programs that go up to the limits. Nested unions, arms
+//! with different entries, empty leaves, deep nesting and several matches have
+//! modules of their own.
 
+use super::counted_arms::counted_arms;
 use super::depths::{deep, loose};
 use super::draft::{Draft, NodeNumber};
 use super::empties::empty_leaves;
@@ -32,7 +34,7 @@ impl Room {
 
 /// An accepted program of any sort.
 pub fn accepted(random: &mut Random) -> Draft {
-    match random.below(18) {
+    match random.below(19) {
         0..=3 => grown(random, Room::USUAL),
         4..=6 => records(random),
         7 => two_kinds(random),
@@ -41,6 +43,7 @@ pub fn accepted(random: &mut Random) -> Draft {
         12 => empty_leaves(random),
         13..=14 => deep(random),
         15..=16 => several_matches(random),
+        17 => counted_arms(random),
         _ => loose(random),
     }
 }

@@ -95,7 +95,7 @@ pub fn outcome(call: Call, table: &[u8], sheet: &[u8], source: &[u8], lent: usiz
 }
 
 fn text_or_refusal(outcome: Outcome) -> Result<Vec<u8>, Refusal> {
-    outcome.answer.map(|length| outcome.buffer[..length].to_vec())
+    outcome.text().map(<[u8]>::to_vec)
 }
 
 pub fn get(table: &[u8], source: &[u8]) -> Result<Vec<u8>, Refusal> {

@@ -84,6 +84,12 @@ impl Folder {
         assert_eq!((done.status, done.stdout.as_str(), done.stderr.as_str()), (0, stdout, ""), "{line}");
     }
 
+    /// A put that gives a result and says what became of the entries.
+    pub fn puts(&self, line: &str, stdout: &str, tally: &str) {
+        let (done, told) = (self.sh(line), format!("{tally}\n"));
+        assert_eq!((done.status, done.stdout, done.stderr), (0, stdout.to_string(), told), "{line}");
+    }
+
     /// A line that writes nothing to standard output, with each part of what it
     /// says.
     pub fn fails(&self, line: &str, status: i32, said: &[&str]) {

@@ -1,9 +1,15 @@
--- `calls::put::write_large` meets its contract: a large deck has room for every card. Assumes nothing.
 use native.Mathlib.Omega.{arith}
 use Rattle.calls.proofs.Sourcing.{none-left, large-deals-all}
 use borrow.Author.Needs.{needs}
 use Rattle.calls.proofs.put.write_large.Statement.{statement}
 use Rattle.calls.proofs.put.write_large.Tie as tie
+use Rattle.calls.proofs.put.write_large.Reads as reads
+use Rattle.calls.proofs.put.write_large.Lts as lts
+use Rattle.calls.proofs.put.deal_at.Reads as deal-at-reads
+use Rattle.calls.proofs.put.first_reach.Reads as first-reach-reads
+use Rattle.calls.proofs.put.large_deck.Reads as large-deck-reads
+use Rattle.calls.proofs.put.write_from.Reads as write-from-reads
+use Rattle.decks.proofs.deck.move_deck.Reads as move-deck-reads
 
 large-deck-requires : tie.Need-large-deck-requires
 large-deck-requires c κs = search needs
@@ -12,7 +18,7 @@ slice-aggregate-move-deck : tie.Need-slice-aggregate-move-deck
 slice-aggregate-move-deck c = search needs
 
 move-deck-requires : tie.Need-move-deck-requires
-move-deck-requires c κs = let known = c .before .before .before .before .before .before .before .before .before .before .before .pre .1 .1 .1 in (known .0 .behind-heads, known .0 .within, omega (arith, known .0 .within, known .1, c .before .large-deck .ensures))
+move-deck-requires c κs = search needs
 
 first-reach-requires : tie.Need-first-reach-requires
 first-reach-requires c κs = search needs

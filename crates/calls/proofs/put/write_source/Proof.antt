@@ -1,11 +1,17 @@
--- `calls::put::write_source` meets its contract. Assumes nothing.
 use native.Mathlib.Omega.{arith}
 use Rattle.answers.proofs.Giving.{root-inside}
 use Rattle.answers.proofs.Verdicts.{accepted-sizes}
-use borrow.Author.Needs.{needs}
 use Rattle.calls.proofs.Sourcing.{small-begins}
+use borrow.Author.Needs.{needs}
 use Rattle.calls.proofs.put.write_source.Statement.{statement}
 use Rattle.calls.proofs.put.write_source.Tie as tie
+use Rattle.calls.proofs.put.write_source.Reads as reads
+use Rattle.calls.proofs.put.write_source.Lts as lts
+use Rattle.answers.proofs.results.root_of.Reads as root-of-reads
+use Rattle.calls.proofs.put.first_desk.Reads as first-desk-reads
+use Rattle.calls.proofs.put.no_below.Reads as no-below-reads
+use Rattle.calls.proofs.put.write_at.Reads as write-at-reads
+use Rattle.decks.proofs.below.fill_below.Reads as fill-below-reads
 
 no-below-requires : tie.Need-no-below-requires
 no-below-requires c κs = search needs
@@ -23,7 +29,7 @@ fill-below-requires : tie.Need-fill-below-requires
 fill-below-requires c κs = ((c .before .before .before .before .before .before .before .before .before .before .pre .0 .built .sized, omega (arith, c .before .root-of .ensures, root-inside (c .before .before .before .before .before .before .before .before .before .before .pre .0) (c .before .root-of .ensures))), omega (arith, c .before .before .no-below .ensures))
 
 first-desk-requires : tie.Need-first-desk-requires
-first-desk-requires c κs = c .before .before .before .before .before .before .before .before .before .before .before .before .pre .1 .1 .over .fits .few
+first-desk-requires c κs = search needs
 
 slice-aggregate-write-at : tie.Need-slice-aggregate-write-at
 slice-aggregate-write-at c = search needs

@@ -12,8 +12,12 @@ set-at-requires c κs = search needs
 has-union-requires : tie.Need-has-union-requires
 has-union-requires c κs = search needs
 
+count-at-requires : tie.Need-count-at-requires
+count-at-requires c κs = search needs
+
 returns : tie.Need-returns
-returns c = rw (c .before .set-at .ensures, c .has-union .ensures)
+returns c = rw (c .before .before .set-at .ensures, c .before .has-union .ensures, c .count-at .ensures)
 
 pub at-node-spec : {M : Type 1} → statement M
-at-node-spec = tie.close (tie.spec mul-set-at set-at-requires has-union-requires returns)
+at-node-spec =
+    tie.close (tie.spec mul-set-at set-at-requires has-union-requires count-at-requires returns)

@@ -22,8 +22,8 @@ over-two-requires-2 c κs = union-room (c .before .before .before .node .ensures
 enum-known-kind-3 : tie.Need-enum-known-kind-3
 enum-known-kind-3 c = search needs
 
-at-node-requires : tie.Need-at-node-requires
-at-node-requires c κs = repeat-room (c .before .before .before .node .ensures) (c .before .before .before .before .before .before .before .args .below .now) (c .before .before .before .before .before .before .before .pre .0 .0) (c .before .before .before .before .before .before .before .pre .0 .1) (c .before .before .before .before .before .before .before .pre .1 .1) (c .before .kind3 .given .1)
+over-parts-requires : tie.Need-over-parts-requires
+over-parts-requires c κs = repeat-room (c .before .before .before .node .ensures) (c .before .before .before .before .before .before .before .args .below .now) (c .before .before .before .before .before .before .before .pre .0 .0) (c .before .before .before .before .before .before .before .pre .0 .1) (c .before .before .before .before .before .before .before .pre .1 .1) (c .before .kind3 .given .1)
 
 enum-known-kind-4 : tie.Need-enum-known-kind-4
 enum-known-kind-4 c = search needs
@@ -41,13 +41,13 @@ returns-2 : tie.Need-returns-2
 returns-2 c = union-stands (c .before .before .before .before .node .ensures) (c .before .before .before .before .before .before .before .before .pre .1 .0) (c .before .before .kind2 .given .1) (c .over-two2 .ensures)
 
 returns-3 : tie.Need-returns-3
-returns-3 c = repeat-stands (c .before .before .before .before .node .ensures) (c .before .before .before .before .before .before .before .before .pre .1 .0) (c .before .before .kind3 .given .1) (c .at-node .ensures)
+returns-3 c = repeat-stands (c .before .before .before .before .node .ensures) (c .before .before .before .before .before .before .before .before .pre .1 .0) (c .before .before .kind3 .given .1) (c .over-parts .ensures)
 
 returns-4 : tie.Need-returns-4
 returns-4 c = match-stands (c .before .before .before .before .node .ensures) (c .before .before .before .before .before .before .before .before .pre .1 .0) (c .before .before .kind4 .given .1) (c .over-child .ensures)
 
 returns-5 : tie.Need-returns-5
-returns-5 c = leaf-stands (c .before .before .node .ensures) (c .before .match .keys5) (c .nothing .ensures .0) (c .nothing .ensures .1)
+returns-5 c = leaf-stands (c .before .before .node .ensures) (c .before .match .keys5) (c .nothing .ensures .0) (c .nothing .ensures .1) (c .nothing .ensures .2)
 
 pub of-node-spec : {M : Type 1} → statement M
 of-node-spec =
@@ -59,7 +59,7 @@ of-node-spec =
     enum-known-kind-2
     over-two-requires-2
     enum-known-kind-3
-    at-node-requires
+    over-parts-requires
     enum-known-kind-4
     over-child-requires
     nothing-requires

@@ -19,8 +19,11 @@ either-requires c κs = search needs
 either-requires-2 : tie.Need-either-requires-2
 either-requires-2 c κs = search needs
 
+of-two-requires : tie.Need-of-two-requires
+of-two-requires c κs = search needs
+
 returns : tie.Need-returns
-returns c = over-two (c .before .before .before .before .before .before .at-node .ensures) (c .before .before .before .before .before .at-node2 .ensures) (c .before .before .union .ensures) (c .before .either .ensures) (c .either2 .ensures)
+returns c = over-two (c .before .before .before .before .before .before .before .at-node .ensures) (c .before .before .before .before .before .before .at-node2 .ensures) (c .before .before .before .union .ensures) (c .before .before .either .ensures) (c .before .either2 .ensures) (c .of-two .ensures)
 
 pub over-two-spec : {M : Type 1} → statement M
 over-two-spec =
@@ -31,4 +34,5 @@ over-two-spec =
     union-requires
     either-requires
     either-requires-2
+    of-two-requires
     returns)

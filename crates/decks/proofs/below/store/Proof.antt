@@ -35,6 +35,15 @@ mul-below-3 c = search needs
 slice-write-below-3 : tie.Need-slice-write-below-3
 slice-write-below-3 c = simp length-set (omega arith)
 
+add-below-3 : tie.Need-add-below-3
+add-below-3 c = search needs
+
+mul-below-4 : tie.Need-mul-below-4
+mul-below-4 c = search needs
+
+slice-write-below-4 : tie.Need-slice-write-below-4
+slice-write-below-4 c = simp length-set (omega arith)
+
 same-length : tie.Need-same-length
 same-length c = search needs
 
@@ -55,5 +64,8 @@ store-spec =
     add-below-2
     mul-below-3
     slice-write-below-3
+    add-below-3
+    mul-below-4
+    slice-write-below-4
     same-length
     returns)

@@ -2,7 +2,8 @@ use Rattle.writer.proofs.Given.{found-ready, found-given, given-none, g
 use Rattle.writer.proofs.Parts.{Parting, parting-begins, more-path, more-lent, part-inside, part-given, part-old, part-back, parting-next, parting-ends}
 use Rattle.writer.proofs.Halves.{halves-lower, near-known, far-known, at-inside, near-given, left-back, right-back, far-given, near-old, far-old, join-created, join-put}
 use Rattle.writer.proofs.ByKind.{match-writes, union-writes}
-use Rattle.writer.proofs.Unasked.{leaf-asks-none}
+use Rattle.writer.proofs.Unasked.{leaf-asks-none, leaf-met, inner-flat, inner-met}
+use Rattle.writer.proofs.Counting.{product-small, plain-met, repeat-counted, repeat-asks-none}
 use Rattle.writer.proofs.Behind.{behind-left, at-node, old-put, old-created}
 use Rattle.steps.specs.Stepping.{place-inside, old-inside, old-ends}
 use Rattle.books.specs.Looking.{oldText}
@@ -33,8 +34,8 @@ use Rattle.writer.proofs.write.+create+put+write_match+write_parts+writ
 use Rattle.writer.proofs.write.write_repeat.Reads as write-repeat
 use Rattle.writer.proofs.write.write_repeat.Kinds as write-repeat-kinds
 use Rattle.writer.proofs.write.+create+put+write_match+write_parts+write_repeat.Lts-write_repeat as write-repeat-lts
-use Rattle.decks.proofs.below.asks_none.Reads as asks-none-reads
 use Rattle.paths.proofs.first_loop.Reads as first-loop-reads
+use Rattle.std.proofs.num.wrapping_add_usize.Reads as wrapping-add-usize-reads
 use Rattle.steps.proofs.choose.Reads as choose-reads
 use Rattle.steps.proofs.choose_new.Reads as choose-new-reads
 use Rattle.steps.proofs.cut_sheet.Reads as cut-sheet-reads
@@ -43,8 +44,10 @@ use Rattle.steps.proofs.halves_of.Reads as halves-of-reads
 use Rattle.steps.proofs.next_old.Reads as next-old-reads
 use Rattle.steps.proofs.old_base.Reads as old-base-reads
 use Rattle.table.proofs.Table.node.Reads as node-reads
+use Rattle.steps.proofs.count_parts.Reads as count-parts-reads
 use Rattle.writer.proofs.write.find_entry.Reads as find-entry-reads
 use Rattle.writer.proofs.write.plain_behind.Reads as plain-behind-reads
+use Rattle.decks.proofs.below.plain_count.Reads as plain-count-reads
 use Rattle.writer.proofs.write.write_matches.Reads as write-matches-reads
 use Rattle.writer.proofs.write.+create+put+write_match+write_parts+write_repeat.{statement}
 use Rattle.writer.proofs.write.+create+put+write_match+write_parts+write_repeat.Tie.{close}
@@ -105,99 +108,108 @@ write-repeat-below t =
     write-repeat.Pre
 
 abbrev create-calls : ℕ → create-lts.Claims
-create-calls t = (asks-none-reads.Asked, asks-none-reads.Learnt, plain-behind-reads.Asked, plain-behind-reads.Learnt, node-reads.Asked, node-reads.Learnt, cut-sheet-reads.Asked, cut-sheet-reads.Learnt, create-below t, create.Post, choose-new-reads.Asked, choose-new-reads.Learnt, write-repeat-below t, write-repeat.Post, write-match-below t, write-match.Post)
+create-calls t = (plain-count-reads.Asked, plain-count-reads.Learnt, plain-behind-reads.Asked, plain-behind-reads.Learnt, node-reads.Asked, node-reads.Learnt, cut-sheet-reads.Asked, cut-sheet-reads.Learnt, create-below t, create.Post, choose-new-reads.Asked, choose-new-reads.Learnt, write-repeat-below t, write-repeat.Post, write-match-below t, write-match.Post)
 
 abbrev put-calls : ℕ → put-lts.Claims
-put-calls t = (asks-none-reads.Asked, asks-none-reads.Learnt, plain-behind-reads.Asked, plain-behind-reads.Learnt, node-reads.Asked, node-reads.Learnt, cut-sheet-reads.Asked, cut-sheet-reads.Learnt, halves-of-reads.Asked, halves-of-reads.Learnt, put-below t, put.Post, choose-reads.Asked, choose-reads.Learnt, create-below t, create.Post, write-repeat-below t, write-repeat.Post, write-match-below t, write-match.Post)
+put-calls t = (plain-count-reads.Asked, plain-count-reads.Learnt, plain-behind-reads.Asked, plain-behind-reads.Learnt, node-reads.Asked, node-reads.Learnt, cut-sheet-reads.Asked, cut-sheet-reads.Learnt, halves-of-reads.Asked, halves-of-reads.Learnt, put-below t, put.Post, choose-reads.Asked, choose-reads.Learnt, create-below t, create.Post, write-repeat-below t, write-repeat.Post, write-match-below t, write-match.Post)
 
 abbrev write-match-calls : ℕ → write-match-lts.Claims
-write-match-calls t = (find-entry-reads.Asked, find-entry-reads.Learnt, put-below t, put.Post, create-below t, create.Post)
+write-match-calls t = (find-entry-reads.Asked, find-entry-reads.Learnt, wrapping-add-usize-reads.Asked, wrapping-add-usize-reads.Learnt, put-below t, put.Post, create-below t, create.Post)
 
 abbrev write-parts-calls : ℕ → write-parts-lts.Claims
 write-parts-calls t = (old-base-reads.Asked, old-base-reads.Learnt, ends-of-reads.Asked, ends-of-reads.Learnt, first-loop-reads.Asked, first-loop-reads.Learnt, next-old-reads.Asked, next-old-reads.Learnt, put-below t, put.Post, create-below t, create.Post)
 
 abbrev write-repeat-calls : ℕ → write-repeat-lts.Claims
-write-repeat-calls t = (ends-of-reads.Asked, ends-of-reads.Learnt, node-reads.Asked, node-reads.Learnt, write-matches-reads.Asked, write-matches-reads.Learnt, write-parts-below t, write-parts.Post)
+write-repeat-calls t = (ends-of-reads.Asked, ends-of-reads.Learnt, plain-count-reads.Asked, plain-count-reads.Learnt, count-parts-reads.Asked, count-parts-reads.Learnt, plain-behind-reads.Asked, plain-behind-reads.Learnt, node-reads.Asked, node-reads.Learnt, write-matches-reads.Asked, write-matches-reads.Learnt, write-parts-below t, write-parts.Post)
 
--- src/write.rt:172:8
-create-asks-none-requires : (t : ℕ) → create-lts.Need-asks-none-requires (create-calls t) (create-at t) create.Post
-create-asks-none-requires t c κs = below-room (c .before .before .before .before .before .before .before .before .before .pre .1 .0)
+-- src/write.rt:183:9
+create-plain-count-requires : (t : ℕ) → create-lts.Need-plain-count-requires (create-calls t) (create-at t) create.Post
+create-plain-count-requires t c κs = below-room (c .before .before .before .before .before .before .before .before .before .pre .1 .0)
 
--- src/write.rt:173:9
+-- src/write.rt:185:9
 create-plain-behind-requires : (t : ℕ) → create-lts.Need-plain-behind-requires (create-calls t) (create-at t) create.Post
-create-plain-behind-requires t c κs = (c .before .before .before .before .before .before .before .before .before .before .before .before .before .pre .1 .0, (given-none (c .before .before .before .before .before .before .before .before .before .before .before .before .before .pre .1 .1 .0), (c .before .before .before .before .before .before .before .before .before .before .before .before .before .pre .1 .1 .1 .0, record { none-shared = c .before .before .before .asks-none .ensures .0 (c .before .before .if1 .taken) })))
+create-plain-behind-requires t c κs = (
+  c .before .before .before .before .before .before .before .before .before .before .before .before .before .pre .1 .0,
+  (
+    given-none (c .before .before .before .before .before .before .before .before .before .before .before .before .before .pre .1 .1 .0),
+    (
+      (c .before .before .before .before .before .before .before .before .before .before .before .before .before .pre .1 .1 .1 .0, record { none-shared = c .before .before .before .plain-count .ensures .none-shared (c .before .before .if1 .taken) }),
+      plain-met _ _ (c .before .before .before .before .before .before .before .before .before .before .before .before .before .pre .1 .0 .lens-node) (c .before .before .before .before .before .before .before .before .before .before .before .before .before .pre .1 .0 .below-is) (c .before .before .before .plain-count .ensures) (c .before .before .if1 .taken),
+    ),
+  ),
+)
 
--- src/write.rt:173:9
+-- src/write.rt:185:9
 create-same-length : (t : ℕ) → create-lts.Need-same-length (create-calls t) (create-at t) create.Post
 create-same-length t c = search needs
 
--- src/write.rt:173:9
+-- src/write.rt:185:9
 create-same-length-2 : (t : ℕ) → create-lts.Need-same-length-2 (create-calls t) (create-at t) create.Post
 create-same-length-2 t c = search needs
 
--- src/write.rt:173:9
+-- src/write.rt:185:9
 create-returns : (t : ℕ) → create-lts.Need-returns (create-calls t) (create-at t) create.Post
 unfolding oldText
 create-returns t c = c .before .before .before .before .plain-behind .ensures
 
--- src/write.rt:175:9
+-- src/write.rt:187:9
 create-node-requires : (t : ℕ) → create-lts.Need-node-requires (create-calls t) (create-at t) create.Post
 create-node-requires t c κs = (c .before .before .before .before .before .before .before .before .before .before .before .pre .1 .0 .lens-node .built .sized, c .before .before .before .before .before .before .before .before .before .before .before .pre .1 .0 .lens-node .inside)
 
--- src/write.rt:178:26
+-- src/write.rt:190:26
 create-enum-known-kind : (t : ℕ) → create-lts.Need-enum-known-kind (create-calls t) (create-at t) create.Post
 create-enum-known-kind t c = search needs
 
--- src/write.rt:179:17
+-- src/write.rt:191:17
 create-cut-sheet-requires : (t : ℕ) → create-lts.Need-cut-sheet-requires (create-calls t) (create-at t) create.Post
 create-cut-sheet-requires t c κs =
     let known = c .before .before .before .before .before .before .before .before .before .before .before .before .before .before .before .before .pre .1 .0 .lens-node in
     let s = shown-join (c .before .before .before .before .node .ensures) (c .before .before .kind .given .1) in
     (node-prepared (left-below known s) Sheet, omega (arith, c .before .before .before .before .before .before .before .before .before .before .before .before .before .before .before .before .pre .1 .1 .0 .parsed .few))
 
--- src/write.rt:181:25
+-- src/write.rt:193:25
 create-sub-front : (t : ℕ) → create-lts.Need-sub-front (create-calls t) (create-at t) create.Post
 create-sub-front t c =
     let known = c .before .before .before .before .before .before .before .before .before .before .before .before .before .before .before .before .before .pre .1 .0 .lens-node in
     let s = shown-join (c .before .before .before .before .before .node .ensures) (c .before .before .before .kind .given .1) in
     omega (arith, at-inside known s (c .before .before .before .before .before .before .before .before .before .before .before .before .before .before .before .before .before .pre .1 .1 .0) (c .cut-sheet .ensures))
 
--- src/write.rt:181:25
+-- src/write.rt:193:25
 create-part-front-start : (t : ℕ) → create-lts.Need-part-front-start (create-calls t) (create-at t) create.Post
 create-part-front-start t c =
     let known = c .before .before .before .before .before .before .before .before .before .before .before .before .before .before .before .before .before .pre .1 .0 .lens-node in
     let s = shown-join (c .before .before .before .before .before .node .ensures) (c .before .before .before .kind .given .1) in
     omega (arith, at-inside known s (c .before .before .before .before .before .before .before .before .before .before .before .before .before .before .before .before .before .pre .1 .1 .0) (c .cut-sheet .ensures))
 
--- src/write.rt:181:25
+-- src/write.rt:193:25
 create-part-front-end : (t : ℕ) → create-lts.Need-part-front-end (create-calls t) (create-at t) create.Post
 create-part-front-end t c =
     let known = c .before .before .before .before .before .before .before .before .before .before .before .before .before .before .before .before .before .pre .1 .0 .lens-node in
     let s = shown-join (c .before .before .before .before .before .node .ensures) (c .before .before .before .kind .given .1) in
     omega (arith, at-inside known s (c .before .before .before .before .before .before .before .before .before .before .before .before .before .before .before .before .before .pre .1 .1 .0) (c .cut-sheet .ensures))
 
--- src/write.rt:182:25
+-- src/write.rt:194:25
 create-sub-track : (t : ℕ) → create-lts.Need-sub-track (create-calls t) (create-at t) create.Post
 create-sub-track t c =
     let known = c .before .before .before .before .before .before .before .before .before .before .before .before .before .before .before .before .before .before .pre .1 .0 .lens-node in
     let s = shown-join (c .before .before .before .before .before .before .node .ensures) (c .before .before .before .before .kind .given .1) in
     omega (arith, at-inside known s (c .before .before .before .before .before .before .before .before .before .before .before .before .before .before .before .before .before .before .pre .1 .1 .0) (c .before .cut-sheet .ensures))
 
--- src/write.rt:182:25
+-- src/write.rt:194:25
 create-part-track-start : (t : ℕ) → create-lts.Need-part-track-start (create-calls t) (create-at t) create.Post
 create-part-track-start t c =
     let known = c .before .before .before .before .before .before .before .before .before .before .before .before .before .before .before .before .before .before .pre .1 .0 .lens-node in
     let s = shown-join (c .before .before .before .before .before .before .node .ensures) (c .before .before .before .before .kind .given .1) in
     omega (arith, at-inside known s (c .before .before .before .before .before .before .before .before .before .before .before .before .before .before .before .before .before .before .pre .1 .1 .0) (c .before .cut-sheet .ensures))
 
--- src/write.rt:182:25
+-- src/write.rt:194:25
 create-part-track-end : (t : ℕ) → create-lts.Need-part-track-end (create-calls t) (create-at t) create.Post
 create-part-track-end t c =
     let known = c .before .before .before .before .before .before .before .before .before .before .before .before .before .before .before .before .before .before .pre .1 .0 .lens-node in
     let s = shown-join (c .before .before .before .before .before .before .node .ensures) (c .before .before .before .before .kind .given .1) in
     omega (arith, at-inside known s (c .before .before .before .before .before .before .before .before .before .before .before .before .before .before .before .before .before .before .pre .1 .1 .0) (c .before .cut-sheet .ensures))
 
--- src/write.rt:183:13
+-- src/write.rt:195:13
 create-create-requires : (t : ℕ) → create-lts.Need-create-requires (create-calls t) (create-at t) create.Post
 create-create-requires t c κs =
     let known = c .before .before .before .before .before .before .before .before .before .before .before .before .before .before .before .before .before .before .before .before .before .pre .1 .0 .lens-node in
@@ -210,28 +222,28 @@ create-create-requires t c κs =
       ),
     )
 
--- src/write.rt:184:24
+-- src/write.rt:196:24
 create-sub-back : (t : ℕ) → create-lts.Need-sub-back (create-calls t) (create-at t) create.Post
 create-sub-back t c =
     let known = c .before .before .before .before .before .before .before .before .before .before .before .before .before .before .before .before .before .before .before .before .before .before .before .before .before .before .before .before .pre .1 .0 .lens-node in
     let s = shown-join (c .before .before .before .before .before .before .before .before .before .before .before .before .before .before .before .before .node .ensures) (c .before .before .before .before .before .before .before .before .before .before .before .before .before .before .kind .given .1) in
     omega (arith, at-inside known s (c .before .before .before .before .before .before .before .before .before .before .before .before .before .before .before .before .before .before .before .before .before .before .before .before .before .before .before .before .pre .1 .1 .0) (c .before .before .before .before .before .before .before .before .before .before .before .cut-sheet .ensures))
 
--- src/write.rt:184:24
+-- src/write.rt:196:24
 create-part-back-start : (t : ℕ) → create-lts.Need-part-back-start (create-calls t) (create-at t) create.Post
 create-part-back-start t c =
     let known = c .before .before .before .before .before .before .before .before .before .before .before .before .before .before .before .before .before .before .before .before .before .before .before .before .before .before .before .before .pre .1 .0 .lens-node in
     let s = shown-join (c .before .before .before .before .before .before .before .before .before .before .before .before .before .before .before .before .node .ensures) (c .before .before .before .before .before .before .before .before .before .before .before .before .before .before .kind .given .1) in
     omega (arith, at-inside known s (c .before .before .before .before .before .before .before .before .before .before .before .before .before .before .before .before .before .before .before .before .before .before .before .before .before .before .before .before .pre .1 .1 .0) (c .before .before .before .before .before .before .before .before .before .before .before .cut-sheet .ensures))
 
--- src/write.rt:184:24
+-- src/write.rt:196:24
 create-part-back-end : (t : ℕ) → create-lts.Need-part-back-end (create-calls t) (create-at t) create.Post
 create-part-back-end t c =
     let known = c .before .before .before .before .before .before .before .before .before .before .before .before .before .before .before .before .before .before .before .before .before .before .before .before .before .before .before .before .pre .1 .0 .lens-node in
     let s = shown-join (c .before .before .before .before .before .before .before .before .before .before .before .before .before .before .before .before .node .ensures) (c .before .before .before .before .before .before .before .before .before .before .before .before .before .before .kind .given .1) in
     omega (arith, at-inside known s (c .before .before .before .before .before .before .before .before .before .before .before .before .before .before .before .before .before .before .before .before .before .before .before .before .before .before .before .before .pre .1 .1 .0) (c .before .before .before .before .before .before .before .before .before .before .before .cut-sheet .ensures))
 
--- src/write.rt:185:25
+-- src/write.rt:197:25
 create-sub-track-2 : (t : ℕ) → create-lts.Need-sub-track-2 (create-calls t) (create-at t) create.Post
 create-sub-track-2 t c =
     let known = c .before .before .before .before .before .before .before .before .before .before .before .before .before .before .before .before .before .before .before .before .before .before .before .before .before .before .before .before .before .pre .1 .0 .lens-node in
@@ -239,7 +251,7 @@ create-sub-track-2 t c =
     let cut-is = c .before .before .before .before .before .before .before .before .before .before .before .before .cut-sheet .ensures in
     omega (arith, at-inside known s (c .before .before .before .before .before .before .before .before .before .before .before .before .before .before .before .before .before .before .before .before .before .before .before .before .before .before .before .before .before .pre .1 .1 .0) cut-is, left-back known s (c .before .before .before .before .before .before .before .before .before .before .before .before .before .before .before .before .before .before .before .before .before .before .before .before .before .before .before .before .before .pre .1 .1 .0) cut-is (c .before .before .before .before .before .before .before .create .last .1 .1 .1 .1 .1 .0) (c .before .before .before .before .before .before .before .create .kept .1 .1 .1 .1 .1 .0))
 
--- src/write.rt:185:25
+-- src/write.rt:197:25
 create-part-track-start-2 : (t : ℕ) → create-lts.Need-part-track-start-2 (create-calls t) (create-at t) create.Post
 create-part-track-start-2 t c =
     let known = c .before .before .before .before .before .before .before .before .before .before .before .before .before .before .before .before .before .before .before .before .before .before .before .before .before .before .before .before .before .pre .1 .0 .lens-node in
@@ -247,7 +259,7 @@ create-part-track-start-2 t c =
     let cut-is = c .before .before .before .before .before .before .before .before .before .before .before .before .cut-sheet .ensures in
     omega (arith, at-inside known s (c .before .before .before .before .before .before .before .before .before .before .before .before .before .before .before .before .before .before .before .before .before .before .before .before .before .before .before .before .before .pre .1 .1 .0) cut-is, left-back known s (c .before .before .before .before .before .before .before .before .before .before .before .before .before .before .before .before .before .before .before .before .before .before .before .before .before .before .before .before .before .pre .1 .1 .0) cut-is (c .before .before .before .before .before .before .before .create .last .1 .1 .1 .1 .1 .0) (c .before .before .before .before .before .before .before .create .kept .1 .1 .1 .1 .1 .0))
 
--- src/write.rt:185:25
+-- src/write.rt:197:25
 create-part-track-end-2 : (t : ℕ) → create-lts.Need-part-track-end-2 (create-calls t) (create-at t) create.Post
 create-part-track-end-2 t c =
     let known = c .before .before .before .before .before .before .before .before .before .before .before .before .before .before .before .before .before .before .before .before .before .before .before .before .before .before .before .before .before .pre .1 .0 .lens-node in
@@ -255,7 +267,7 @@ create-part-track-end-2 t c =
     let cut-is = c .before .before .before .before .before .before .before .before .before .before .before .before .cut-sheet .ensures in
     omega (arith, at-inside known s (c .before .before .before .before .before .before .before .before .before .before .before .before .before .before .before .before .before .before .before .before .before .before .before .before .before .before .before .before .before .pre .1 .1 .0) cut-is, left-back known s (c .before .before .before .before .before .before .before .before .before .before .before .before .before .before .before .before .before .before .before .before .before .before .before .before .before .before .before .before .before .pre .1 .1 .0) cut-is (c .before .before .before .before .before .before .before .create .last .1 .1 .1 .1 .1 .0) (c .before .before .before .before .before .before .before .create .kept .1 .1 .1 .1 .1 .0))
 
--- src/write.rt:186:13
+-- src/write.rt:198:13
 create-create-requires-2 : (t : ℕ) → create-lts.Need-create-requires-2 (create-calls t) (create-at t) create.Post
 create-create-requires-2 t c κs =
     let known = c .before .before .before .before .before .before .before .before .before .before .before .before .before .before .before .before .before .before .before .before .before .before .before .before .before .before .before .before .before .before .before .before .pre .1 .0 .lens-node in
@@ -270,67 +282,76 @@ create-create-requires-2 t c κs =
       ),
     )
 
--- src/write.rt:188:27
+-- src/write.rt:200:27
 create-enum-known-kind-2 : (t : ℕ) → create-lts.Need-enum-known-kind-2 (create-calls t) (create-at t) create.Post
 create-enum-known-kind-2 t c = search needs
 
--- src/write.rt:189:17
+-- src/write.rt:201:17
 create-choose-new-requires : (t : ℕ) → create-lts.Need-choose-new-requires (create-calls t) (create-at t) create.Post
 create-choose-new-requires t c κs =
     let known = c .before .before .before .before .before .before .before .before .before .before .before .before .before .before .before .before .pre .1 .0 .lens-node in
     let s = shown-union (c .before .before .before .before .node .ensures) (c .before .before .kind2 .given .1) in
     (node-prepared (left-below known s) Sheet, omega (arith, c .before .before .before .before .before .before .before .before .before .before .before .before .before .before .before .before .pre .1 .1 .0 .parsed .few))
 
--- src/write.rt:190:13
+-- src/write.rt:202:13
 create-create-requires-3 : (t : ℕ) → create-lts.Need-create-requires-3 (create-calls t) (create-at t) create.Post
 create-create-requires-3 t c κs =
     let s = shown-union (c .before .before .before .before .before .before .before .before .node .ensures) (c .before .before .before .before .before .before .kind2 .given .1) in
     let arm = new-arm (c .before .before .before .before .before .before .before .before .before .before .before .before .before .before .before .before .before .before .before .before .pre .1 .0) s (c .before .before .before .before .before .before .before .before .before .before .before .before .before .before .before .before .before .before .before .before .pre .1 .1 .0) (c .before .before .before .choose-new .ensures) in
     (omega (arith, c .before .before .before .before .before .before .before .before .before .before .before .before .before .before .before .before .before .before .before .before .pre .0, arm .lower), (arm-ready arm (c .before .before .before .before .before .before .before .before .before .before .before .before .before .before .before .before .before .before .before .before .pre .1 .0), (arm-given arm (c .before .before .before .before .before .before .before .before .before .before .before .before .before .before .before .before .before .before .before .before .pre .1 .1 .0), c .before .before .before .before .before .before .before .before .before .before .before .before .before .before .before .before .before .before .before .before .pre .1 .1 .1)))
 
--- src/write.rt:192:28
+-- src/write.rt:204:28
 create-enum-known-kind-3 : (t : ℕ) → create-lts.Need-enum-known-kind-3 (create-calls t) (create-at t) create.Post
 create-enum-known-kind-3 t c = search needs
 
--- src/write.rt:193:13
+-- src/write.rt:205:13
 create-write-repeat-requires : (t : ℕ) → create-lts.Need-write-repeat-requires (create-calls t) (create-at t) create.Post
 create-write-repeat-requires t c κs = (
   omega (arith, c .before .before .before .before .before .before .before .before .before .before .before .before .before .before .before .before .before .before .pre .0),
   (c .before .before .before .before .before .before .before .before .before .before .before .before .before .before .before .before .before .before .pre .1 .0, (shown-repeat (c .before .before .before .before .before .before .node .ensures) (c .before .before .before .before .kind3 .given .1), (given-none (c .before .before .before .before .before .before .before .before .before .before .before .before .before .before .before .before .before .before .pre .1 .1 .0), c .before .before .before .before .before .before .before .before .before .before .before .before .before .before .before .before .before .before .pre .1 .1 .1))),
 )
 
--- src/write.rt:195:23
+-- src/write.rt:207:23
 create-enum-known-kind-4 : (t : ℕ) → create-lts.Need-enum-known-kind-4 (create-calls t) (create-at t) create.Post
 create-enum-known-kind-4 t c = search needs
 
--- src/write.rt:197:13
+-- src/write.rt:209:13
 create-write-match-requires : (t : ℕ) → create-lts.Need-write-match-requires (create-calls t) (create-at t) create.Post
 create-write-match-requires t c κs =
     let s = shown-match (c .before .before .before .before .before .before .node .ensures) (c .before .before .before .before .kind4 .given .1) in (
       omega (arith, c .before .before .before .before .before .before .before .before .before .before .before .before .before .before .before .before .before .before .pre .0, s .lower),
-      (ready-below (c .before .before .before .before .before .before .before .before .before .before .before .before .before .before .before .before .before .before .pre .1 .0) (child-below (c .before .before .before .before .before .before .before .before .before .before .before .before .before .before .before .before .before .before .pre .1 .0 .lens-node) s), (given-match (c .before .before .before .before .before .before .before .before .before .before .before .before .before .before .before .before .before .before .pre .1 .1 .0) s, c .before .before .before .before .before .before .before .before .before .before .before .before .before .before .before .before .before .before .pre .1 .1 .1)),
+      (ready-below (c .before .before .before .before .before .before .before .before .before .before .before .before .before .before .before .before .before .before .pre .1 .0) (child-below (c .before .before .before .before .before .before .before .before .before .before .before .before .before .before .before .before .before .before .pre .1 .0 .lens-node) s), ((given-match (c .before .before .before .before .before .before .before .before .before .before .before .before .before .before .before .before .before .before .pre .1 .1 .0) s, inner-flat (c .before .before .before .before .before .before .before .before .before .before .before .before .before .before .before .before .before .before .pre .1 .0 .lens-node) s), c .before .before .before .before .before .before .before .before .before .before .before .before .before .before .before .before .before .before .pre .1 .1 .1)),
     )
 
--- src/write.rt:199:14
+-- src/write.rt:211:14
 create-plain-behind-requires-2 : (t : ℕ) → create-lts.Need-plain-behind-requires-2 (create-calls t) (create-at t) create.Post
-create-plain-behind-requires-2 t c κs = (c .before .before .before .before .before .before .before .before .before .before .before .before .before .before .before .pre .1 .0, (given-none (c .before .before .before .before .before .before .before .before .before .before .before .before .before .before .before .pre .1 .1 .0), (c .before .before .before .before .before .before .before .before .before .before .before .before .before .before .before .pre .1 .1 .1 .0, leaf-asks-none (c .before .before .before .before .before .before .before .before .before .before .before .before .before .before .before .pre .1 .0 .lens-node) (c .before .before .before .node .ensures) (c .before .before .before .before .before .before .before .before .before .before .before .before .before .before .before .pre .1 .0 .below-is) (c .before .before .match .keys5))))
+create-plain-behind-requires-2 t c κs = (
+  c .before .before .before .before .before .before .before .before .before .before .before .before .before .before .before .pre .1 .0,
+  (
+    given-none (c .before .before .before .before .before .before .before .before .before .before .before .before .before .before .before .pre .1 .1 .0),
+    (
+      (c .before .before .before .before .before .before .before .before .before .before .before .before .before .before .before .pre .1 .1 .1 .0, leaf-asks-none (c .before .before .before .before .before .before .before .before .before .before .before .before .before .before .before .pre .1 .0 .lens-node) (c .before .before .before .node .ensures) (c .before .before .before .before .before .before .before .before .before .before .before .before .before .before .before .pre .1 .0 .below-is) (c .before .before .match .keys5)),
+      leaf-met (c .before .before .before .before .before .before .before .before .before .before .before .before .before .before .before .pre .1 .0 .lens-node) (c .before .before .before .node .ensures) _ _ (c .before .before .match .keys5),
+    ),
+  ),
+)
 
--- src/write.rt:151:1
+-- src/write.rt:162:1
 create-same-length-3 : (t : ℕ) → create-lts.Need-same-length-3 (create-calls t) (create-at t) create.Post
 create-same-length-3 t c =
     let known = c .before .before .before .before .before .before .before .before .before .before .before .before .before .before .before .before .before .before .before .before .before .before .before .before .before .before .before .before .before .before .before .before .before .before .before .before .before .before .before .pre .1 .0 .lens-node in
     let s = shown-join (c .before .before .before .before .before .before .before .before .before .before .before .before .before .before .before .before .before .before .before .before .before .before .before .before .before .before .before .node .ensures) (c .before .before .before .before .before .before .before .before .before .before .before .before .before .before .before .before .before .before .before .before .before .before .before .before .before .kind .given .1) in
     right-back known s (c .before .before .before .before .before .before .before .before .before .before .before .before .before .before .before .before .before .before .before .before .before .before .before .before .before .before .before .before .before .before .before .before .before .before .before .before .before .before .before .pre .1 .1 .0) (c .before .before .before .before .before .before .before .before .before .before .before .before .before .before .before .before .before .before .before .before .before .before .cut-sheet .ensures) (c .before .before .before .before .before .before .before .before .before .before .before .before .before .before .before .before .before .create .last .1 .1 .1 .1 .1 .0) (c .before .before .before .before .before .before .create2 .last .1 .1 .1 .1 .1 .0) (c .before .before .before .before .before .before .before .before .before .before .before .before .before .before .before .before .before .create .kept .1 .1 .1 .1 .1 .0) (c .before .before .before .before .before .before .create2 .kept .1 .1 .1 .1 .1 .0)
 
--- src/write.rt:151:1
+-- src/write.rt:162:1
 create-same-length-4 : (t : ℕ) → create-lts.Need-same-length-4 (create-calls t) (create-at t) create.Post
 create-same-length-4 t c = c .before .before .before .before .before .before .create2 .kept .1 .1 .1 .1 .1 .1 .1 .1 .0 ∙ c .before .before .before .before .before .before .before .before .before .before .before .before .before .before .before .before .before .create .kept .1 .1 .1 .1 .1 .1 .1 .1 .0
 
--- src/write.rt:151:1
+-- src/write.rt:162:1
 create-same-length-5 : (t : ℕ) → create-lts.Need-same-length-5 (create-calls t) (create-at t) create.Post
 create-same-length-5 t c = c .before .before .before .before .before .before .create2 .kept .1 .1 .1 .1 .1 .1 .1 .1 .1 .0 ∙ c .before .before .before .before .before .before .before .before .before .before .before .before .before .before .before .before .before .create .kept .1 .1 .1 .1 .1 .1 .1 .1 .1 .0
 
--- src/write.rt:151:1
+-- src/write.rt:162:1
 create-returns-2 : (t : ℕ) → create-lts.Need-returns-2 (create-calls t) (create-at t) create.Post
 create-returns-2 t c =
     let known = c .before .before .before .before .before .before .before .before .before .before .before .before .before .before .before .before .before .before .before .before .before .before .before .before .before .before .before .before .before .before .before .before .before .before .before .before .before .before .before .pre .1 .0 .lens-node in
@@ -338,158 +359,167 @@ create-returns-2 t c =
     let cut-is = c .before .before .before .before .before .before .before .before .before .before .before .before .before .before .before .before .before .before .before .before .before .before .cut-sheet .ensures in
     join-created known s (c .before .before .before .before .before .before .before .before .before .before .before .before .before .before .before .before .before .before .before .before .before .before .before .before .before .before .before .before .before .before .before .before .before .before .before .before .before .before .before .pre .1 .1 .0) cut-is (c .before .before .before .before .before .before .before .before .before .before .before .before .before .before .before .before .before .create .ensures) (c .before .before .before .before .before .before .create2 .ensures)
 
--- src/write.rt:151:1
+-- src/write.rt:162:1
 create-same-length-6 : (t : ℕ) → create-lts.Need-same-length-6 (create-calls t) (create-at t) create.Post
 create-same-length-6 t c = search needs
 
--- src/write.rt:151:1
+-- src/write.rt:162:1
 create-same-length-7 : (t : ℕ) → create-lts.Need-same-length-7 (create-calls t) (create-at t) create.Post
 create-same-length-7 t c = search needs
 
--- src/write.rt:151:1
+-- src/write.rt:162:1
 create-same-length-8 : (t : ℕ) → create-lts.Need-same-length-8 (create-calls t) (create-at t) create.Post
 create-same-length-8 t c = search needs
 
--- src/write.rt:151:1
+-- src/write.rt:162:1
 create-returns-3 : (t : ℕ) → create-lts.Need-returns-3 (create-calls t) (create-at t) create.Post
 create-returns-3 t c =
     let s = shown-union (c .before .before .before .before .before .before .before .before .before .before .before .before .before .before .before .node .ensures) (c .before .before .before .before .before .before .before .before .before .before .before .before .before .kind2 .given .1) in
     union-writes s (new-arm (c .before .before .before .before .before .before .before .before .before .before .before .before .before .before .before .before .before .before .before .before .before .before .before .before .before .before .before .pre .1 .0) s (c .before .before .before .before .before .before .before .before .before .before .before .before .before .before .before .before .before .before .before .before .before .before .before .before .before .before .before .pre .1 .1 .0) (c .before .before .before .before .before .before .before .before .before .before .choose-new .ensures)) (c .before .before .before .before .before .before .create3 .ensures)
 
--- src/write.rt:151:1
+-- src/write.rt:162:1
 create-same-length-9 : (t : ℕ) → create-lts.Need-same-length-9 (create-calls t) (create-at t) create.Post
 create-same-length-9 t c = search needs
 
--- src/write.rt:151:1
+-- src/write.rt:162:1
 create-same-length-10 : (t : ℕ) → create-lts.Need-same-length-10 (create-calls t) (create-at t) create.Post
 create-same-length-10 t c = search needs
 
--- src/write.rt:151:1
+-- src/write.rt:162:1
 create-same-length-11 : (t : ℕ) → create-lts.Need-same-length-11 (create-calls t) (create-at t) create.Post
 create-same-length-11 t c = search needs
 
--- src/write.rt:151:1
+-- src/write.rt:162:1
 create-returns-4 : (t : ℕ) → create-lts.Need-returns-4 (create-calls t) (create-at t) create.Post
 unfolding oldText
 create-returns-4 t c = c .before .before .before .before .before .before .write-repeat .ensures
 
--- src/write.rt:151:1
+-- src/write.rt:162:1
 create-same-length-12 : (t : ℕ) → create-lts.Need-same-length-12 (create-calls t) (create-at t) create.Post
 create-same-length-12 t c = search needs
 
--- src/write.rt:151:1
+-- src/write.rt:162:1
 create-same-length-13 : (t : ℕ) → create-lts.Need-same-length-13 (create-calls t) (create-at t) create.Post
 create-same-length-13 t c = search needs
 
--- src/write.rt:151:1
+-- src/write.rt:162:1
 create-same-length-14 : (t : ℕ) → create-lts.Need-same-length-14 (create-calls t) (create-at t) create.Post
 create-same-length-14 t c = search needs
 
--- src/write.rt:151:1
+-- src/write.rt:162:1
 create-returns-5 : (t : ℕ) → create-lts.Need-returns-5 (create-calls t) (create-at t) create.Post
 create-returns-5 t c =
     let s = shown-match (c .before .before .before .before .before .before .before .before .before .before .before .before .before .node .ensures) (c .before .before .before .before .before .before .before .before .before .before .before .kind4 .given .1) in
     at-node (match _ (s .child)) (s .tree-is) (c .before .before .before .before .before .before .write-match .ensures .writes (s .child) (s .at-child) _)
 
--- src/write.rt:151:1
+-- src/write.rt:162:1
 create-same-length-15 : (t : ℕ) → create-lts.Need-same-length-15 (create-calls t) (create-at t) create.Post
 create-same-length-15 t c = search needs
 
--- src/write.rt:151:1
+-- src/write.rt:162:1
 create-same-length-16 : (t : ℕ) → create-lts.Need-same-length-16 (create-calls t) (create-at t) create.Post
 create-same-length-16 t c = search needs
 
--- src/write.rt:151:1
+-- src/write.rt:162:1
 create-returns-6 : (t : ℕ) → create-lts.Need-returns-6 (create-calls t) (create-at t) create.Post
 unfolding oldText
 create-returns-6 t c = c .before .before .before .before .plain-behind2 .ensures
 
--- src/write.rt:113:8
-put-asks-none-requires : (t : ℕ) → put-lts.Need-asks-none-requires (put-calls t) (put-at t) put.Post
-put-asks-none-requires t c κs = below-room (c .before .before .before .before .before .before .before .before .before .pre .1 .0)
+-- src/write.rt:123:9
+put-plain-count-requires : (t : ℕ) → put-lts.Need-plain-count-requires (put-calls t) (put-at t) put.Post
+put-plain-count-requires t c κs = below-room (c .before .before .before .before .before .before .before .before .before .pre .1 .0)
 
--- src/write.rt:114:9
+-- src/write.rt:125:9
 put-plain-behind-requires : (t : ℕ) → put-lts.Need-plain-behind-requires (put-calls t) (put-at t) put.Post
-put-plain-behind-requires t c κs = (c .before .before .before .before .before .before .before .before .before .before .before .before .before .pre .1 .0, (given-onto (c .before .before .before .before .before .before .before .before .before .before .before .before .before .pre .1 .1 .0), (c .before .before .before .before .before .before .before .before .before .before .before .before .before .pre .1 .1 .1 .0, record { none-shared = c .before .before .before .asks-none .ensures .0 (c .before .before .if1 .taken) })))
+put-plain-behind-requires t c κs = (
+  c .before .before .before .before .before .before .before .before .before .before .before .before .before .pre .1 .0,
+  (
+    given-onto (c .before .before .before .before .before .before .before .before .before .before .before .before .before .pre .1 .1 .0),
+    (
+      (c .before .before .before .before .before .before .before .before .before .before .before .before .before .pre .1 .1 .1 .0, record { none-shared = c .before .before .before .plain-count .ensures .none-shared (c .before .before .if1 .taken) }),
+      plain-met _ _ (c .before .before .before .before .before .before .before .before .before .before .before .before .before .pre .1 .0 .lens-node) (c .before .before .before .before .before .before .before .before .before .before .before .before .before .pre .1 .0 .below-is) (c .before .before .before .plain-count .ensures) (c .before .before .if1 .taken),
+    ),
+  ),
+)
 
--- src/write.rt:114:9
+-- src/write.rt:125:9
 put-same-length : (t : ℕ) → put-lts.Need-same-length (put-calls t) (put-at t) put.Post
 put-same-length t c = search needs
 
--- src/write.rt:114:9
+-- src/write.rt:125:9
 put-same-length-2 : (t : ℕ) → put-lts.Need-same-length-2 (put-calls t) (put-at t) put.Post
 put-same-length-2 t c = search needs
 
--- src/write.rt:114:9
+-- src/write.rt:125:9
 put-returns : (t : ℕ) → put-lts.Need-returns (put-calls t) (put-at t) put.Post
 unfolding oldText
 put-returns t c = c .before .before .before .before .plain-behind .ensures
 
--- src/write.rt:116:9
+-- src/write.rt:127:9
 put-node-requires : (t : ℕ) → put-lts.Need-node-requires (put-calls t) (put-at t) put.Post
 put-node-requires t c κs = (c .before .before .before .before .before .before .before .before .before .before .before .pre .1 .0 .lens-node .built .sized, c .before .before .before .before .before .before .before .before .before .before .before .pre .1 .0 .lens-node .inside)
 
--- src/write.rt:119:26
+-- src/write.rt:130:26
 put-enum-known-kind : (t : ℕ) → put-lts.Need-enum-known-kind (put-calls t) (put-at t) put.Post
 put-enum-known-kind t c = search needs
 
--- src/write.rt:120:17
+-- src/write.rt:131:17
 put-cut-sheet-requires : (t : ℕ) → put-lts.Need-cut-sheet-requires (put-calls t) (put-at t) put.Post
 put-cut-sheet-requires t c κs =
     let known = c .before .before .before .before .before .before .before .before .before .before .before .before .before .before .before .before .pre .1 .0 .lens-node in
     let s = shown-join (c .before .before .before .before .node .ensures) (c .before .before .kind .given .1) in
     (node-prepared (left-below known s) Sheet, omega (arith, c .before .before .before .before .before .before .before .before .before .before .before .before .before .before .before .before .pre .1 .1 .0 .sheet-given .parsed .few))
 
--- src/write.rt:122:17
+-- src/write.rt:133:17
 put-halves-of-requires : (t : ℕ) → put-lts.Need-halves-of-requires (put-calls t) (put-at t) put.Post
 put-halves-of-requires t c κs =
     let known = c .before .before .before .before .before .before .before .before .before .before .before .before .before .before .before .before .before .pre .1 .0 .lens-node in
     let s = shown-join (c .before .before .before .before .before .node .ensures) (c .before .before .before .kind .given .1) in
     ((node-prepared (left-below known s) Source, place-inside (c .before .before .before .before .before .before .before .before .before .before .before .before .before .before .before .before .before .pre .1 .1 .0 .old-parsed)), omega (arith, c .before .before .before .before .before .before .before .before .before .before .before .before .before .before .before .before .before .pre .1 .1 .0 .sheet-given .deck-room))
 
--- src/write.rt:123:25
+-- src/write.rt:134:25
 put-sub-front : (t : ℕ) → put-lts.Need-sub-front (put-calls t) (put-at t) put.Post
 put-sub-front t c =
     let known = c .before .before .before .before .before .before .before .before .before .before .before .before .before .before .before .before .before .before .pre .1 .0 .lens-node in
     let s = shown-join (c .before .before .before .before .before .before .node .ensures) (c .before .before .before .before .kind .given .1) in
     omega (arith, at-inside known s (c .before .before .before .before .before .before .before .before .before .before .before .before .before .before .before .before .before .before .pre .1 .1 .0 .sheet-given) (c .before .cut-sheet .ensures))
 
--- src/write.rt:123:25
+-- src/write.rt:134:25
 put-part-front-start : (t : ℕ) → put-lts.Need-part-front-start (put-calls t) (put-at t) put.Post
 put-part-front-start t c =
     let known = c .before .before .before .before .before .before .before .before .before .before .before .before .before .before .before .before .before .before .pre .1 .0 .lens-node in
     let s = shown-join (c .before .before .before .before .before .before .node .ensures) (c .before .before .before .before .kind .given .1) in
     omega (arith, at-inside known s (c .before .before .before .before .before .before .before .before .before .before .before .before .before .before .before .before .before .before .pre .1 .1 .0 .sheet-given) (c .before .cut-sheet .ensures))
 
--- src/write.rt:123:25
+-- src/write.rt:134:25
 put-part-front-end : (t : ℕ) → put-lts.Need-part-front-end (put-calls t) (put-at t) put.Post
 put-part-front-end t c =
     let known = c .before .before .before .before .before .before .before .before .before .before .before .before .before .before .before .before .before .before .pre .1 .0 .lens-node in
     let s = shown-join (c .before .before .before .before .before .before .node .ensures) (c .before .before .before .before .kind .given .1) in
     omega (arith, at-inside known s (c .before .before .before .before .before .before .before .before .before .before .before .before .before .before .before .before .before .before .pre .1 .1 .0 .sheet-given) (c .before .cut-sheet .ensures))
 
--- src/write.rt:124:25
+-- src/write.rt:135:25
 put-sub-track : (t : ℕ) → put-lts.Need-sub-track (put-calls t) (put-at t) put.Post
 put-sub-track t c =
     let known = c .before .before .before .before .before .before .before .before .before .before .before .before .before .before .before .before .before .before .before .pre .1 .0 .lens-node in
     let s = shown-join (c .before .before .before .before .before .before .before .node .ensures) (c .before .before .before .before .before .kind .given .1) in
     omega (arith, at-inside known s (c .before .before .before .before .before .before .before .before .before .before .before .before .before .before .before .before .before .before .before .pre .1 .1 .0 .sheet-given) (c .before .before .cut-sheet .ensures))
 
--- src/write.rt:124:25
+-- src/write.rt:135:25
 put-part-track-start : (t : ℕ) → put-lts.Need-part-track-start (put-calls t) (put-at t) put.Post
 put-part-track-start t c =
     let known = c .before .before .before .before .before .before .before .before .before .before .before .before .before .before .before .before .before .before .before .pre .1 .0 .lens-node in
     let s = shown-join (c .before .before .before .before .before .before .before .node .ensures) (c .before .before .before .before .before .kind .given .1) in
     omega (arith, at-inside known s (c .before .before .before .before .before .before .before .before .before .before .before .before .before .before .before .before .before .before .before .pre .1 .1 .0 .sheet-given) (c .before .before .cut-sheet .ensures))
 
--- src/write.rt:124:25
+-- src/write.rt:135:25
 put-part-track-end : (t : ℕ) → put-lts.Need-part-track-end (put-calls t) (put-at t) put.Post
 put-part-track-end t c =
     let known = c .before .before .before .before .before .before .before .before .before .before .before .before .before .before .before .before .before .before .before .pre .1 .0 .lens-node in
     let s = shown-join (c .before .before .before .before .before .before .before .node .ensures) (c .before .before .before .before .before .kind .given .1) in
     omega (arith, at-inside known s (c .before .before .before .before .before .before .before .before .before .before .before .before .before .before .before .before .before .before .before .pre .1 .1 .0 .sheet-given) (c .before .before .cut-sheet .ensures))
 
--- src/write.rt:125:13
+-- src/write.rt:136:13
 put-put-requires : (t : ℕ) → put-lts.Need-put-requires (put-calls t) (put-at t) put.Post
 put-put-requires t c κs =
     let known = c .before .before .before .before .before .before .before .before .before .before .before .before .before .before .before .before .before .before .before .before .before .before .pre .1 .0 .lens-node in
@@ -502,28 +532,28 @@ put-put-requires t c κs =
       ),
     )
 
--- src/write.rt:126:24
+-- src/write.rt:137:24
 put-sub-back : (t : ℕ) → put-lts.Need-sub-back (put-calls t) (put-at t) put.Post
 put-sub-back t c =
     let known = c .before .before .before .before .before .before .before .before .before .before .before .before .before .before .before .before .before .before .before .before .before .before .before .before .before .before .before .before .before .pre .1 .0 .lens-node in
     let s = shown-join (c .before .before .before .before .before .before .before .before .before .before .before .before .before .before .before .before .before .node .ensures) (c .before .before .before .before .before .before .before .before .before .before .before .before .before .before .before .kind .given .1) in
     omega (arith, at-inside known s (c .before .before .before .before .before .before .before .before .before .before .before .before .before .before .before .before .before .before .before .before .before .before .before .before .before .before .before .before .before .pre .1 .1 .0 .sheet-given) (c .before .before .before .before .before .before .before .before .before .before .before .before .cut-sheet .ensures))
 
--- src/write.rt:126:24
+-- src/write.rt:137:24
 put-part-back-start : (t : ℕ) → put-lts.Need-part-back-start (put-calls t) (put-at t) put.Post
 put-part-back-start t c =
     let known = c .before .before .before .before .before .before .before .before .before .before .before .before .before .before .before .before .before .before .before .before .before .before .before .before .before .before .before .before .before .pre .1 .0 .lens-node in
     let s = shown-join (c .before .before .before .before .before .before .before .before .before .before .before .before .before .before .before .before .before .node .ensures) (c .before .before .before .before .before .before .before .before .before .before .before .before .before .before .before .kind .given .1) in
     omega (arith, at-inside known s (c .before .before .before .before .before .before .before .before .before .before .before .before .before .before .before .before .before .before .before .before .before .before .before .before .before .before .before .before .before .pre .1 .1 .0 .sheet-given) (c .before .before .before .before .before .before .before .before .before .before .before .before .cut-sheet .ensures))
 
--- src/write.rt:126:24
+-- src/write.rt:137:24
 put-part-back-end : (t : ℕ) → put-lts.Need-part-back-end (put-calls t) (put-at t) put.Post
 put-part-back-end t c =
     let known = c .before .before .before .before .before .before .before .before .before .before .before .before .before .before .before .before .before .before .before .before .before .before .before .before .before .before .before .before .before .pre .1 .0 .lens-node in
     let s = shown-join (c .before .before .before .before .before .before .before .before .before .before .before .before .before .before .before .before .before .node .ensures) (c .before .before .before .before .before .before .before .before .before .before .before .before .before .before .before .kind .given .1) in
     omega (arith, at-inside known s (c .before .before .before .before .before .before .before .before .before .before .before .before .before .before .before .before .before .before .before .before .before .before .before .before .before .before .before .before .before .pre .1 .1 .0 .sheet-given) (c .before .before .before .before .before .before .before .before .before .before .before .before .cut-sheet .ensures))
 
--- src/write.rt:127:25
+-- src/write.rt:138:25
 put-sub-track-2 : (t : ℕ) → put-lts.Need-sub-track-2 (put-calls t) (put-at t) put.Post
 put-sub-track-2 t c =
     let known = c .before .before .before .before .before .before .before .before .before .before .before .before .before .before .before .before .before .before .before .before .before .before .before .before .before .before .before .before .before .before .pre .1 .0 .lens-node in
@@ -531,7 +561,7 @@ put-sub-track-2 t c =
     let cut-is = c .before .before .before .before .before .before .before .before .before .before .before .before .before .cut-sheet .ensures in
     omega (arith, at-inside known s (c .before .before .before .before .before .before .before .before .before .before .before .before .before .before .before .before .before .before .before .before .before .before .before .before .before .before .before .before .before .before .pre .1 .1 .0 .sheet-given) cut-is, left-back known s (c .before .before .before .before .before .before .before .before .before .before .before .before .before .before .before .before .before .before .before .before .before .before .before .before .before .before .before .before .before .before .pre .1 .1 .0 .sheet-given) cut-is (c .before .before .before .before .before .before .before .put .last .1 .1 .1 .1 .1 .0) (c .before .before .before .before .before .before .before .put .kept .1 .1 .1 .1 .1 .0))
 
--- src/write.rt:127:25
+-- src/write.rt:138:25
 put-part-track-start-2 : (t : ℕ) → put-lts.Need-part-track-start-2 (put-calls t) (put-at t) put.Post
 put-part-track-start-2 t c =
     let known = c .before .before .before .before .before .before .before .before .before .before .before .before .before .before .before .before .before .before .before .before .before .before .before .before .before .before .before .before .before .before .pre .1 .0 .lens-node in
@@ -539,7 +569,7 @@ put-part-track-start-2 t c =
     let cut-is = c .before .before .before .before .before .before .before .before .before .before .before .before .before .cut-sheet .ensures in
     omega (arith, at-inside known s (c .before .before .before .before .before .before .before .before .before .before .before .before .before .before .before .before .before .before .before .before .before .before .before .before .before .before .before .before .before .before .pre .1 .1 .0 .sheet-given) cut-is, left-back known s (c .before .before .before .before .before .before .before .before .before .before .before .before .before .before .before .before .before .before .before .before .before .before .before .before .before .before .before .before .before .before .pre .1 .1 .0 .sheet-given) cut-is (c .before .before .before .before .before .before .before .put .last .1 .1 .1 .1 .1 .0) (c .before .before .before .before .before .before .before .put .kept .1 .1 .1 .1 .1 .0))
 
--- src/write.rt:127:25
+-- src/write.rt:138:25
 put-part-track-end-2 : (t : ℕ) → put-lts.Need-part-track-end-2 (put-calls t) (put-at t) put.Post
 put-part-track-end-2 t c =
     let known = c .before .before .before .before .before .before .before .before .before .before .before .before .before .before .before .before .before .before .before .before .before .before .before .before .before .before .before .before .before .before .pre .1 .0 .lens-node in
@@ -547,7 +577,7 @@ put-part-track-end-2 t c =
     let cut-is = c .before .before .before .before .before .before .before .before .before .before .before .before .before .cut-sheet .ensures in
     omega (arith, at-inside known s (c .before .before .before .before .before .before .before .before .before .before .before .before .before .before .before .before .before .before .before .before .before .before .before .before .before .before .before .before .before .before .pre .1 .1 .0 .sheet-given) cut-is, left-back known s (c .before .before .before .before .before .before .before .before .before .before .before .before .before .before .before .before .before .before .before .before .before .before .before .before .before .before .before .before .before .before .pre .1 .1 .0 .sheet-given) cut-is (c .before .before .before .before .before .before .before .put .last .1 .1 .1 .1 .1 .0) (c .before .before .before .before .before .before .before .put .kept .1 .1 .1 .1 .1 .0))
 
--- src/write.rt:128:13
+-- src/write.rt:139:13
 put-put-requires-2 : (t : ℕ) → put-lts.Need-put-requires-2 (put-calls t) (put-at t) put.Post
 put-put-requires-2 t c κs =
     let known = c .before .before .before .before .before .before .before .before .before .before .before .before .before .before .before .before .before .before .before .before .before .before .before .before .before .before .before .before .before .before .before .before .before .pre .1 .0 .lens-node in
@@ -562,11 +592,11 @@ put-put-requires-2 t c κs =
       ),
     )
 
--- src/write.rt:130:27
+-- src/write.rt:141:27
 put-enum-known-kind-2 : (t : ℕ) → put-lts.Need-enum-known-kind-2 (put-calls t) (put-at t) put.Post
 put-enum-known-kind-2 t c = search needs
 
--- src/write.rt:131:17
+-- src/write.rt:142:17
 put-choose-requires : (t : ℕ) → put-lts.Need-choose-requires (put-calls t) (put-at t) put.Post
 put-choose-requires t c κs =
     let known = c .before .before .before .before .before .before .before .before .before .before .before .before .before .before .before .before .pre .1 .0 .lens-node in
@@ -578,11 +608,11 @@ put-choose-requires t c κs =
       ),
     )
 
--- src/write.rt:135:25
+-- src/write.rt:146:25
 put-enum-known-kept : (t : ℕ) → put-lts.Need-enum-known-kept (put-calls t) (put-at t) put.Post
 put-enum-known-kept t c = search needs
 
--- src/write.rt:135:35
+-- src/write.rt:146:35
 put-put-requires-3 : (t : ℕ) → put-lts.Need-put-requires-3 (put-calls t) (put-at t) put.Post
 put-put-requires-3 t c κs =
     let s = shown-union (c .before .before .before .before .before .before .before .before .before .before .before .before .before .before .node .ensures) (c .before .before .before .before .before .before .before .before .before .before .before .before .kind2 .given .1) in
@@ -590,60 +620,69 @@ put-put-requires-3 t c κs =
     let given = choice-given (c .before .before .before .before .before .before .before .before .before .before .before .before .before .before .before .before .before .before .before .before .before .before .before .before .before .before .pre .1 .0) s (c .before .before .before .before .before .before .before .before .before .before .before .before .before .before .before .before .before .before .before .before .before .before .before .before .before .before .pre .1 .1 .0) (c .before .before .before .before .before .before .before .before .before .choose .ensures) in
     (omega (arith, c .before .before .before .before .before .before .before .before .before .before .before .before .before .before .before .before .before .before .before .before .before .before .before .before .before .before .pre .0, arm .lower), (arm-ready arm (c .before .before .before .before .before .before .before .before .before .before .before .before .before .before .before .before .before .before .before .before .before .before .before .before .before .before .pre .1 .0), (given-at given (c .before .before .before .before .kept .given .1), c .before .before .before .before .before .before .before .before .before .before .before .before .before .before .before .before .before .before .before .before .before .before .before .before .before .before .pre .1 .1 .1)))
 
--- src/write.rt:136:73
+-- src/write.rt:147:73
 put-enum-told : (t : ℕ) → put-lts.Need-enum-told (put-calls t) (put-at t) put.Post
 put-enum-told t c = search needs
 
--- src/write.rt:136:33
+-- src/write.rt:147:33
 put-create-requires : (t : ℕ) → put-lts.Need-create-requires (put-calls t) (put-at t) put.Post
 put-create-requires t c κs =
     let s = shown-union (c .before .before .before .before .before .before .before .before .before .before .before .before .before .node .ensures) (c .before .before .before .before .before .before .before .before .before .before .before .kind2 .given .1) in
     let arm = choice-arm (c .before .before .before .before .before .before .before .before .before .before .before .before .before .before .before .before .before .before .before .before .before .before .before .before .before .pre .1 .0) s (c .before .before .before .before .before .before .before .before .before .before .before .before .before .before .before .before .before .before .before .before .before .before .before .before .before .pre .1 .1 .0) (c .before .before .before .before .before .before .before .before .choose .ensures) in
     (omega (arith, c .before .before .before .before .before .before .before .before .before .before .before .before .before .before .before .before .before .before .before .before .before .before .before .before .before .pre .0, arm .lower), (arm-ready arm (c .before .before .before .before .before .before .before .before .before .before .before .before .before .before .before .before .before .before .before .before .before .before .before .before .before .pre .1 .0), (arm-given arm (c .before .before .before .before .before .before .before .before .before .before .before .before .before .before .before .before .before .before .before .before .before .before .before .before .before .pre .1 .1 .0 .sheet-given), c .before .before .before .before .before .before .before .before .before .before .before .before .before .before .before .before .before .before .before .before .before .before .before .before .before .pre .1 .1 .1)))
 
--- src/write.rt:139:28
+-- src/write.rt:150:28
 put-enum-known-kind-3 : (t : ℕ) → put-lts.Need-enum-known-kind-3 (put-calls t) (put-at t) put.Post
 put-enum-known-kind-3 t c = search needs
 
--- src/write.rt:140:13
+-- src/write.rt:151:13
 put-write-repeat-requires : (t : ℕ) → put-lts.Need-write-repeat-requires (put-calls t) (put-at t) put.Post
 put-write-repeat-requires t c κs = (
   omega (arith, c .before .before .before .before .before .before .before .before .before .before .before .before .before .before .before .before .before .before .pre .0),
   (c .before .before .before .before .before .before .before .before .before .before .before .before .before .before .before .before .before .before .pre .1 .0, (shown-repeat (c .before .before .before .before .before .before .node .ensures) (c .before .before .before .before .kind3 .given .1), (given-onto (c .before .before .before .before .before .before .before .before .before .before .before .before .before .before .before .before .before .before .pre .1 .1 .0), c .before .before .before .before .before .before .before .before .before .before .before .before .before .before .before .before .before .before .pre .1 .1 .1))),
 )
 
--- src/write.rt:142:23
+-- src/write.rt:153:23
 put-enum-known-kind-4 : (t : ℕ) → put-lts.Need-enum-known-kind-4 (put-calls t) (put-at t) put.Post
 put-enum-known-kind-4 t c = search needs
 
--- src/write.rt:144:13
+-- src/write.rt:155:13
 put-write-match-requires : (t : ℕ) → put-lts.Need-write-match-requires (put-calls t) (put-at t) put.Post
 put-write-match-requires t c κs =
     let s = shown-match (c .before .before .before .before .before .before .node .ensures) (c .before .before .before .before .kind4 .given .1) in (
       omega (arith, c .before .before .before .before .before .before .before .before .before .before .before .before .before .before .before .before .before .before .pre .0, s .lower),
-      (ready-below (c .before .before .before .before .before .before .before .before .before .before .before .before .before .before .before .before .before .before .pre .1 .0) (child-below (c .before .before .before .before .before .before .before .before .before .before .before .before .before .before .before .before .before .before .pre .1 .0 .lens-node) s), (given-match (c .before .before .before .before .before .before .before .before .before .before .before .before .before .before .before .before .before .before .pre .1 .1 .0 .sheet-given) s, c .before .before .before .before .before .before .before .before .before .before .before .before .before .before .before .before .before .before .pre .1 .1 .1)),
+      (ready-below (c .before .before .before .before .before .before .before .before .before .before .before .before .before .before .before .before .before .before .pre .1 .0) (child-below (c .before .before .before .before .before .before .before .before .before .before .before .before .before .before .before .before .before .before .pre .1 .0 .lens-node) s), ((given-match (c .before .before .before .before .before .before .before .before .before .before .before .before .before .before .before .before .before .before .pre .1 .1 .0 .sheet-given) s, inner-flat (c .before .before .before .before .before .before .before .before .before .before .before .before .before .before .before .before .before .before .pre .1 .0 .lens-node) s), c .before .before .before .before .before .before .before .before .before .before .before .before .before .before .before .before .before .before .pre .1 .1 .1)),
     )
 
--- src/write.rt:146:14
+-- src/write.rt:157:14
 put-plain-behind-requires-2 : (t : ℕ) → put-lts.Need-plain-behind-requires-2 (put-calls t) (put-at t) put.Post
-put-plain-behind-requires-2 t c κs = (c .before .before .before .before .before .before .before .before .before .before .before .before .before .before .before .pre .1 .0, (given-onto (c .before .before .before .before .before .before .before .before .before .before .before .before .before .before .before .pre .1 .1 .0), (c .before .before .before .before .before .before .before .before .before .before .before .before .before .before .before .pre .1 .1 .1 .0, leaf-asks-none (c .before .before .before .before .before .before .before .before .before .before .before .before .before .before .before .pre .1 .0 .lens-node) (c .before .before .before .node .ensures) (c .before .before .before .before .before .before .before .before .before .before .before .before .before .before .before .pre .1 .0 .below-is) (c .before .before .match .keys5))))
+put-plain-behind-requires-2 t c κs = (
+  c .before .before .before .before .before .before .before .before .before .before .before .before .before .before .before .pre .1 .0,
+  (
+    given-onto (c .before .before .before .before .before .before .before .before .before .before .before .before .before .before .before .pre .1 .1 .0),
+    (
+      (c .before .before .before .before .before .before .before .before .before .before .before .before .before .before .before .pre .1 .1 .1 .0, leaf-asks-none (c .before .before .before .before .before .before .before .before .before .before .before .before .before .before .before .pre .1 .0 .lens-node) (c .before .before .before .node .ensures) (c .before .before .before .before .before .before .before .before .before .before .before .before .before .before .before .pre .1 .0 .below-is) (c .before .before .match .keys5)),
+      leaf-met (c .before .before .before .before .before .before .before .before .before .before .before .before .before .before .before .pre .1 .0 .lens-node) (c .before .before .before .node .ensures) _ _ (c .before .before .match .keys5),
+    ),
+  ),
+)
 
--- src/write.rt:91:1
+-- src/write.rt:101:1
 put-same-length-3 : (t : ℕ) → put-lts.Need-same-length-3 (put-calls t) (put-at t) put.Post
 put-same-length-3 t c =
     let known = c .before .before .before .before .before .before .before .before .before .before .before .before .before .before .before .before .before .before .before .before .before .before .before .before .before .before .before .before .before .before .before .before .before .before .before .before .before .before .before .before .pre .1 .0 .lens-node in
     let s = shown-join (c .before .before .before .before .before .before .before .before .before .before .before .before .before .before .before .before .before .before .before .before .before .before .before .before .before .before .before .before .node .ensures) (c .before .before .before .before .before .before .before .before .before .before .before .before .before .before .before .before .before .before .before .before .before .before .before .before .before .before .kind .given .1) in
     right-back known s (c .before .before .before .before .before .before .before .before .before .before .before .before .before .before .before .before .before .before .before .before .before .before .before .before .before .before .before .before .before .before .before .before .before .before .before .before .before .before .before .before .pre .1 .1 .0 .sheet-given) (c .before .before .before .before .before .before .before .before .before .before .before .before .before .before .before .before .before .before .before .before .before .before .before .cut-sheet .ensures) (c .before .before .before .before .before .before .before .before .before .before .before .before .before .before .before .before .before .put .last .1 .1 .1 .1 .1 .0) (c .before .before .before .before .before .before .put2 .last .1 .1 .1 .1 .1 .0) (c .before .before .before .before .before .before .before .before .before .before .before .before .before .before .before .before .before .put .kept .1 .1 .1 .1 .1 .0) (c .before .before .before .before .before .before .put2 .kept .1 .1 .1 .1 .1 .0)
 
--- src/write.rt:91:1
+-- src/write.rt:101:1
 put-same-length-4 : (t : ℕ) → put-lts.Need-same-length-4 (put-calls t) (put-at t) put.Post
 put-same-length-4 t c = c .before .before .before .before .before .before .put2 .kept .1 .1 .1 .1 .1 .1 .1 .1 .1 .0 ∙ c .before .before .before .before .before .before .before .before .before .before .before .before .before .before .before .before .before .put .kept .1 .1 .1 .1 .1 .1 .1 .1 .1 .0
 
--- src/write.rt:91:1
+-- src/write.rt:101:1
 put-same-length-5 : (t : ℕ) → put-lts.Need-same-length-5 (put-calls t) (put-at t) put.Post
 put-same-length-5 t c = c .before .before .before .before .before .before .put2 .kept .1 .1 .1 .1 .1 .1 .1 .1 .1 .1 .0 ∙ c .before .before .before .before .before .before .before .before .before .before .before .before .before .before .before .before .before .put .kept .1 .1 .1 .1 .1 .1 .1 .1 .1 .1 .0
 
--- src/write.rt:91:1
+-- src/write.rt:101:1
 put-returns-2 : (t : ℕ) → put-lts.Need-returns-2 (put-calls t) (put-at t) put.Post
 put-returns-2 t c =
     let known = c .before .before .before .before .before .before .before .before .before .before .before .before .before .before .before .before .before .before .before .before .before .before .before .before .before .before .before .before .before .before .before .before .before .before .before .before .before .before .before .before .pre .1 .0 .lens-node in
@@ -651,143 +690,148 @@ put-returns-2 t c =
     let cut-is = c .before .before .before .before .before .before .before .before .before .before .before .before .before .before .before .before .before .before .before .before .before .before .before .cut-sheet .ensures in
     join-put known s (c .before .before .before .before .before .before .before .before .before .before .before .before .before .before .before .before .before .before .before .before .before .before .before .before .before .before .before .before .before .before .before .before .before .before .before .before .before .before .before .before .pre .1 .1 .0 .sheet-given) cut-is (c .before .before .before .before .before .before .before .before .before .before .before .before .before .before .before .before .before .before .before .before .before .before .before .before .before .before .before .before .before .before .before .before .before .before .before .before .before .before .before .before .pre .1 .1 .0 .old-parsed) (c .before .before .before .before .before .before .before .before .before .before .before .before .before .before .before .before .before .before .before .before .before .before .halves-of .ensures) (c .before .before .before .before .before .before .before .before .before .before .before .before .before .before .before .before .before .put .ensures) (c .before .before .before .before .before .before .put2 .ensures)
 
--- src/write.rt:91:1
+-- src/write.rt:101:1
 put-same-length-6 : (t : ℕ) → put-lts.Need-same-length-6 (put-calls t) (put-at t) put.Post
 put-same-length-6 t c = search needs
 
--- src/write.rt:91:1
+-- src/write.rt:101:1
 put-same-length-7 : (t : ℕ) → put-lts.Need-same-length-7 (put-calls t) (put-at t) put.Post
 put-same-length-7 t c = search needs
 
--- src/write.rt:91:1
+-- src/write.rt:101:1
 put-same-length-8 : (t : ℕ) → put-lts.Need-same-length-8 (put-calls t) (put-at t) put.Post
 put-same-length-8 t c = search needs
 
--- src/write.rt:91:1
+-- src/write.rt:101:1
 put-returns-3 : (t : ℕ) → put-lts.Need-returns-3 (put-calls t) (put-at t) put.Post
 put-returns-3 t c =
     let s = shown-union (c .before .before .before .before .before .before .before .before .before .before .before .before .before .before .before .before .before .before .before .before .before .node .ensures) (c .before .before .before .before .before .before .before .before .before .before .before .before .before .before .before .before .before .before .before .kind2 .given .1) in
     union-writes s (choice-arm (c .before .before .before .before .before .before .before .before .before .before .before .before .before .before .before .before .before .before .before .before .before .before .before .before .before .before .before .before .before .before .before .before .before .pre .1 .0) s (c .before .before .before .before .before .before .before .before .before .before .before .before .before .before .before .before .before .before .before .before .before .before .before .before .before .before .before .before .before .before .before .before .before .pre .1 .1 .0) (c .before .before .before .before .before .before .before .before .before .before .before .before .before .before .before .before .choose .ensures)) (old-put (c .before .before .before .before .before .before .before .before .before .before .before .kept .given .1) (c .before .before .before .before .before .before .put3 .ensures))
 
--- src/write.rt:91:1
+-- src/write.rt:101:1
 put-same-length-9 : (t : ℕ) → put-lts.Need-same-length-9 (put-calls t) (put-at t) put.Post
 put-same-length-9 t c = search needs
 
--- src/write.rt:91:1
+-- src/write.rt:101:1
 put-same-length-10 : (t : ℕ) → put-lts.Need-same-length-10 (put-calls t) (put-at t) put.Post
 put-same-length-10 t c = search needs
 
--- src/write.rt:91:1
+-- src/write.rt:101:1
 put-same-length-11 : (t : ℕ) → put-lts.Need-same-length-11 (put-calls t) (put-at t) put.Post
 put-same-length-11 t c = search needs
 
--- src/write.rt:91:1
+-- src/write.rt:101:1
 put-returns-4 : (t : ℕ) → put-lts.Need-returns-4 (put-calls t) (put-at t) put.Post
 put-returns-4 t c =
     let s = shown-union (c .before .before .before .before .before .before .before .before .before .before .before .before .before .before .before .before .before .before .before .before .node .ensures) (c .before .before .before .before .before .before .before .before .before .before .before .before .before .before .before .before .before .before .kind2 .given .1) in
     union-writes s (choice-arm (c .before .before .before .before .before .before .before .before .before .before .before .before .before .before .before .before .before .before .before .before .before .before .before .before .before .before .before .before .before .before .before .before .pre .1 .0) s (c .before .before .before .before .before .before .before .before .before .before .before .before .before .before .before .before .before .before .before .before .before .before .before .before .before .before .before .before .before .before .before .before .pre .1 .1 .0) (c .before .before .before .before .before .before .before .before .before .before .before .before .before .before .before .choose .ensures)) (old-created (c .before .before .before .before .before .before .before .before .before .before .enum-told .given .1) (c .before .before .before .before .before .before .create .ensures))
 
--- src/write.rt:91:1
+-- src/write.rt:101:1
 put-same-length-12 : (t : ℕ) → put-lts.Need-same-length-12 (put-calls t) (put-at t) put.Post
 put-same-length-12 t c = search needs
 
--- src/write.rt:91:1
+-- src/write.rt:101:1
 put-same-length-13 : (t : ℕ) → put-lts.Need-same-length-13 (put-calls t) (put-at t) put.Post
 put-same-length-13 t c = search needs
 
--- src/write.rt:91:1
+-- src/write.rt:101:1
 put-same-length-14 : (t : ℕ) → put-lts.Need-same-length-14 (put-calls t) (put-at t) put.Post
 put-same-length-14 t c = search needs
 
--- src/write.rt:91:1
+-- src/write.rt:101:1
 put-returns-5 : (t : ℕ) → put-lts.Need-returns-5 (put-calls t) (put-at t) put.Post
 unfolding oldText
 put-returns-5 t c = c .before .before .before .before .before .before .write-repeat .ensures
 
--- src/write.rt:91:1
+-- src/write.rt:101:1
 put-same-length-15 : (t : ℕ) → put-lts.Need-same-length-15 (put-calls t) (put-at t) put.Post
 put-same-length-15 t c = search needs
 
--- src/write.rt:91:1
+-- src/write.rt:101:1
 put-same-length-16 : (t : ℕ) → put-lts.Need-same-length-16 (put-calls t) (put-at t) put.Post
 put-same-length-16 t c = search needs
 
--- src/write.rt:91:1
+-- src/write.rt:101:1
 put-same-length-17 : (t : ℕ) → put-lts.Need-same-length-17 (put-calls t) (put-at t) put.Post
 put-same-length-17 t c = search needs
 
--- src/write.rt:91:1
+-- src/write.rt:101:1
 put-returns-6 : (t : ℕ) → put-lts.Need-returns-6 (put-calls t) (put-at t) put.Post
 put-returns-6 t c =
     let s = shown-match (c .before .before .before .before .before .before .before .before .before .before .before .before .before .node .ensures) (c .before .before .before .before .before .before .before .before .before .before .before .kind4 .given .1) in
     at-node (match _ (s .child)) (s .tree-is) (c .before .before .before .before .before .before .write-match .ensures .writes (s .child) (s .at-child) _)
 
--- src/write.rt:91:1
+-- src/write.rt:101:1
 put-same-length-18 : (t : ℕ) → put-lts.Need-same-length-18 (put-calls t) (put-at t) put.Post
 put-same-length-18 t c = search needs
 
--- src/write.rt:91:1
+-- src/write.rt:101:1
 put-same-length-19 : (t : ℕ) → put-lts.Need-same-length-19 (put-calls t) (put-at t) put.Post
 put-same-length-19 t c = search needs
 
--- src/write.rt:91:1
+-- src/write.rt:101:1
 put-returns-7 : (t : ℕ) → put-lts.Need-returns-7 (put-calls t) (put-at t) put.Post
 unfolding oldText
 put-returns-7 t c = c .before .before .before .before .plain-behind2 .ensures
 
--- src/write.rt:329:9
+-- src/write.rt:347:9
 write-match-find-entry-requires : (t : ℕ) → write-match-lts.Need-find-entry-requires (write-match-calls t) (write-match-at t) write-match.Post
-write-match-find-entry-requires t c κs = (c .before .before .before .before .before .before .before .before .before .before .before .pre .1 .0 .lens-node, (c .before .before .before .before .before .before .before .before .before .before .before .pre .1 .1 .0, (c .before .before .before .before .before .before .before .before .before .before .before .pre .1 .0 .looks-in, c .before .before .before .before .before .before .before .before .before .before .before .pre .1 .1 .1 .1)))
+write-match-find-entry-requires t c κs = (c .before .before .before .before .before .before .before .before .before .before .before .pre .1 .0 .lens-node, (c .before .before .before .before .before .before .before .before .before .before .before .pre .1 .1 .0 .0, (c .before .before .before .before .before .before .before .before .before .before .before .pre .1 .0 .looks-in, c .before .before .before .before .before .before .before .before .before .before .before .pre .1 .1 .1 .1)))
 
--- src/write.rt:334:17
+-- src/write.rt:350:9
+write-match-wrapping-add-usize-requires :
+    (t : ℕ) → write-match-lts.Need-wrapping-add-usize-requires (write-match-calls t) (write-match-at t) write-match.Post
+write-match-wrapping-add-usize-requires t c κs = search needs
+
+-- src/write.rt:357:17
 write-match-enum-known-found : (t : ℕ) → write-match-lts.Need-enum-known-found (write-match-calls t) (write-match-at t) write-match.Post
 write-match-enum-known-found t c = search needs
 
--- src/write.rt:334:27
+-- src/write.rt:357:27
 write-match-put-requires : (t : ℕ) → write-match-lts.Need-put-requires (write-match-calls t) (write-match-at t) write-match.Post
 write-match-put-requires t c κs =
-    (omega (arith, c .before .before .before .before .before .before .before .before .before .before .before .before .before .before .before .before .before .before .before .before .before .pre .0), (found-ready (c .before .before .before .before .before .before .before .before .before .before .before .before .before .before .before .before .before .before .before .before .before .pre .1 .0) (c .before .before .before .before .before .before .before .before .before .find-entry .ensures), (given-at (found-given (c .before .before .before .before .before .before .before .before .before .before .before .before .before .before .before .before .before .before .before .before .before .pre .1 .0) (c .before .before .before .before .before .before .before .before .before .find-entry .ensures) (c .before .before .before .before .before .before .before .before .before .before .before .before .before .before .before .before .before .before .before .before .before .pre .1 .1 .0)) (c .before .before .before .before .found .given .1), (c .before .before .before .before .before .before .before .before .before .before .before .before .before .before .before .before .before .before .before .before .before .pre .1 .1 .1 .0, c .before .before .before .before .before .before .before .before .before .find-entry .kept .1 .1 .1 .1 .1 .1 .0 ∙ c .before .before .before .before .before .before .before .before .before .before .before .before .before .before .before .before .before .before .before .before .before .pre .1 .1 .1 .1))))
+    (omega (arith, c .before .before .before .before .before .before .before .before .before .before .before .before .before .before .before .before .before .before .before .before .before .before .pre .0), (found-ready (c .before .before .before .before .before .before .before .before .before .before .before .before .before .before .before .before .before .before .before .before .before .before .pre .1 .0) (c .before .before .before .before .before .before .before .before .before .before .find-entry .ensures), (given-at (found-given (c .before .before .before .before .before .before .before .before .before .before .before .before .before .before .before .before .before .before .before .before .before .before .pre .1 .0) (c .before .before .before .before .before .before .before .before .before .before .find-entry .ensures) (c .before .before .before .before .before .before .before .before .before .before .before .before .before .before .before .before .before .before .before .before .before .before .pre .1 .1 .0 .0)) (c .before .before .before .before .found .given .1), (c .before .before .before .before .before .before .before .before .before .before .before .before .before .before .before .before .before .before .before .before .before .before .pre .1 .1 .1 .0, c .before .before .before .before .before .before .before .before .before .before .find-entry .kept .1 .1 .1 .1 .1 .1 .0 ∙ c .before .before .before .before .before .before .before .before .before .before .before .before .before .before .before .before .before .before .before .before .before .before .pre .1 .1 .1 .1))))
 
--- src/write.rt:335:66
+-- src/write.rt:358:66
 write-match-enum-told : (t : ℕ) → write-match-lts.Need-enum-told (write-match-calls t) (write-match-at t) write-match.Post
 write-match-enum-told t c = search needs
 
--- src/write.rt:335:25
+-- src/write.rt:358:25
 write-match-create-requires : (t : ℕ) → write-match-lts.Need-create-requires (write-match-calls t) (write-match-at t) write-match.Post
 write-match-create-requires t c κs =
-    (omega (arith, c .before .before .before .before .before .before .before .before .before .before .before .before .before .before .before .before .before .before .before .before .pre .0), (found-ready (c .before .before .before .before .before .before .before .before .before .before .before .before .before .before .before .before .before .before .before .before .pre .1 .0) (c .before .before .before .before .before .before .before .before .find-entry .ensures), (c .before .before .before .before .before .before .before .before .before .before .before .before .before .before .before .before .before .before .before .before .pre .1 .1 .0, (c .before .before .before .before .before .before .before .before .before .before .before .before .before .before .before .before .before .before .before .before .pre .1 .1 .1 .0, c .before .before .before .before .before .before .before .before .find-entry .kept .1 .1 .1 .1 .1 .1 .0 ∙ c .before .before .before .before .before .before .before .before .before .before .before .before .before .before .before .before .before .before .before .before .pre .1 .1 .1 .1))))
+    (omega (arith, c .before .before .before .before .before .before .before .before .before .before .before .before .before .before .before .before .before .before .before .before .before .pre .0), (found-ready (c .before .before .before .before .before .before .before .before .before .before .before .before .before .before .before .before .before .before .before .before .before .pre .1 .0) (c .before .before .before .before .before .before .before .before .before .find-entry .ensures), (c .before .before .before .before .before .before .before .before .before .before .before .before .before .before .before .before .before .before .before .before .before .pre .1 .1 .0 .0, (c .before .before .before .before .before .before .before .before .before .before .before .before .before .before .before .before .before .before .before .before .before .pre .1 .1 .1 .0, c .before .before .before .before .before .before .before .before .before .find-entry .kept .1 .1 .1 .1 .1 .1 .0 ∙ c .before .before .before .before .before .before .before .before .before .before .before .before .before .before .before .before .before .before .before .before .before .pre .1 .1 .1 .1))))
 
--- src/write.rt:310:1
+-- src/write.rt:328:1
 write-match-same-length : (t : ℕ) → write-match-lts.Need-same-length (write-match-calls t) (write-match-at t) write-match.Post
 write-match-same-length t c = search needs
 
--- src/write.rt:310:1
+-- src/write.rt:328:1
 write-match-same-length-2 : (t : ℕ) → write-match-lts.Need-same-length-2 (write-match-calls t) (write-match-at t) write-match.Post
 write-match-same-length-2 t c = search needs
 
--- src/write.rt:310:1
+-- src/write.rt:328:1
 write-match-same-length-3 : (t : ℕ) → write-match-lts.Need-same-length-3 (write-match-calls t) (write-match-at t) write-match.Post
 write-match-same-length-3 t c = search needs
 
--- src/write.rt:310:1
+-- src/write.rt:328:1
 write-match-returns : (t : ℕ) → write-match-lts.Need-returns (write-match-calls t) (write-match-at t) write-match.Post
-write-match-returns t c = match-writes (c .before .before .before .before .before .before .before .before .before .before .before .before .before .before .before .before .find-entry .ensures) (old-put (c .before .before .before .before .before .before .before .before .before .before .before .found .given .1) (c .before .before .before .before .before .before .put .ensures))
+write-match-returns t c = match-writes (c .before .before .before .before .before .before .before .before .before .before .before .before .before .before .before .before .before .find-entry .ensures) (c .before .before .before .before .before .before .before .before .before .before .before .before .before .wrapping-add-usize .ensures) (inner-met _ _ (c .before .before .before .before .before .before .before .before .before .before .before .before .before .before .before .before .before .before .before .before .before .before .before .before .before .before .before .before .before .pre .1 .1 .0 .1)) (old-put (c .before .before .before .before .before .before .before .before .before .before .before .found .given .1) (c .before .before .before .before .before .before .put .ensures))
 
--- src/write.rt:310:1
+-- src/write.rt:328:1
 write-match-same-length-4 : (t : ℕ) → write-match-lts.Need-same-length-4 (write-match-calls t) (write-match-at t) write-match.Post
 write-match-same-length-4 t c = search needs
 
--- src/write.rt:310:1
+-- src/write.rt:328:1
 write-match-same-length-5 : (t : ℕ) → write-match-lts.Need-same-length-5 (write-match-calls t) (write-match-at t) write-match.Post
 write-match-same-length-5 t c = search needs
 
--- src/write.rt:310:1
+-- src/write.rt:328:1
 write-match-same-length-6 : (t : ℕ) → write-match-lts.Need-same-length-6 (write-match-calls t) (write-match-at t) write-match.Post
 write-match-same-length-6 t c = search needs
 
--- src/write.rt:310:1
+-- src/write.rt:328:1
 write-match-returns-2 : (t : ℕ) → write-match-lts.Need-returns-2 (write-match-calls t) (write-match-at t) write-match.Post
-write-match-returns-2 t c = match-writes (c .before .before .before .before .before .before .before .before .before .before .before .before .before .before .before .find-entry .ensures) (old-created (c .before .before .before .before .before .before .before .before .before .before .enum-told .given .1) (c .before .before .before .before .before .before .create .ensures))
+write-match-returns-2 t c = match-writes (c .before .before .before .before .before .before .before .before .before .before .before .before .before .before .before .before .find-entry .ensures) (c .before .before .before .before .before .before .before .before .before .before .before .before .wrapping-add-usize .ensures) (inner-met _ _ (c .before .before .before .before .before .before .before .before .before .before .before .before .before .before .before .before .before .before .before .before .before .before .before .before .before .before .before .before .pre .1 .1 .0 .1)) (old-created (c .before .before .before .before .before .before .before .before .before .before .enum-told .given .1) (c .before .before .before .before .before .before .create .ensures))
 
 abbrev write-parts-Inv-loop : write-parts-lts.InvT-loop
 write-parts-Inv-loop done₀ bytes prepared child new path₀ deck below card₀ out₀ base part last first olds left₀ o₀ done path card out left o =
@@ -799,15 +843,15 @@ write-parts-Inv-loop done₀ bytes prepared child new path₀ deck below card₀
 abbrev write-parts-μ-loop : write-parts-lts.MeasureT-loop
 write-parts-μ-loop done₀ bytes prepared child new path₀ deck below card₀ out₀ base part last first olds left₀ o₀ done path card out left o = length new - o
 
--- src/write.rt:230:55
+-- src/write.rt:242:55
 write-parts-old-base-requires : (t : ℕ) → write-parts-lts.Need-old-base-requires (write-parts-calls t) (write-parts-at t) write-parts.Post write-parts-Inv-loop write-parts-μ-loop
 write-parts-old-base-requires t c κs = search needs
 
--- src/write.rt:230:9
+-- src/write.rt:242:9
 write-parts-ends-of-requires : (t : ℕ) → write-parts-lts.Need-ends-of-requires (write-parts-calls t) (write-parts-at t) write-parts.Post write-parts-Inv-loop write-parts-μ-loop
 write-parts-ends-of-requires t c κs = node-words (child-below (c .before .before .before .before .before .before .before .before .before .before .before .pre .1 .0 .lens-node) (c .before .before .before .before .before .before .before .before .before .before .before .pre .1 .1 .0))
 
--- src/write.rt:233:5
+-- src/write.rt:245:5
 write-parts-loop-holds : (t : ℕ) → write-parts-lts.Need-loop-holds (write-parts-calls t) (write-parts-at t) write-parts.Post write-parts-Inv-loop write-parts-μ-loop
 write-parts-loop-holds t c =
     let given = c .before .before .before .before .before .before .before .before .before .before .before .before .pre .1 .1 .1 .1 .0 in (
@@ -825,59 +869,59 @@ write-parts-loop-holds t c =
       refl,
     )
 
--- src/write.rt:234:32
+-- src/write.rt:246:32
 write-parts-sub-first-loop : (t : ℕ) → write-parts-lts.Need-sub-first-loop (write-parts-calls t) (write-parts-at t) write-parts.Post write-parts-Inv-loop write-parts-μ-loop
 write-parts-sub-first-loop t c = omega (arith, more-path (c .before .loop .inv .0) (c .loop-test .taken))
 
--- src/write.rt:234:32
+-- src/write.rt:246:32
 write-parts-part-first-loop-start : (t : ℕ) → write-parts-lts.Need-part-first-loop-start (write-parts-calls t) (write-parts-at t) write-parts.Post write-parts-Inv-loop write-parts-μ-loop
 write-parts-part-first-loop-start t c = omega (arith, more-path (c .before .before .loop .inv .0) (c .before .loop-test .taken))
 
--- src/write.rt:234:32
+-- src/write.rt:246:32
 write-parts-part-first-loop-end : (t : ℕ) → write-parts-lts.Need-part-first-loop-end (write-parts-calls t) (write-parts-at t) write-parts.Post write-parts-Inv-loop write-parts-μ-loop
 write-parts-part-first-loop-end t c = omega (arith, more-path (c .before .before .loop .inv .0) (c .before .loop-test .taken))
 
--- src/write.rt:234:21
+-- src/write.rt:246:21
 write-parts-first-loop-requires : (t : ℕ) → write-parts-lts.Need-first-loop-requires (write-parts-calls t) (write-parts-at t) write-parts.Post write-parts-Inv-loop write-parts-μ-loop
 write-parts-first-loop-requires t c κs = more-lent (c .before .before .before .loop .inv .0) (c .before .before .loop-test .taken)
 
--- src/write.rt:234:17
+-- src/write.rt:246:17
 write-parts-add-e : (t : ℕ) → write-parts-lts.Need-add-e (write-parts-calls t) (write-parts-at t) write-parts.Post write-parts-Inv-loop write-parts-μ-loop
 write-parts-add-e t c = omega (arith, part-inside (c .before .before .before .before .loop .inv .0) (c .before .before .before .loop-test .taken) (c .first-loop .ensures), c .before .before .before .before .before .before .before .before .before .before .before .before .before .before .before .before .before .good)
 
--- src/write.rt:235:13
+-- src/write.rt:247:13
 write-parts-next-old-requires : (t : ℕ) → write-parts-lts.Need-next-old-requires (write-parts-calls t) (write-parts-at t) write-parts.Post write-parts-Inv-loop write-parts-μ-loop
 write-parts-next-old-requires t c κs = (old-inside (c .before .before .before .before .loop .inv .0 .left-fits), omega (arith, c .before .before .before .before .before .before .before .before .before .before .before .before .before .before .before .before .before .pre .1 .0 .looks-in .deck-room))
 
--- src/write.rt:238:21
+-- src/write.rt:250:21
 write-parts-sub-piece : (t : ℕ) → write-parts-lts.Need-sub-piece (write-parts-calls t) (write-parts-at t) write-parts.Post write-parts-Inv-loop write-parts-μ-loop
 write-parts-sub-piece t c = omega (arith, part-inside (c .before .before .before .before .before .loop .inv .0) (c .before .before .before .before .loop-test .taken) (c .before .first-loop .ensures))
 
--- src/write.rt:238:21
+-- src/write.rt:250:21
 write-parts-part-piece-start : (t : ℕ) → write-parts-lts.Need-part-piece-start (write-parts-calls t) (write-parts-at t) write-parts.Post write-parts-Inv-loop write-parts-μ-loop
 write-parts-part-piece-start t c = omega (arith, part-inside (c .before .before .before .before .before .loop .inv .0) (c .before .before .before .before .loop-test .taken) (c .before .first-loop .ensures))
 
--- src/write.rt:238:21
+-- src/write.rt:250:21
 write-parts-part-piece-end : (t : ℕ) → write-parts-lts.Need-part-piece-end (write-parts-calls t) (write-parts-at t) write-parts.Post write-parts-Inv-loop write-parts-μ-loop
 write-parts-part-piece-end t c = omega (arith, part-inside (c .before .before .before .before .before .loop .inv .0) (c .before .before .before .before .loop-test .taken) (c .before .first-loop .ensures))
 
--- src/write.rt:239:21
+-- src/write.rt:251:21
 write-parts-sub-track : (t : ℕ) → write-parts-lts.Need-sub-track (write-parts-calls t) (write-parts-at t) write-parts.Post write-parts-Inv-loop write-parts-μ-loop
 write-parts-sub-track t c = omega (arith, part-inside (c .before .before .before .before .before .before .loop .inv .0) (c .before .before .before .before .before .loop-test .taken) (c .before .before .first-loop .ensures))
 
--- src/write.rt:239:21
+-- src/write.rt:251:21
 write-parts-part-track-start : (t : ℕ) → write-parts-lts.Need-part-track-start (write-parts-calls t) (write-parts-at t) write-parts.Post write-parts-Inv-loop write-parts-μ-loop
 write-parts-part-track-start t c = omega (arith, part-inside (c .before .before .before .before .before .before .loop .inv .0) (c .before .before .before .before .before .loop-test .taken) (c .before .before .first-loop .ensures))
 
--- src/write.rt:239:21
+-- src/write.rt:251:21
 write-parts-part-track-end : (t : ℕ) → write-parts-lts.Need-part-track-end (write-parts-calls t) (write-parts-at t) write-parts.Post write-parts-Inv-loop write-parts-μ-loop
 write-parts-part-track-end t c = omega (arith, part-inside (c .before .before .before .before .before .before .loop .inv .0) (c .before .before .before .before .before .loop-test .taken) (c .before .before .first-loop .ensures))
 
--- src/write.rt:241:21
+-- src/write.rt:253:21
 write-parts-enum-known-kept : (t : ℕ) → write-parts-lts.Need-enum-known-kept (write-parts-calls t) (write-parts-at t) write-parts.Post write-parts-Inv-loop write-parts-μ-loop
 write-parts-enum-known-kept t c = search needs
 
--- src/write.rt:242:17
+-- src/write.rt:254:17
 write-parts-put-requires : (t : ℕ) → write-parts-lts.Need-put-requires (write-parts-calls t) (write-parts-at t) write-parts.Post write-parts-Inv-loop write-parts-μ-loop
 write-parts-put-requires t c κs =
     let parting = c .before .before .before .before .before .before .before .before .before .before .before .before .loop .inv .0 in
@@ -886,11 +930,11 @@ write-parts-put-requires t c κs =
     let sheet = part-given parting (c .before .before .before .before .before .before .before .before .before .before .before .loop-test .taken) (c .before .before .before .before .before .before .before .before .first-loop .ensures) given in
     (omega (arith, c .before .before .before .before .before .before .before .before .before .before .before .before .before .before .before .before .before .before .before .before .before .before .before .before .before .pre .0, one .lower), (ready-left (c .before .before .before .before .before .before .before .before .before .before .before .before .before .before .before .before .before .before .before .before .before .before .before .before .before .pre .1 .0) (child-below (c .before .before .before .before .before .before .before .before .before .before .before .before .before .before .before .before .before .before .before .before .before .before .before .before .before .pre .1 .0 .lens-node) one) (parting .kept .over) (parting .kept .same-entries), (given-at (record { sheet-given = sheet; old-fits = part-old parting (given .deck-room) (c .before .before .before .before .before .before .before .next-old .ensures) }) (c .before .before .before .kept .given .1), (parting .kept .within, c .before .before .before .before .before .before .before .before .before .before .before .before .loop .inv .2 ∙ c .before .before .before .before .before .before .before .before .before .before .before .before .before .before .before .before .before .before .before .before .before .before .before .before .before .pre .1 .1 .1 .1 .1 .1))))
 
--- src/write.rt:245:67
+-- src/write.rt:257:67
 write-parts-enum-told : (t : ℕ) → write-parts-lts.Need-enum-told (write-parts-calls t) (write-parts-at t) write-parts.Post write-parts-Inv-loop write-parts-μ-loop
 write-parts-enum-told t c = search needs
 
--- src/write.rt:245:17
+-- src/write.rt:257:17
 write-parts-create-requires : (t : ℕ) → write-parts-lts.Need-create-requires (write-parts-calls t) (write-parts-at t) write-parts.Post write-parts-Inv-loop write-parts-μ-loop
 write-parts-create-requires t c κs =
     let parting = c .before .before .before .before .before .before .before .before .before .before .before .loop .inv .0 in
@@ -899,11 +943,11 @@ write-parts-create-requires t c κs =
     let sheet = part-given parting (c .before .before .before .before .before .before .before .before .before .before .loop-test .taken) (c .before .before .before .before .before .before .before .first-loop .ensures) given in
     (omega (arith, c .before .before .before .before .before .before .before .before .before .before .before .before .before .before .before .before .before .before .before .before .before .before .before .before .pre .0, one .lower), (ready-left (c .before .before .before .before .before .before .before .before .before .before .before .before .before .before .before .before .before .before .before .before .before .before .before .before .pre .1 .0) (child-below (c .before .before .before .before .before .before .before .before .before .before .before .before .before .before .before .before .before .before .before .before .before .before .before .before .pre .1 .0 .lens-node) one) (parting .kept .over) (parting .kept .same-entries), (sheet, (parting .kept .within, c .before .before .before .before .before .before .before .before .before .before .before .loop .inv .2 ∙ c .before .before .before .before .before .before .before .before .before .before .before .before .before .before .before .before .before .before .before .before .before .before .before .before .pre .1 .1 .1 .1 .1 .1))))
 
--- src/write.rt:233:5
+-- src/write.rt:245:5
 write-parts-loop-less : (t : ℕ) → write-parts-lts.Need-loop-less (write-parts-calls t) (write-parts-at t) write-parts.Post write-parts-Inv-loop write-parts-μ-loop
 write-parts-loop-less t c = omega (arith, part-inside (c .before .before .before .before .before .before .before .before .before .before .before .before .before .before .before .before .before .before .before .loop .inv .0) (c .before .before .before .before .before .before .before .before .before .before .before .before .before .before .before .before .before .before .loop-test .taken) (c .before .before .before .before .before .before .before .before .before .before .before .before .before .before .before .first-loop .ensures))
 
--- src/write.rt:233:5
+-- src/write.rt:245:5
 write-parts-loop-again : (t : ℕ) → write-parts-lts.Need-loop-again (write-parts-calls t) (write-parts-at t) write-parts.Post write-parts-Inv-loop write-parts-μ-loop
 write-parts-loop-again t c =
     let parting = c .before .before .before .before .before .before .before .before .before .before .before .before .before .before .before .before .before .before .before .loop .inv .0 in
@@ -916,11 +960,11 @@ write-parts-loop-again t c =
       c .before .before .before .before .before .before .put .kept .1 .1 .1 .1 .1 .1 .1 .1 .1 .1 .0 ∙ c .before .before .before .before .before .before .before .before .before .before .before .before .before .before .before .before .before .before .before .loop .inv .3,
     )
 
--- src/write.rt:233:5
+-- src/write.rt:245:5
 write-parts-loop-less-2 : (t : ℕ) → write-parts-lts.Need-loop-less-2 (write-parts-calls t) (write-parts-at t) write-parts.Post write-parts-Inv-loop write-parts-μ-loop
 write-parts-loop-less-2 t c = omega (arith, part-inside (c .before .before .before .before .before .before .before .before .before .before .before .before .before .before .before .before .before .before .loop .inv .0) (c .before .before .before .before .before .before .before .before .before .before .before .before .before .before .before .before .before .loop-test .taken) (c .before .before .before .before .before .before .before .before .before .before .before .before .before .before .first-loop .ensures))
 
--- src/write.rt:233:5
+-- src/write.rt:245:5
 write-parts-loop-again-2 : (t : ℕ) → write-parts-lts.Need-loop-again-2 (write-parts-calls t) (write-parts-at t) write-parts.Post write-parts-Inv-loop write-parts-μ-loop
 write-parts-loop-again-2 t c =
     let parting = c .before .before .before .before .before .before .before .before .before .before .before .before .before .before .before .before .before .before .loop .inv .0 in
@@ -933,88 +977,131 @@ write-parts-loop-again-2 t c =
       c .before .before .before .before .before .before .create .kept .1 .1 .1 .1 .1 .1 .1 .1 .1 .0 ∙ c .before .before .before .before .before .before .before .before .before .before .before .before .before .before .before .before .before .before .loop .inv .3,
     )
 
--- src/write.rt:204:1
+-- src/write.rt:216:1
 write-parts-same-length : (t : ℕ) → write-parts-lts.Need-same-length (write-parts-calls t) (write-parts-at t) write-parts.Post write-parts-Inv-loop write-parts-μ-loop
 write-parts-same-length t c = c .before .loop .inv .1
 
--- src/write.rt:204:1
+-- src/write.rt:216:1
 write-parts-same-length-2 : (t : ℕ) → write-parts-lts.Need-same-length-2 (write-parts-calls t) (write-parts-at t) write-parts.Post write-parts-Inv-loop write-parts-μ-loop
 write-parts-same-length-2 t c = c .before .loop .inv .2
 
--- src/write.rt:204:1
+-- src/write.rt:216:1
 write-parts-same-length-3 : (t : ℕ) → write-parts-lts.Need-same-length-3 (write-parts-calls t) (write-parts-at t) write-parts.Post write-parts-Inv-loop write-parts-μ-loop
 write-parts-same-length-3 t c = c .before .loop .inv .3
 
--- src/write.rt:204:1
+-- src/write.rt:216:1
 write-parts-returns : (t : ℕ) → write-parts-lts.Need-returns (write-parts-calls t) (write-parts-at t) write-parts.Post write-parts-Inv-loop write-parts-μ-loop
 write-parts-returns t c = parting-ends (c .before .loop .inv .0) (c .before .before .before .before .before .before .before .before .before .before .before .before .before .before .pre .1 .1 .0) (omega (arith, c .loop-test .left))
 
--- src/write.rt:275:9
+-- src/write.rt:287:9
 write-repeat-ends-of-requires : (t : ℕ) → write-repeat-lts.Need-ends-of-requires (write-repeat-calls t) (write-repeat-at t) write-repeat.Post
 write-repeat-ends-of-requires t c κs = node-words (child-below (c .before .before .before .before .before .before .before .before .pre .1 .0 .lens-node) (c .before .before .before .before .before .before .before .before .pre .1 .1 .0))
 
--- src/write.rt:276:9
-write-repeat-node-requires : (t : ℕ) → write-repeat-lts.Need-node-requires (write-repeat-calls t) (write-repeat-at t) write-repeat.Post
-write-repeat-node-requires t c κs =
-    let known = child-below (c .before .before .before .before .before .before .before .before .before .pre .1 .0 .lens-node) (c .before .before .before .before .before .before .before .before .before .pre .1 .1 .0) in
-    (known .built .sized, known .inside)
+-- src/write.rt:289:9
+write-repeat-plain-count-requires : (t : ℕ) → write-repeat-lts.Need-plain-count-requires (write-repeat-calls t) (write-repeat-at t) write-repeat.Post
+write-repeat-plain-count-requires t c κs = below-room (ready-below (c .before .before .before .before .before .before .before .before .before .before .pre .1 .0) (child-below (c .before .before .before .before .before .before .before .before .before .before .pre .1 .0 .lens-node) (c .before .before .before .before .before .before .before .before .before .before .pre .1 .1 .0)))
 
--- src/write.rt:278:33
-write-repeat-enum-known-kind : (t : ℕ) → write-repeat-lts.Need-enum-known-kind (write-repeat-calls t) (write-repeat-at t) write-repeat.Post
-write-repeat-enum-known-kind t c = search needs
+-- src/write.rt:291:41
+write-repeat-count-parts-requires : (t : ℕ) → write-repeat-lts.Need-count-parts-requires (write-repeat-calls t) (write-repeat-at t) write-repeat.Post
+write-repeat-count-parts-requires t c κs = search needs
 
--- src/write.rt:280:9
-write-repeat-write-matches-requires : (t : ℕ) → write-repeat-lts.Need-write-matches-requires (write-repeat-calls t) (write-repeat-at t) write-repeat.Post
-write-repeat-write-matches-requires t c κs = (
-  c .before .before .before .before .before .before .before .before .before .before .before .before .before .before .before .before .pre .1 .0,
-  (
-    c .before .before .before .before .before .before .before .before .before .before .before .before .before .before .before .before .pre .1 .1 .0,
-    ((shown-match (c .before .before .before .before .before .before .node .ensures) (c .before .before .before .before .kind .given .1), refl), (c .before .before .before .before .before .before .before .ends-of .ensures, (c .before .before .before .before .before .before .before .before .before .before .before .before .before .before .before .before .pre .1 .1 .1 .0 .sheet-given, c .before .before .before .before .before .before .before .before .before .before .before .before .before .before .before .before .pre .1 .1 .1 .1))),
-  ),
-)
+-- src/write.rt:291:23
+write-repeat-mul-matches : (t : ℕ) → write-repeat-lts.Need-mul-matches (write-repeat-calls t) (write-repeat-at t) write-repeat.Post
+write-repeat-mul-matches t c =
+    let given = c .before .before .before .before .before .before .before .before .before .before .before .before .before .before .pre .1 .1 .1 .0 .sheet-given in
+    omega (arith, product-small (c .count-parts .result) (c .before .before .if1 .taken) (omega (arith, c .count-parts .ensures .at-most, parsed-length (given .parsed), given .new-short)))
 
--- src/write.rt:280:9
+-- src/write.rt:292:9
+write-repeat-plain-behind-requires : (t : ℕ) → write-repeat-lts.Need-plain-behind-requires (write-repeat-calls t) (write-repeat-at t) write-repeat.Post
+write-repeat-plain-behind-requires t c κs =
+    let ready = c .before .before .before .before .before .before .before .before .before .before .before .before .before .before .before .before .pre .1 .0 in
+    let s = c .before .before .before .before .before .before .before .before .before .before .before .before .before .before .before .before .pre .1 .1 .0 in
+    let given = c .before .before .before .before .before .before .before .before .before .before .before .before .before .before .before .before .pre .1 .1 .1 .0 in
+    let parts = c .before .before .count-parts .ensures .counts _ _ _ _ _ _ (child-below (ready .lens-node) s) s (c .before .before .before .before .before .before .before .ends-of .ensures) (given .sheet-given .parsed) in (
+      ready,
+      (
+        given,
+        (
+          (c .before .before .before .before .before .before .before .before .before .before .before .before .before .before .before .before .pre .1 .1 .1 .1 .0, repeat-asks-none (ready .lens-node) (ready .below-is) s _ (c .before .before .before .before .before .plain-count .ensures .none-shared (c .before .before .before .before .if1 .taken))),
+          repeat-counted (ready .lens-node) (ready .below-is) s _ _ _ (c .before .before .before .before .before .plain-count .ensures) (c .before .before .before .before .if1 .taken) parts,
+        ),
+      ),
+    )
+
+-- src/write.rt:292:9
 write-repeat-same-length : (t : ℕ) → write-repeat-lts.Need-same-length (write-repeat-calls t) (write-repeat-at t) write-repeat.Post
 write-repeat-same-length t c = search needs
 
--- src/write.rt:280:9
+-- src/write.rt:292:9
 write-repeat-same-length-2 : (t : ℕ) → write-repeat-lts.Need-same-length-2 (write-repeat-calls t) (write-repeat-at t) write-repeat.Post
 write-repeat-same-length-2 t c = search needs
 
--- src/write.rt:280:9
+-- src/write.rt:292:9
+write-repeat-returns : (t : ℕ) → write-repeat-lts.Need-returns (write-repeat-calls t) (write-repeat-at t) write-repeat.Post
+write-repeat-returns t c = c .before .before .before .before .plain-behind .ensures
+
+-- src/write.rt:294:9
+write-repeat-node-requires : (t : ℕ) → write-repeat-lts.Need-node-requires (write-repeat-calls t) (write-repeat-at t) write-repeat.Post
+write-repeat-node-requires t c κs =
+    let known = child-below (c .before .before .before .before .before .before .before .before .before .before .before .before .pre .1 .0 .lens-node) (c .before .before .before .before .before .before .before .before .before .before .before .before .pre .1 .1 .0) in
+    (known .built .sized, known .inside)
+
+-- src/write.rt:296:33
+write-repeat-enum-known-kind : (t : ℕ) → write-repeat-lts.Need-enum-known-kind (write-repeat-calls t) (write-repeat-at t) write-repeat.Post
+write-repeat-enum-known-kind t c = search needs
+
+-- src/write.rt:298:9
+write-repeat-write-matches-requires : (t : ℕ) → write-repeat-lts.Need-write-matches-requires (write-repeat-calls t) (write-repeat-at t) write-repeat.Post
+write-repeat-write-matches-requires t c κs = (
+  c .before .before .before .before .before .before .before .before .before .before .before .before .before .before .before .before .before .before .before .pre .1 .0,
+  (
+    c .before .before .before .before .before .before .before .before .before .before .before .before .before .before .before .before .before .before .before .pre .1 .1 .0,
+    ((shown-match (c .before .before .before .before .before .before .node .ensures) (c .before .before .before .before .kind .given .1), refl), (c .before .before .before .before .before .before .before .before .before .before .ends-of .ensures, (c .before .before .before .before .before .before .before .before .before .before .before .before .before .before .before .before .before .before .before .pre .1 .1 .1 .0 .sheet-given, c .before .before .before .before .before .before .before .before .before .before .before .before .before .before .before .before .before .before .before .pre .1 .1 .1 .1))),
+  ),
+)
+
+-- src/write.rt:298:9
 write-repeat-same-length-3 : (t : ℕ) → write-repeat-lts.Need-same-length-3 (write-repeat-calls t) (write-repeat-at t) write-repeat.Post
 write-repeat-same-length-3 t c = search needs
 
--- src/write.rt:280:9
-write-repeat-returns : (t : ℕ) → write-repeat-lts.Need-returns (write-repeat-calls t) (write-repeat-at t) write-repeat.Post
-write-repeat-returns t c = c .before .before .before .before .before .before .write-matches .ensures .writes _
-
--- src/write.rt:282:5
-write-repeat-write-parts-requires : (t : ℕ) → write-repeat-lts.Need-write-parts-requires (write-repeat-calls t) (write-repeat-at t) write-repeat.Post
-write-repeat-write-parts-requires t c κs = (omega (arith, c .before .before .before .before .before .before .before .before .before .before .before .before .before .before .pre .0), (c .before .before .before .before .before .before .before .before .before .before .before .before .before .before .pre .1 .0, (c .before .before .before .before .before .before .before .before .before .before .before .before .before .before .pre .1 .1 .0, (c .before .before .before .before .before .ends-of .ensures, (c .before .before .before .before .before .before .before .before .before .before .before .before .before .before .pre .1 .1 .1 .0, c .before .before .before .before .before .before .before .before .before .before .before .before .before .before .pre .1 .1 .1 .1)))))
-
--- src/write.rt:254:1
+-- src/write.rt:298:9
 write-repeat-same-length-4 : (t : ℕ) → write-repeat-lts.Need-same-length-4 (write-repeat-calls t) (write-repeat-at t) write-repeat.Post
 write-repeat-same-length-4 t c = search needs
 
--- src/write.rt:254:1
+-- src/write.rt:298:9
 write-repeat-same-length-5 : (t : ℕ) → write-repeat-lts.Need-same-length-5 (write-repeat-calls t) (write-repeat-at t) write-repeat.Post
 write-repeat-same-length-5 t c = search needs
 
--- src/write.rt:254:1
+-- src/write.rt:298:9
+write-repeat-returns-2 : (t : ℕ) → write-repeat-lts.Need-returns-2 (write-repeat-calls t) (write-repeat-at t) write-repeat.Post
+write-repeat-returns-2 t c = c .before .before .before .before .before .before .write-matches .ensures .writes _
+
+-- src/write.rt:300:5
+write-repeat-write-parts-requires : (t : ℕ) → write-repeat-lts.Need-write-parts-requires (write-repeat-calls t) (write-repeat-at t) write-repeat.Post
+write-repeat-write-parts-requires t c κs = (omega (arith, c .before .before .before .before .before .before .before .before .before .before .before .before .before .before .before .before .before .pre .0), (c .before .before .before .before .before .before .before .before .before .before .before .before .before .before .before .before .before .pre .1 .0, (c .before .before .before .before .before .before .before .before .before .before .before .before .before .before .before .before .before .pre .1 .1 .0, (c .before .before .before .before .before .before .before .before .ends-of .ensures, (c .before .before .before .before .before .before .before .before .before .before .before .before .before .before .before .before .before .pre .1 .1 .1 .0, c .before .before .before .before .before .before .before .before .before .before .before .before .before .before .before .before .before .pre .1 .1 .1 .1)))))
+
+-- src/write.rt:266:1
 write-repeat-same-length-6 : (t : ℕ) → write-repeat-lts.Need-same-length-6 (write-repeat-calls t) (write-repeat-at t) write-repeat.Post
 write-repeat-same-length-6 t c = search needs
 
--- src/write.rt:254:1
-write-repeat-returns-2 : (t : ℕ) → write-repeat-lts.Need-returns-2 (write-repeat-calls t) (write-repeat-at t) write-repeat.Post
-write-repeat-returns-2 t c = c .before .before .before .before .before .before .write-parts .ensures
+-- src/write.rt:266:1
+write-repeat-same-length-7 : (t : ℕ) → write-repeat-lts.Need-same-length-7 (write-repeat-calls t) (write-repeat-at t) write-repeat.Post
+write-repeat-same-length-7 t c = search needs
+
+-- src/write.rt:266:1
+write-repeat-same-length-8 : (t : ℕ) → write-repeat-lts.Need-same-length-8 (write-repeat-calls t) (write-repeat-at t) write-repeat.Post
+write-repeat-same-length-8 t c = search needs
+
+-- src/write.rt:266:1
+write-repeat-returns-3 : (t : ℕ) → write-repeat-lts.Need-returns-3 (write-repeat-calls t) (write-repeat-at t) write-repeat.Post
+write-repeat-returns-3 t c = c .before .before .before .before .before .before .write-parts .ensures
 
 pub +create+put+write-match+write-parts+write-repeat-spec : {M : Type 1} → statement M
 +create+put+write-match+write-parts+write-repeat-spec =
     close μ-create μ-put μ-write-match μ-write-parts μ-write-repeat (λ t. create-lts.spec (create-calls t)
     (create-at t)
     create.Post
-    (create-asks-none-requires t)
+    (create-plain-count-requires t)
     (create-plain-behind-requires t)
     (create-same-length t)
     (create-same-length-2 t)
@@ -1066,7 +1153,7 @@ pub +create+put+write-match+write-parts+write-repeat-spec : {M : Type 1} → sta
     (λ t. put-lts.spec (put-calls t)
     (put-at t)
     put.Post
-    (put-asks-none-requires t)
+    (put-plain-count-requires t)
     (put-plain-behind-requires t)
     (put-same-length t)
     (put-same-length-2 t)
@@ -1127,6 +1214,7 @@ pub +create+put+write-match+write-parts+write-repeat-spec : {M : Type 1} → sta
     (write-match-at t)
     write-match.Post
     (write-match-find-entry-requires t)
+    (write-match-wrapping-add-usize-requires t)
     (write-match-enum-known-found t)
     (write-match-put-requires t)
     (write-match-enum-told t)
@@ -1175,15 +1263,22 @@ pub +create+put+write-match+write-parts+write-repeat-spec : {M : Type 1} → sta
     (write-repeat-at t)
     write-repeat.Post
     (write-repeat-ends-of-requires t)
+    (write-repeat-plain-count-requires t)
+    (write-repeat-count-parts-requires t)
+    (write-repeat-mul-matches t)
+    (write-repeat-plain-behind-requires t)
+    (write-repeat-same-length t)
+    (write-repeat-same-length-2 t)
+    (write-repeat-returns t)
     (write-repeat-node-requires t)
     (write-repeat-enum-known-kind t)
     (write-repeat-write-matches-requires t)
-    (write-repeat-same-length t)
-    (write-repeat-same-length-2 t)
     (write-repeat-same-length-3 t)
-    (write-repeat-returns t)
-    (write-repeat-write-parts-requires t)
     (write-repeat-same-length-4 t)
     (write-repeat-same-length-5 t)
-    (write-repeat-same-length-6 t)
     (write-repeat-returns-2 t)
+    (write-repeat-write-parts-requires t)
+    (write-repeat-same-length-6 t)
+    (write-repeat-same-length-7 t)
+    (write-repeat-same-length-8 t)
+    (write-repeat-returns-3 t)

@@ -7,7 +7,9 @@ use Rattle.writer.proofs.write.plain_behind.Reads as reads
 use Rattle.writer.proofs.write.plain_behind.Lts as lts
 use Rattle.writer.proofs.write.next_plain.Reads as next-plain-reads
 
--- src/write.rt:86:9
+wrapping-add-usize-requires : tie.Need-wrapping-add-usize-requires
+wrapping-add-usize-requires c κs = search needs
+
 next-plain-requires : tie.Need-next-plain-requires
 next-plain-requires c κs = search needs
 
@@ -22,11 +24,13 @@ same-length-2 c = search needs
 -- src/write.rt:67:1
 returns : tie.Need-returns
 returns c =
-    let ready = c .before .before .before .before .before .before .before .before .before .before .before .before .before .before .before .pre .0 in
+    let ready = c .before .before .before .before .before .before .before .before .before .before .before .before .before .before .before .before .pre .0 in
     plain-writes
-    (λ l e. none-asked (c .before .before .before .before .before .before .before .before .before .before .before .before .before .before .before .args .deck .now) l (ready .lens-node) (ready .below-is) (ready .looks-in .over) (c .before .before .before .before .before .before .before .before .before .before .before .before .before .before .before .pre .1 .1 .1) e)
+    (λ l e. none-asked (c .before .before .before .before .before .before .before .before .before .before .before .before .before .before .before .before .args .deck .now) l (ready .lens-node) (ready .below-is) (ready .looks-in .over) (c .before .before .before .before .before .before .before .before .before .before .before .before .before .before .before .before .pre .1 .1 .0 .1) e)
     (ready .looks-in .over)
+    (c .before .before .before .before .before .before .before .before .before .before .before .before .before .before .before .before .pre .1 .1 .1)
+    (c .before .before .before .before .before .before .before .wrapping-add-usize .ensures)
     (c .before .before .before .before .next-plain .ensures)
 
 pub plain-behind-spec : {M : Type 1} → statement M
-plain-behind-spec = tie.close (tie.spec next-plain-requires same-length same-length-2 returns)
+plain-behind-spec = tie.close (tie.spec wrapping-add-usize-requires next-plain-requires same-length same-length-2 returns)

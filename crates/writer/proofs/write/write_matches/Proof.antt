@@ -1,13 +1,14 @@
 use Rattle.writer.proofs.Given.{looks-left, found-fits, may-take, entry-found, given-match}
 use Rattle.writer.proofs.Parts.{Parting, none-ends, parting-begins, more-path, more-lent, part-inside, part-given, part-back, parting-next, parting-ends, matches-written}
 use Rattle.writer.proofs.ByKind.{match-plain}
-use Rattle.writer.proofs.Unasked.{inner-unasked}
+use Rattle.writer.proofs.Unasked.{inner-flat, inner-unasked}
 use Rattle.writer.proofs.Behind.{at-node}
 use Rattle.steps.specs.Stepping.{old-none}
 use Rattle.books.specs.declared.Old.the-variants.{Nothing}
 use Rattle.lens.specs.Nodes.{child-below}
 use Rattle.semantics.specs.Lens.{match}
 use lib.ListN.{length}
+use borrow.Author.Needs.{needs}
 use native.Mathlib.Omega.{arith}
 use Prim.Native.Nat.{_-_}
 use mathlib.Core.Path.{_≡_, refl, _∙_}
@@ -21,7 +22,7 @@ use Rattle.paths.proofs.first_loop.Reads as first-loop-reads
 use Rattle.writer.proofs.write.next_plain.Reads as next-plain-reads
 
 abbrev Inv-loop : tie.InvT-loop
-Inv-loop bytes prepared child part new path₀ deck below card₀ out₀ last first book₀ wrote₀ o₀ path card out book wrote o =
+Inv-loop bytes prepared child part new path₀ deck below card₀ out₀ last first book₀ wrote₀ met₀ o₀ path card out book wrote met o =
     Parting
     bytes
     prepared
@@ -33,19 +34,19 @@ Inv-loop bytes prepared child part new path₀ deck below card₀ out₀ last fi
     new
     deck
     Nothing
-    (record { wrote = wrote₀; book = book₀ })
+    (record { wrote = wrote₀; book = book₀; met = met₀ })
     out₀
     path
     Nothing
     o
     out
-    (record { wrote = wrote; book = book })
+    (record { wrote = wrote; book = book; met = met })
     × (length path ≡ length path₀)
     × (length card ≡ length card₀)
     × (length out ≡ length out₀)
 
 abbrev μ-loop : tie.MeasureT-loop
-μ-loop bytes prepared child part new path₀ deck below card₀ out₀ last first book₀ wrote₀ o₀ path card out book wrote o = length new - o
+μ-loop bytes prepared child part new path₀ deck below card₀ out₀ last first book₀ wrote₀ met₀ o₀ path card out book wrote met o = length new - o
 
 -- src/write.rt:368:5
 loop-holds : tie.Need-loop-holds Inv-loop μ-loop
@@ -140,33 +141,36 @@ next-plain-requires c κs =
     (known, (record { sheet-given = given-match given inner; old-fits = found-fits looks looked }, parting .kept .within))
 
 -- src/write.rt:368:5
+wrapping-add-usize-requires : tie.Need-wrapping-add-usize-requires Inv-loop μ-loop
+wrapping-add-usize-requires c κs = search needs
+
 loop-less : tie.Need-loop-less Inv-loop μ-loop
-loop-less c = omega (arith, part-inside (c .before .before .before .before .before .before .before .before .before .before .before .before .before .before .before .before .before .before .before .before .before .loop .inv .0) (c .before .before .before .before .before .before .before .before .before .before .before .before .before .before .before .before .before .before .before .before .loop-test .taken) (c .before .before .before .before .before .before .before .before .before .before .before .before .before .before .before .before .before .first-loop .ensures))
+loop-less c = omega (arith, part-inside (c .before .before .before .before .before .before .before .before .before .before .before .before .before .before .before .before .before .before .before .before .before .before .loop .inv .0) (c .before .before .before .before .before .before .before .before .before .before .before .before .before .before .before .before .before .before .before .before .before .loop-test .taken) (c .before .before .before .before .before .before .before .before .before .before .before .before .before .before .before .before .before .before .first-loop .ensures))
 
 -- src/write.rt:368:5
 loop-again : tie.Need-loop-again Inv-loop μ-loop
 loop-again c =
-    let parting = c .before .before .before .before .before .before .before .before .before .before .before .before .before .before .before .before .before .before .before .before .before .loop .inv .0 in
-    let inner = c .before .before .before .before .before .before .before .before .before .before .before .before .before .before .before .before .before .before .before .before .before .before .before .before .before .before .before .before .before .before .before .before .before .pre .1 .1 .0 .0 in
-    let more = c .before .before .before .before .before .before .before .before .before .before .before .before .before .before .before .before .before .before .before .before .loop-test .taken in
-    let known = child-below (c .before .before .before .before .before .before .before .before .before .before .before .before .before .before .before .before .before .before .before .before .before .before .before .before .before .before .before .before .before .before .before .before .before .pre .0 .lens-node) (c .before .before .before .before .before .before .before .before .before .before .before .before .before .before .before .before .before .before .before .before .before .before .before .before .before .before .before .before .before .before .before .before .before .pre .1 .0) in
-    let given = part-given parting more (c .before .before .before .before .before .before .before .before .before .before .before .before .before .before .before .before .before .first-loop .ensures) (c .before .before .before .before .before .before .before .before .before .before .before .before .before .before .before .before .before .before .before .before .before .before .before .before .before .before .before .before .before .before .before .before .before .pre .1 .1 .1 .1 .0) in
-    let looks = looks-left (c .before .before .before .before .before .before .before .before .before .before .before .before .before .before .before .before .before .before .before .before .before .before .before .before .before .before .before .before .before .before .before .before .before .pre .0 .looks-in) (parting .kept .over) (parting .kept .same-entries) in
-    let entry = entry-found (given .new-short) looks (c .before .before .before .before .before .before .before .before .before .before .before .before .card-of .ensures) (c .before .before .before .before .before .before .before .take .ensures) in
-    let written = match-plain (inner-unasked known inner) entry (c .before .before .before .before .next-plain .ensures) .writes (inner .child) (inner .at-child) _ in
-    let as-long = c .before .before .before .before .next-plain .kept .1 .1 .1 .1 .1 .0 in (
+    let parting = c .before .before .before .before .before .before .before .before .before .before .before .before .before .before .before .before .before .before .before .before .before .before .loop .inv .0 in
+    let inner = c .before .before .before .before .before .before .before .before .before .before .before .before .before .before .before .before .before .before .before .before .before .before .before .before .before .before .before .before .before .before .before .before .before .before .pre .1 .1 .0 .0 in
+    let more = c .before .before .before .before .before .before .before .before .before .before .before .before .before .before .before .before .before .before .before .before .before .loop-test .taken in
+    let known = child-below (c .before .before .before .before .before .before .before .before .before .before .before .before .before .before .before .before .before .before .before .before .before .before .before .before .before .before .before .before .before .before .before .before .before .before .pre .0 .lens-node) (c .before .before .before .before .before .before .before .before .before .before .before .before .before .before .before .before .before .before .before .before .before .before .before .before .before .before .before .before .before .before .before .before .before .before .pre .1 .0) in
+    let given = part-given parting more (c .before .before .before .before .before .before .before .before .before .before .before .before .before .before .before .before .before .before .first-loop .ensures) (c .before .before .before .before .before .before .before .before .before .before .before .before .before .before .before .before .before .before .before .before .before .before .before .before .before .before .before .before .before .before .before .before .before .before .pre .1 .1 .1 .1 .0) in
+    let looks = looks-left (c .before .before .before .before .before .before .before .before .before .before .before .before .before .before .before .before .before .before .before .before .before .before .before .before .before .before .before .before .before .before .before .before .before .before .pre .0 .looks-in) (parting .kept .over) (parting .kept .same-entries) in
+    let entry = entry-found (given .new-short) looks (c .before .before .before .before .before .before .before .before .before .before .before .before .before .card-of .ensures) (c .before .before .before .before .before .before .before .before .take .ensures) in
+    let written = match-plain (inner-unasked (inner-flat known inner)) entry (c .wrapping-add-usize .ensures) (c .before .before .before .before .before .next-plain .ensures) .writes (inner .child) (inner .at-child) _ in
+    let as-long = c .before .before .before .before .before .next-plain .kept .1 .1 .1 .1 .1 .0 in (
       parting-next
           parting
-          (c .before .before .before .before .next-plain .last .1 .1 .1 .1 .1 .0)
-          (omega (arith, c .before .before .before .before .before .before .before .before .before .before .before .before .before .before .before .before .before .before .before .before .before .before .before .before .before .before .before .before .before .before .before .before .before .pre .0 .looks-in .deck-room))
+          (c .before .before .before .before .before .next-plain .last .1 .1 .1 .1 .1 .0)
+          (omega (arith, c .before .before .before .before .before .before .before .before .before .before .before .before .before .before .before .before .before .before .before .before .before .before .before .before .before .before .before .before .before .before .before .before .before .before .pre .0 .looks-in .deck-room))
           more
-          (c .before .before .before .before .before .before .before .before .before .before .before .before .before .before .before .before .before .first-loop .ensures)
+          (c .before .before .before .before .before .before .before .before .before .before .before .before .before .before .before .before .before .before .first-loop .ensures)
           refl
           (at-node (match _ (inner .child)) (inner .tree-is) written)
           as-long,
-      part-back parting more (c .before .before .before .before .before .before .before .before .before .before .before .before .before .before .before .before .before .first-loop .ensures) (c .before .before .before .before .next-plain .last .1 .1 .1 .1 .1 .0) as-long ∙ c .before .before .before .before .before .before .before .before .before .before .before .before .before .before .before .before .before .before .before .before .before .loop .inv .1,
-      c .before .before .before .before .before .before .before .before .before .before .before .before .card-of .kept .1 .1 .1 .1 .1 .1 .0 ∙ c .before .before .before .before .before .before .before .before .before .before .before .before .before .before .before .before .before .before .before .before .before .loop .inv .2,
-      c .before .before .before .before .next-plain .kept .1 .1 .1 .1 .1 .1 .1 .1 .0 ∙ c .before .before .before .before .before .before .before .before .before .before .before .before .before .before .before .before .before .before .before .before .before .loop .inv .3,
+      part-back parting more (c .before .before .before .before .before .before .before .before .before .before .before .before .before .before .before .before .before .before .first-loop .ensures) (c .before .before .before .before .before .next-plain .last .1 .1 .1 .1 .1 .0) as-long ∙ c .before .before .before .before .before .before .before .before .before .before .before .before .before .before .before .before .before .before .before .before .before .before .loop .inv .1,
+      c .before .before .before .before .before .before .before .before .before .before .before .before .before .card-of .kept .1 .1 .1 .1 .1 .1 .0 ∙ c .before .before .before .before .before .before .before .before .before .before .before .before .before .before .before .before .before .before .before .before .before .before .loop .inv .2,
+      c .before .before .before .before .before .next-plain .kept .1 .1 .1 .1 .1 .1 .1 .1 .0 ∙ c .before .before .before .before .before .before .before .before .before .before .before .before .before .before .before .before .before .before .before .before .before .before .loop .inv .3,
     )
 
 -- src/write.rt:340:1
@@ -209,6 +213,7 @@ write-matches-spec =
     part-take-end
     take-requires
     next-plain-requires
+    wrapping-add-usize-requires
     loop-less
     loop-again
     same-length
