@@ -71,10 +71,10 @@ loop-again c =
     (omega (arith, same, simp (length-take, length-drop) at (c .before .count .ensures .0 .0)), same ∙ c .before .before .before .before .before .before .before .before .before .before .loop .inv .1)
 
 same-length-3 : tie.Need-same-length-3 Inv-loop μ-loop
-same-length-3 c = c .before .before .loop .inv .1
+same-length-3 c = c .before .loop .inv .1
 
 returns-3 : tie.Need-returns-3 Inv-loop μ-loop
-returns-3 c = record { within = λ n e. absurd (let z : _≡_ {A = ℕ} 0 1 = cc in omega arith) }
+returns-3 c = record { within = λ k e. let n-is : c .before .loop .n ≡ k = cc in omega (arith, c .before .loop .inv .0) }
 
 pub fill-spec : {M : Type 1} → statement M
 fill-spec =
