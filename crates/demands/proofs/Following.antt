@@ -63,7 +63,7 @@ refusal-is (refuses number′ node′) before after answer number node given e =
     cc
 
 -- a text that was given is at the start of the buffer
-given-text : (t before after : Text) → after ≡ bufferAfter (gives t) before → (take (length t) after ≡ t) × (length t ≤ length after)
+pub given-text : (t before after : Text) → after ≡ bufferAfter (gives t) before → (take (length t) after ≡ t) × (length t ≤ length after)
 unfolding bufferAfter
 given-text t before after e =
     (ap (take (length t)) e ∙ take-append-seam t (drop (length t) before), omega (arith, ap length e, length-append t (drop (length t) before)))
