@@ -42,6 +42,8 @@ const GET: u64 = 256 * (b'g' as u64) + b'e' as u64;
 
 const PUT: u64 = 256 * (b'p' as u64) + b'u' as u64;
 
+const COUNTS: u64 = 256 * (b'c' as u64) + b'o' as u64;
+
 const CREATE: u64 = 256 * (b'c' as u64) + b'r' as u64;
 
 const BUFFER: u64 = 256 * (b'b' as u64) + b'u' as u64;
@@ -158,6 +160,7 @@ fn answer(word: u64, name: &[u8], table: &[u8], sheet: &[u8], source: &[u8], out
         LINE => show::line(name, table),
         GET => show::get(name, table, source, out),
         PUT => show::put(name, table, sheet, source, out),
+        COUNTS => show::counts(name, table, sheet, source, out),
         CREATE => show::create(name, table, sheet, out),
         BUFFER => show::text(name, out),
         _ => {}

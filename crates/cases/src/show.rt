@@ -1,5 +1,7 @@
-// A case's line: its name, then the text in quotes, `result` and the length of a longer text, or `refused`, number and node.
+// A case's line: its name, then the text in quotes, `result` and the length of a longer text, or `refused`, number and node; or a put's counts.
 use answers::Answer;
+use answers::PutAnswer;
+use answers::results::without_tally;
 use libc::STDOUT_FILENO;
 use script::fill;
 
@@ -84,8 +86,34 @@ pub fn get(name: &[u8], table: &[u8], source: &[u8], out: &mut [u8]) {
 pub fn put(name: &[u8], table: &[u8], sheet: &[u8], source: &[u8], out: &mut [u8]) {
     begin(name);
     fill(out, MARK);
-    let made = engine::put::put(table, sheet, source, out);
+    let made = without_tally(engine::put::put(table, sheet, source, out));
     answer(made, out);
+}
+
+// The counts of a put.
+pub fn counts(name: &[u8], table: &[u8], sheet: &[u8], source: &[u8], out: &mut [u8]) {
+    begin(name);
+    fill(out, MARK);
+    let counted = engine::put::put(table, sheet, source, out);
+    match counted {
+        PutAnswer::Result {
+            length: _,
+            kept,
+            made,
+            dropped,
+        } => tally(kept, made, dropped),
+        PutAnswer::Refusal { number, node } => refused(number, node),
+    }
+}
+
+fn tally(kept: usize, made: usize, dropped: usize) {
+    io::write_all(STDOUT_FILENO, b"kept ");
+    io::print_decimal(STDOUT_FILENO, kept as u64);
+    io::write_all(STDOUT_FILENO, b" made ");
+    io::print_decimal(STDOUT_FILENO, made as u64);
+    io::write_all(STDOUT_FILENO, b" dropped ");
+    io::print_decimal(STDOUT_FILENO, dropped as u64);
+    io::write_all(STDOUT_FILENO, b"\n");
 }
 
 pub fn create(name: &[u8], table: &[u8], sheet: &[u8], out: &mut [u8]) {

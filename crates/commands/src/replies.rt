@@ -1,6 +1,7 @@
 // What each command prints on standard output, made at the start of a buffer.
 use crate::command::Command;
 use answers::Answer;
+use answers::results::without_tally;
 use engine::lenscheck_line;
 use lines::put_refused;
 ghost use mathlib.Core.Path.{_≡_};
@@ -35,7 +36,7 @@ pub fn reply_to(
             finish(answer, out)
         }
         Command::Put => {
-            let answer = engine::put::put(table, text, old_source, out);
+            let answer = without_tally(engine::put::put(table, text, old_source, out));
             finish(answer, out)
         }
         Command::Create => {

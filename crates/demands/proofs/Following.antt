@@ -1,5 +1,5 @@
 -- Two calls, one after the other: what the second gives, from what the first gave.
-use mathlib.Core.Path.{_≡_, refl, sym, ap, _∙_, subst}
+use mathlib.Core.Path.{_≡_, refl, sym, ap, ap₂, _∙_, subst}
 use Prim.Native.Nat.{ℕ, _-_, _≤_}
 use native.Mathlib.Omega.{arith}
 use lib.ListN.{length, take, drop, length-append, length-replicate}
@@ -7,24 +7,36 @@ use lib.Seq.{take-append-seam}
 use Rattle.semantics.specs.Text.{Text}
 use Rattle.semantics.specs.Calls.{gives, refuses, bufferAfter}
 use Rattle.semantics.specs.Calls.{Answer as Outcome}
+use Rattle.semantics.specs.Tally.{Tally}
 use Rattle.laws.specs.Basics.{never}
 use Rattle.laws.specs.Refusals.{Named}
 use Rattle.answers.specs.declared.Answer.{Answer}
 use Rattle.answers.specs.declared.Answer.the-variants.{Result, Refusal}
-use Rattle.answers.specs.Contracts.{answerFor, GivesText}
+use Rattle.answers.specs.declared.PutAnswer.{PutAnswer}
+use Rattle.answers.specs.Contracts.{answerFor, putAnswerFor, GivesText, GivesSource, untallied}
+use Rattle.answers.specs.Replies.{gives-text}
 use Rattle.engine.specs.Demand3.{Gave, gave-of, of-gave}
 use Rattle.noontrough.specs.declared.Numbers.{Numbers}
-use Rattle.noontrough.specs.Exports.{numbersOf, ExportsText}
+use Rattle.noontrough.specs.declared.PutNumbers.{PutNumbers}
+use Rattle.noontrough.specs.Exports.{numbersOf, putNumbersOf, ExportsText, ExportsSource}
 use Rattle.noontrough.specs.Numbers.{result-iff}
 use Rattle.demands.specs.declared.trips.TwoCalls.{TwoCalls}
 use Rattle.demands.specs.declared.linked.LinkedCalls.{LinkedCalls}
-use Rattle.demands.specs.Demands.{blank, thenCall, Made, LinkedMade}
+use Rattle.demands.specs.Demands.{blank, thenCall, thenCount, Made, LinkedMade}
 use Rattle.demands.specs.Following.{Held, Follows, LinkedHeld, LinkedFollows}
 
 -- by the law on any such list: counted at this length it would take seconds
 pub blank-length : length blank ≡ 4096
 unfolding blank
 blank-length = length-replicate {A = ℕ} 4096 0
+
+-- put's answer without its counts, as the calls are made here
+pub gives-plain :
+    {outcome : Outcome Text} {n : Tally} {before after : Text} {answer : PutAnswer} {plain : Answer}
+    → GivesSource outcome n before after answer
+    → plain ≡ untallied answer
+    → GivesText outcome before after plain
+gives-plain given is = rw is (gives-text given)
 
 -- ---- The first call
 
@@ -51,7 +63,7 @@ refusal-is (refuses number′ node′) before after answer number node given e =
     cc
 
 -- a text that was given is at the start of the buffer
-given-text : (t before after : Text) → after ≡ bufferAfter (gives t) before → (take (length t) after ≡ t) × (length t ≤ length after)
+pub given-text : (t before after : Text) → after ≡ bufferAfter (gives t) before → (take (length t) after ≡ t) × (length t ≤ length after)
 unfolding bufferAfter
 given-text t before after e =
     (ap (take (length t)) e ∙ take-append-seam t (drop (length t) before), omega (arith, ap length e, length-append t (drop (length t) before)))
@@ -99,21 +111,21 @@ module _ {given : Text} {first : Answer} {second : Text → Outcome Text} {befor
 
 -- with blank buffers, however a call's outcome is answered
 both-made :
-    {N : Type 0} (Gives : Outcome Text → Text → Text → N → Type 0)
+    {N M : Type 0} (Gives : Outcome Text → Text → Text → N → Type 0) (Then : Outcome Text → Outcome Text → Text → Text → M → Type 0)
     (first : ℕ → Outcome Text) (second : ℕ → Text → Outcome Text)
-    (x y given again : Text) (a b : N)
+    (x y given again : Text) (a : N) (b : M)
     → x ≡ blank
     → y ≡ blank
     → Gives (first (length x)) x given a
-    → Gives (thenCall (first (length x)) (second (length y))) y again b
-    → Gives (first 4096) blank given a × Gives (thenCall (first 4096) (second 4096)) blank again b
-both-made Gives first second x y given again a b ex ey one two =
+    → Then (first (length x)) (thenCall (first (length x)) (second (length y))) y again b
+    → Gives (first 4096) blank given a × Then (first 4096) (thenCall (first 4096) (second 4096)) blank again b
+both-made Gives Then first second x y given again a b ex ey one two =
     let room : length x ≡ 4096 = ap length ex ∙ blank-length in
     let room′ : length y ≡ 4096 = ap length ey ∙ blank-length in
     let one′ = subst (λ n. Gives (first n) x given a) room one in
-    let two′ = subst (λ n. Gives (thenCall (first n) (second (length y))) y again b) room two in
-    let two″ = subst (λ n. Gives (thenCall (first 4096) (second n)) y again b) room′ two′ in
-    (subst (λ z. Gives (first 4096) z given a) ex one′, subst (λ z. Gives (thenCall (first 4096) (second 4096)) z again b) ey two″)
+    let two′ = subst (λ n. Then (first n) (thenCall (first n) (second (length y))) y again b) room two in
+    let two″ = subst (λ n. Then (first 4096) (thenCall (first 4096) (second n)) y again b) room′ two′ in
+    (subst (λ z. Gives (first 4096) z given a) ex one′, subst (λ z. Then (first 4096) (thenCall (first 4096) (second 4096)) z again b) ey two″)
 
 pub made :
     (first : ℕ → Outcome Text) (second : ℕ → Text → Outcome Text) {x y : Text} {r : TwoCalls}
@@ -124,7 +136,7 @@ pub made :
     → Made (first 4096) (second 4096) r
 made first second {x} {y} {r} ex ey given then =
     let both = then .follows (first (length x)) x given in
-    let (one, two) = both-made GivesText first second x y (r .given) (r .again) (r .first) (r .second) ex ey given both in
+    let (one, two) = both-made GivesText (λ o. GivesText) first second x y (r .given) (r .again) (r .first) (r .second) ex ey given both in
     record { first-made = one; second-made = two }
 
 -- where the definitions lead from what the first gives to what the second gives, the calls do
@@ -155,11 +167,13 @@ module _ {outcome : Outcome Text} {start given : Text} {first : Numbers} (named 
   pub linked-held : LinkedHeld given first
   linked-held = record { within = λ zero. let (t, is, lengths, text, held) = zero-text zero in omega arith }
 
-module _ {given : Text} {first : Numbers} {second : Text → Outcome Text} {before after : Text} {numbers : Numbers} where
+module _ {given : Text} {first : Numbers} {second : Text → Outcome Text} {count : Text → Tally} {before after : Text} {numbers : PutNumbers} where
   pub linked-result :
-      first .number ≡ 0 → ExportsText (second (take (first .length - 0) given)) before after numbers
-      → LinkedFollows given first second before after numbers
-  unfolding thenCall
+      first .number ≡ 0
+      → let text = take (first .length - 0) given in
+      ExportsSource (second text) (count text) before after numbers
+      → LinkedFollows given first second count before after numbers
+  unfolding thenCall thenCount
   linked-result zero made =
       record {
         follows =
@@ -167,44 +181,52 @@ module _ {given : Text} {first : Numbers} {second : Text → Outcome Text} {befo
             let (t, is, lengths, text, held) = zero-text named h zero in
             let whole : first .length - 0 ≡ length t = omega arith in
             let same : take (first .length - 0) given ≡ t = ap (λ k. take k given) whole ∙ text in
-            rw is (subst (λ u. ExportsText (second u) before after numbers) same made);
+            rw is (subst (λ u. ExportsSource (second u) (count u) before after numbers) same made);
       }
 
-  pub linked-refusal : (first .number ≡ 0 → ⊥) → after ≡ before → numbers ≡ first → LinkedFollows given first second before after numbers
-  unfolding thenCall bufferAfter
+  pub linked-refusal :
+      (first .number ≡ 0 → ⊥)
+      → after ≡ before
+      → numbers ≡ record { number = first .number; node = first .node; length = 0; kept = 0; made = 0; dropped = 0 }
+      → LinkedFollows given first second count before after numbers
+  unfolding thenCall bufferAfter answerFor putAnswerFor
   linked-refusal other unchanged stands = record { follows = go }
     where
       go :
           (outcome : Outcome Text) (start : Text) → Named outcome → ExportsText outcome start given first
-          → ExportsText (thenCall outcome second) before after numbers
+          → ExportsSource (thenCall outcome second) (thenCount outcome count) before after numbers
       go (gives t) start named h = absurd (other (result-iff (gives t) start given first named h .1 (t, refl)))
-      go (refuses number node) start named h = record { numbers-are = stands ∙ h .numbers-are; buffer-is = unchanged }
+      go (refuses number node) start named h =
+          let number-is : first .number ≡ number = ap (λ (n : Numbers). n .number) (h .numbers-are) in
+          let node-is : first .node ≡ node = ap (λ (n : Numbers). n .node) (h .numbers-are) in
+          record { numbers-are = stands ∙ rw (number-is, node-is) refl; buffer-is = unchanged }
 
 pub linked-made :
-    (first : ℕ → Outcome Text) (second : ℕ → Text → Outcome Text) {x y : Text} {r : LinkedCalls}
+    (first : ℕ → Outcome Text) (second : ℕ → Text → Outcome Text) (count : Text → Tally) {x y : Text} {r : LinkedCalls}
     → x ≡ blank
     → y ≡ blank
     → Named (first (length x))
     → ExportsText (first (length x)) x (r .given) (r .first)
-    → LinkedFollows (r .given) (r .first) (second (length y)) y (r .again) (r .second)
-    → LinkedMade (first 4096) (second 4096) r
-linked-made first second {x} {y} {r} ex ey named given then =
+    → LinkedFollows (r .given) (r .first) (second (length y)) count y (r .again) (r .second)
+    → LinkedMade (first 4096) (second 4096) count r
+linked-made first second count {x} {y} {r} ex ey named given then =
     let both = then .follows (first (length x)) x named given in
-    let (one, two) = both-made ExportsText first second x y (r .given) (r .again) (r .first) (r .second) ex ey given both in
+    let (one, two) = both-made ExportsText (λ o. λ p. ExportsSource p (thenCount o count)) first second x y (r .given) (r .again) (r .first) (r .second) ex ey given both in
     record { first-made = one; second-made = two }
 
 pub linked-gave :
-    {first : Outcome Text} {second : Text → Outcome Text} {r : LinkedCalls}
-    → LinkedMade first second r
+    {first : Outcome Text} {second : Text → Outcome Text} {count : Text → Tally} {r : LinkedCalls}
+    → LinkedMade first second count r
     → Named first
-    → (b : Text)
-    → ((a : Text) → first ≡ gives a → second a ≡ gives b)
+    → (b : Text) (n : Tally)
+    → ((a : Text) → first ≡ gives a → (second a ≡ gives b) × (count a ≡ n))
     → r .first .number ≡ 0
-    → (r .second ≡ record { number = 0; node = 0; length = length b }) × (take (length b) (r .again) ≡ b)
-unfolding thenCall answerFor
-linked-gave {first} {second} {r} calls named b leads zero =
+    → (r .second ≡ putNumbersOf (putAnswerFor (gives b) n)) × (take (length b) (r .again) ≡ b)
+unfolding thenCall thenCount
+linked-gave {first} {second} {count} {r} calls named b n leads zero =
     let (a, is) = result-iff first blank (r .given) (r .first) named (calls .first-made) .0 zero in
-    let then : thenCall first second ≡ gives b = rw is (leads a is) in (
-      calls .second-made .numbers-are ∙ ap (λ o. numbersOf (answerFor length o)) then,
+    let then : thenCall first second ≡ gives b = rw is (leads a is .0) in
+    let counts : thenCount first count ≡ n = rw is (leads a is .1) in (
+      calls .second-made .numbers-are ∙ ap₂ (λ o m. putNumbersOf (putAnswerFor o m)) then counts,
       given-text b blank (r .again) (calls .second-made .buffer-is ∙ ap (λ o. bufferAfter o blank) then) .0,
     )

@@ -14,6 +14,7 @@ use Rattle.semantics.specs.Text.{Text, joined}
 use Rattle.semantics.specs.Pattern.{In, matches}
 use Rattle.semantics.specs.Lens.{Lens, repeat, match, source, language, parts, get}
 use Rattle.semantics.specs.Calls.{gives, output, getCall, putCall, bufferAfter}
+use Rattle.semantics.specs.Tally.{putTally}
 use Rattle.laws.specs.Basics.{never}
 use Rattle.laws.specs.Membership.{in-matches}
 use Rattle.laws.specs.Cuts.{parts-is}
@@ -22,7 +23,7 @@ use Rattle.laws.specs.Shuffle.{selected, PartNumbers}
 use Rattle.laws.specs.Demand3.{OneRepeatedEntry, passing, source-parts}
 use Rattle.answers.specs.declared.Answer.{Answer}
 use Rattle.answers.specs.declared.Answer.the-variants.{Result, Refusal}
-use Rattle.answers.specs.Contracts.{answerFor, GivesText}
+use Rattle.answers.specs.Contracts.{answerFor, GivesText, GivesSource}
 use Rattle.engine.specs.Demand3.{reordered-call}
 use Rattle.demands.specs.declared.chosen.Chosen.{Chosen}
 use Rattle.demands.specs.Demands.{blank, PutMade, SetsInOrder}
@@ -202,14 +203,21 @@ entry-parted {bytes} {t} {n} {l} one =
 pub put-made :
     {bytes t : Text} {start : Text} {r : Chosen}
     → start ≡ blank
-    → GivesText (putCall bytes (take (r .length - 0) (r .sheet)) t (length start)) start (r .given) (r .answer)
+    → GivesSource
+    (putCall bytes (take (r .length - 0) (r .sheet)) t (length start))
+    (putTally bytes (take (r .length - 0) (r .sheet)) t)
+    start
+    (r .given)
+    (r .answer)
     → PutMade bytes t r
 put-made {bytes} {t} {start} {r} is-blank given =
     let long : length start ≡ 4096 = ap length is-blank ∙ blank-length in
     let whole : r .length - 0 ≡ r .length = omega arith in
-    let given′ = subst (λ k. GivesText (putCall bytes (take k (r .sheet)) t (length start)) start (r .given) (r .answer)) whole given in
-    let given″ = subst (λ m. GivesText (putCall bytes (take (r .length) (r .sheet)) t m) start (r .given) (r .answer)) long given′ in
-    record { put-made = subst (λ b. GivesText (putCall bytes (take (r .length) (r .sheet)) t 4096) b (r .given) (r .answer)) is-blank given″ }
+    let given′ =
+    subst (λ k. GivesSource (putCall bytes (take k (r .sheet)) t (length start)) (putTally bytes (take k (r .sheet)) t) start (r .given) (r .answer)) whole given in
+    let sheet = take (r .length) (r .sheet) in
+    let given″ = subst (λ m. GivesSource (putCall bytes sheet t m) (putTally bytes sheet t) start (r .given) (r .answer)) long given′ in
+    record { put-made = subst (λ b. GivesSource (putCall bytes sheet t 4096) (putTally bytes sheet t) b (r .given) (r .answer)) is-blank given″ }
 
 pub sets-chosen :
     {bytes t : Text} {choice : List ℕ} {r : Chosen}
@@ -224,7 +232,7 @@ sets-chosen {bytes} {t} {choice} {r} long sheet-is made =
           let ps = parts (language source l) t in
           let all = sheet-is .sheets-are n l ps (entry-parted one) numbers (omega arith) (omega arith) in
           let blank-long = blank-length in
-          let put-it : GivesText (putCall bytes (sheets l ps choice) t (length blank)) blank (r .given) (r .answer) =
+          let put-it : GivesSource (putCall bytes (sheets l ps choice) t (length blank)) (putTally bytes (sheets l ps choice) t) blank (r .given) (r .answer) =
           rw (blank-long, ← all) (made .put-made) in
           (all, reordered-call bytes t n l one choice numbers different fits blank (r .given) (r .answer) blank-long put-it);
     }

@@ -2,3 +2,4 @@
 pub mod Following
 pub mod Parting
 pub mod Gathering
+pub mod Counting

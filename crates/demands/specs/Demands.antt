@@ -8,11 +8,12 @@ use Rattle.semantics.specs.Text.{Text, joined, Different}
 use Rattle.semantics.specs.Lens.{Lens, source, language, parts, get, entries}
 use Rattle.semantics.specs.Calls.{gives, refuses, program, putCall}
 use Rattle.semantics.specs.Calls.{Answer as Outcome}
+use Rattle.semantics.specs.Tally.{Tally, putTally}
 use Rattle.laws.specs.Demand3.{OneRepeatedEntry}
 use Rattle.laws.specs.Shuffle.{selected, PartNumbers}
-use Rattle.answers.specs.Contracts.{GivesText}
+use Rattle.answers.specs.Contracts.{GivesText, GivesSource, untallied}
 use Rattle.engine.specs.Demand3.{Gave}
-use Rattle.noontrough.specs.Exports.{ExportsText}
+use Rattle.noontrough.specs.Exports.{ExportsText, ExportsSource}
 use Rattle.demands.specs.declared.trips.TwoCalls.{TwoCalls}
 use Rattle.demands.specs.declared.chosen.Chosen.{Chosen}
 use Rattle.demands.specs.declared.linked.LinkedCalls.{LinkedCalls}
@@ -49,7 +50,13 @@ pub record TakesBack (a : Text) (r : TwoCalls) : Type 0 where
 
 -- Put was made with the sheet that was put together, and gave that.
 pub record PutMade (bytes t : Text) (r : Chosen) : Type 0 where
-  pub put-made : GivesText (putCall bytes (take (r .length) (r .sheet)) t 4096) blank (r .given) (r .answer)
+  pub put-made :
+      GivesSource
+      (putCall bytes (take (r .length) (r .sheet)) t 4096)
+      (putTally bytes (take (r .length) (r .sheet)) t)
+      blank
+      (r .given)
+      (r .answer)
 
 -- 'where the program is one repeated entry and a source of at most 256 entries and 4,096 bytes has keys that all differ, whichever of its sheet
 -- entries are put back on it, none twice, 4,096 bytes at most, and in whatever order, put gives exactly those old entries set in that order'. The
@@ -62,19 +69,25 @@ pub record SetsInOrder (bytes t : Text) (choice : List ℕ) (r : Chosen) : Type 
       → Different choice
       → let chosen = selected (parts (language source l) t) choice in
       length (joined (map (get l) chosen)) ≤ 4096
-      → (take (r .length) (r .sheet) ≡ joined (map (get l) chosen)) × Gave (r .given) (r .answer) (joined chosen)
+      → (take (r .length) (r .sheet) ≡ joined (map (get l) chosen)) × Gave (r .given) (untallied (r .answer)) (joined chosen)
 
 -- ---- The first clause again, about the linked calls
 
-pub record LinkedMade (first : Outcome Text) (second : Text → Outcome Text) (r : LinkedCalls) : Type 0 where
-  pub first-made : ExportsText first blank (r .given) (r .first)
-  pub second-made : ExportsText (thenCall first second) blank (r .again) (r .second)
+-- the counts of a call that gets the text that a first one gave; a refusal has none
+unfoldable pub thenCount : Outcome Text → (Text → Tally) → Tally
+thenCount (gives t) count = count t
+thenCount (refuses number node) count = record { kept = 0; made = 0; dropped = 0 }
 
--- Number 0 says that get gave a sheet. Then put's number is 0, and its text is the source.
+pub record LinkedMade (first : Outcome Text) (second : Text → Outcome Text) (count : Text → Tally) (r : LinkedCalls) : Type 0 where
+  pub first-made : ExportsText first blank (r .given) (r .first)
+  pub second-made : ExportsSource (thenCall first second) (thenCount first count) blank (r .again) (r .second)
+
+-- Number 0 says that get gave a sheet. Then put's number is 0, its text is the source, and every entry of it is kept.
 pub record LinkedRestores (bytes t : Text) (r : LinkedCalls) : Type 0 where
   pub linked-restores :
       (l : Lens)
       → program bytes ≡ gives l
       → length (entries l t) ≤ 256
       → r .first .number ≡ 0
-      → (r .second ≡ record { number = 0; node = 0; length = length t }) × (take (length t) (r .again) ≡ t)
+      → (r .second ≡ record { number = 0; node = 0; length = length t; kept = length (entries l t); made = 0; dropped = 0 })
+      × (take (length t) (r .again) ≡ t)

@@ -4,13 +4,15 @@ use Prim.Native.Nat.{ℕ, _≤_}
 use lib.ListN.{length}
 use Rattle.semantics.specs.Text.{Text}
 use Rattle.semantics.specs.Calls.{Answer as Outcome}
+use Rattle.semantics.specs.Tally.{Tally}
 use Rattle.laws.specs.Refusals.{Named}
 use Rattle.answers.specs.declared.Answer.{Answer}
 use Rattle.answers.specs.declared.Answer.the-variants.{Result}
 use Rattle.answers.specs.Contracts.{GivesText}
 use Rattle.noontrough.specs.declared.Numbers.{Numbers}
-use Rattle.noontrough.specs.Exports.{ExportsText}
-use Rattle.demands.specs.Demands.{thenCall}
+use Rattle.noontrough.specs.declared.PutNumbers.{PutNumbers}
+use Rattle.noontrough.specs.Exports.{ExportsText, ExportsSource}
+use Rattle.demands.specs.Demands.{thenCall, thenCount}
 
 -- The text that was answered is in the buffer.
 pub record Held (given : Text) (first : Answer) : Type 0 where
@@ -28,9 +30,10 @@ pub record Follows (given : Text) (first : Answer) (second : Text → Outcome Te
 pub record LinkedHeld (given : Text) (first : Numbers) : Type 0 where
   pub within : first .number ≡ 0 → first .length ≤ length given
 
-pub record LinkedFollows (given : Text) (first : Numbers) (second : Text → Outcome Text) (before after : Text) (numbers : Numbers) : Type 0 where
+pub record LinkedFollows
+    (given : Text) (first : Numbers) (second : Text → Outcome Text) (count : Text → Tally) (before after : Text) (numbers : PutNumbers) : Type 0 where
   pub follows :
       (outcome : Outcome Text) (start : Text)
       → Named outcome
       → ExportsText outcome start given first
-      → ExportsText (thenCall outcome second) before after numbers
+      → ExportsSource (thenCall outcome second) (thenCount outcome count) before after numbers

@@ -2,6 +2,7 @@
 // a part of a repeat ends at the first place at which the text before it and the text behind it are sources.
 use crate::blank_buffer;
 use answers::Answer;
+use answers::PutAnswer;
 use engine::get::get;
 use engine::put::put;
 ghost use Prim.Native.Nat.{_≤_};
@@ -13,7 +14,7 @@ ghost use Rattle.demands.specs.Parting.{TellsSource, TellsCut, EndsPart,
 pub struct Chosen {
     pub sheet: [u8; 4096],
     pub length: usize,
-    pub answer: Answer,
+    pub answer: PutAnswer,
     pub given: [u8; 4096],
 }
 

@@ -1,10 +1,12 @@
 // Get and then put, by their exported forms.
 use crate::blank_buffer;
 use noontrough::Numbers;
+use noontrough::PutNumbers;
 use noontrough::noontrough_get;
 use noontrough::noontrough_put;
 ghost use lib.ListN.{length};
 ghost use Rattle.semantics.specs.Calls.{getCall, putCall};
+ghost use Rattle.semantics.specs.Tally.{putTally};
 ghost use Rattle.demands.specs.Demands.{LinkedMade, LinkedRestores};
 ghost use Rattle.demands.specs.Following.{LinkedHeld, LinkedFollows};
 
@@ -12,12 +14,12 @@ ghost use Rattle.demands.specs.Following.{LinkedHeld, LinkedFollows};
 pub struct LinkedCalls {
     pub first: Numbers,
     pub given: [u8; 4096],
-    pub second: Numbers,
+    pub second: PutNumbers,
     pub again: [u8; 4096],
 }
 
 pub fn linked_get_then_put(table: &[u8], source: &[u8]) -> LinkedCalls
-    ensures made { λ r. ⌜ LinkedMade (getCall (now (table .entry)) (now (source .entry)) 4096) (λ a. putCall (now (table .entry)) a (now (source .entry)) 4096) r ⌝ }
+    ensures made { λ r. ⌜ LinkedMade (getCall (now (table .entry)) (now (source .entry)) 4096) (λ a. putCall (now (table .entry)) a (now (source .entry)) 4096) (λ a. putTally (now (table .entry)) a (now (source .entry))) r ⌝ }
     ensures demand { λ r. ⌜ LinkedRestores (now (table .entry)) (now (source .entry)) r ⌝ }
 {
     let mut given = blank_buffer();
@@ -39,12 +41,19 @@ fn linked_put_of(
     given: &[u8],
     source: &[u8],
     again: &mut [u8],
-) -> Numbers
+) -> PutNumbers
     requires { ⌜ LinkedHeld (now given) first ⌝ }
-    ensures { λ r. ⌜ LinkedFollows (now (given .entry)) first (λ a. putCall (now (table .entry)) a (now (source .entry)) (length (now (again .entry)))) (now (again .entry)) (now (again .exit)) r ⌝ }
+    ensures { λ r. ⌜ LinkedFollows (now (given .entry)) first (λ a. putCall (now (table .entry)) a (now (source .entry)) (length (now (again .entry)))) (λ a. putTally (now (table .entry)) a (now (source .entry))) (now (again .entry)) (now (again .exit)) r ⌝ }
 {
     if first.number != 0 {
-        return first;
+        return PutNumbers {
+            number: first.number,
+            node: first.node,
+            length: 0,
+            kept: 0,
+            made: 0,
+            dropped: 0,
+        };
     }
     let length = first.length as usize;
     noontrough_put(table, &given[0..length], source, again)

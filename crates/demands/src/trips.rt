@@ -1,6 +1,7 @@
 // There and back: get and put, put and get, create and get.
 use crate::blank_buffer;
 use answers::Answer;
+use answers::results::without_tally;
 use engine::create::create;
 use engine::get::get;
 use engine::put::put;
@@ -9,7 +10,7 @@ ghost use Rattle.semantics.specs.Calls.{getCall, putCall, createCall};
 ghost use Rattle.demands.specs.Demands.{Made, Restores, TakesBack};
 ghost use Rattle.demands.specs.Following.{Held, Follows};
 
-// The answers of two calls, one after the other, and their whole buffers afterwards.
+// The answers of two calls, one after the other, put's without its counts, and their whole buffers afterwards.
 pub struct TwoCalls {
     pub first: Answer,
     pub given: [u8; 4096],
@@ -39,7 +40,7 @@ pub fn put_then_get(bytes: &[u8], sheet: &[u8], old: &[u8]) -> TwoCalls
 {
     let mut given = blank_buffer();
     let mut again = blank_buffer();
-    let first = put(bytes, sheet, old, &mut given);
+    let first = without_tally(put(bytes, sheet, old, &mut given));
     let second = get_of(bytes, first, &given, &mut again);
     TwoCalls {
         first,
@@ -71,7 +72,7 @@ fn put_of(bytes: &[u8], first: Answer, given: &[u8], source: &[u8], again: &mut 
     ensures { λ r. ⌜ Follows (now (given .entry)) first (λ a. putCall (now (bytes .entry)) a (now (source .entry)) (length (now (again .entry)))) (now (again .entry)) (now (again .exit)) r ⌝ }
 {
     match first {
-        Answer::Result { length } => put(bytes, &given[0..length], source, again),
+        Answer::Result { length } => { without_tally(put(bytes, &given[0..length], source, again)) }
         Answer::Refusal { number, node } => Answer::Refusal { number, node },
     }
 }

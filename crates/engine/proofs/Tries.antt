@@ -1,10 +1,12 @@
 -- What a try in a room says of the call, and what each call owes for a program that is refused.
-use mathlib.Core.Path.{_≡_, refl, sym, subst}
+use mathlib.Core.Path.{_≡_, refl, sym, _∙_, subst}
 use Prim.Native.Nat.{ℕ}
+use lib.ListN.{length}
 use Rattle.semantics.specs.Text.{Text}
-use Rattle.semantics.specs.Calls.{refuses, program, getCall, putCall, createCall}
-use Rattle.answers.specs.declared.Answer.{Answer}
+use Rattle.semantics.specs.Calls.{gives, refuses, program, withProgram, getCall, putCall, createCall}
 use Rattle.answers.specs.declared.Answer.the-variants.{Refusal}
+use Rattle.answers.specs.declared.Reply.{Reply}
+use Rattle.laws.specs.Basics.{never}
 use Rattle.answers.proofs.Verdicts.{never-small, check-refuses}
 use Rattle.answers.proofs.Giving.{program-refuses}
 use Rattle.engine.specs.declared.rooms.Call.{Call}
@@ -16,37 +18,49 @@ use Rattle.engine.specs.Rooms.{Owed, Owes, NoRoom, TriedIs, Tries}
 
 -- the case that the call is
 pub owes-as :
-    {call which : Call} {bytes sheet source before after : Text} {answer : Answer}
+    {call which : Call} {bytes sheet source before after : Text} {reply : Reply}
     → call ≡ which
-    → Owes which bytes sheet source before after answer
-    → Owes call bytes sheet source before after answer
-owes-as {call} {which} {bytes} {sheet} {source} {before} {after} {answer} e o =
-    subst (λ (k : Call). Owes k bytes sheet source before after answer) (sym e) o
+    → Owes which bytes sheet source before after reply
+    → Owes call bytes sheet source before after reply
+owes-as {call} {which} {bytes} {sheet} {source} {before} {after} {reply} e o =
+    subst (λ (k : Call). Owes k bytes sheet source before after reply) (sym e) o
+
+-- put gives nothing by a program that is refused, and so has nothing to count
+put-refused : (bytes sheet source t : Text) (lent : ℕ) {number node : ℕ} → program bytes ≡ refuses number node → putCall bytes sheet source lent ≡ gives t → ⊥
+unfolding putCall withProgram
+put-refused bytes sheet source t lent e given = let wrong = rw e at given in never (cc)
 
 -- 'It checks the program itself on each call': a refused program is refused to each
 owed-refusal :
-    (call : Call) (bytes sheet source before : Text) (number node : ℕ)
+    (call : Call) (bytes sheet source before : Text) (reply : Reply) (number node : ℕ)
     → program bytes ≡ refuses number node
-    → Owed call bytes sheet source before before (Refusal number node)
+    → reply .answer ≡ Refusal number node
+    → Owed call bytes sheet source before before reply
 unfolding Owed getCall putCall createCall lineCall
-owed-refusal Check bytes sheet source before number node e = record { answer-is = check-refuses bytes number node e; buffer-is = refl }
-owed-refusal Get bytes sheet source before number node e = program-refuses bytes _ e
-owed-refusal Put bytes sheet source before number node e = program-refuses bytes _ e
-owed-refusal Create bytes sheet source before number node e = program-refuses bytes _ e
-owed-refusal Line bytes sheet source before number node e = program-refuses bytes _ e
+owed-refusal Check bytes sheet source before reply number node e is = record { answer-is = is ∙ check-refuses bytes number node e; buffer-is = refl }
+owed-refusal Get bytes sheet source before reply number node e is = rw is (program-refuses bytes _ e)
+owed-refusal Put bytes sheet source before reply number node e is =
+    record {
+      counts = λ t given. absurd (put-refused bytes sheet source t (length before) e given);
+      gives = rw is (program-refuses bytes _ e);
+    }
+owed-refusal Create bytes sheet source before reply number node e is = rw is (program-refuses bytes _ e)
+owed-refusal Line bytes sheet source before reply number node e is = rw is (program-refuses bytes _ e)
 
 pub refused-to :
-    {call : Call} {bytes sheet source before : Text} {number node : ℕ}
+    {call : Call} {bytes sheet source before : Text} {reply : Reply} {number node : ℕ}
     → program bytes ≡ refuses number node
-    → Owes call bytes sheet source before before (Refusal number node)
-refused-to {call} {bytes} {sheet} {source} {before} {number} {node} e = record { owed = owed-refusal call bytes sheet source before number node e }
+    → reply .answer ≡ Refusal number node
+    → Owes call bytes sheet source before before reply
+refused-to {call} {bytes} {sheet} {source} {before} {reply} {number} {node} e is =
+    record { owed = owed-refusal call bytes sheet source before reply number node e is }
 
 module _ {size : ℕ} {call : Call} {bytes sheet source before between : Text} {tried : Tried} (tries : Tries size call bytes sheet source before between tried) where
   tried-as : {which : Tried} → tried ≡ which → TriedIs size call bytes sheet source before between which
   tried-as e = subst (λ (t : Tried). TriedIs size call bytes sheet source before between t) e (tries .tried-is)
 
   -- the call is done,
-  pub done : {answer : Answer} → tried ≡ Done answer → Owes call bytes sheet source before between answer
+  pub done : {reply : Reply} → tried ≡ Done reply → Owes call bytes sheet source before between reply
   unfolding TriedIs
   done e = tried-as e
 
@@ -56,8 +70,8 @@ module _ {size : ℕ} {call : Call} {bytes sheet source before between : Text} {
   no-room e = tried-as e
 
   -- and it goes on in a larger room, with the buffer as it was
-  pub goes-on : {after : Text} {answer : Answer} → tried ≡ Small → Owes call bytes sheet source between after answer → Owes call bytes sheet source before after answer
-  goes-on {after} {answer} e o = subst (λ (t : Text). Owes call bytes sheet source t after answer) (no-room e .unchanged) o
+  pub goes-on : {after : Text} {reply : Reply} → tried ≡ Small → Owes call bytes sheet source between after reply → Owes call bytes sheet source before after reply
+  goes-on {after} {reply} e o = subst (λ (t : Text). Owes call bytes sheet source t after reply) (no-room e .unchanged) o
 
 -- the full room has room for every program
 pub never-small-there :

@@ -1,5 +1,5 @@
--- Demand 3, about the calls as they are: what their contracts say (`GivesText`: the answer, and the whole buffer afterwards) with the theorems
--- of `laws` about the definitions of the calls. `Gave` is document 01's 'What such a call gives is the text of the answered length at the
+-- Demand 3, about the calls as they are: what their contracts say (`GivesText`, and for put `GivesSource`: the answer, and the whole buffer
+-- afterwards) with the theorems of `laws` about the definitions of the calls. Put's answer is taken without its counts. `Gave` is document 01's 'What such a call gives is the text of the answered length at the
 -- start of its buffer'; every buffer is 4,096 bytes long; the second call of a pair gets the same table, and the text that the first one gave.
 use mathlib.Core.Path.{_≡_, sym, ap, _∙_}
 use mathlib.Core.List.{List, map}
@@ -11,11 +11,14 @@ use Rattle.semantics.specs.Text.{Text, joined, Different}
 use Rattle.semantics.specs.Lens.{Lens, source, language, parts, get, entries}
 use Rattle.semantics.specs.Calls.{gives, refuses, bufferAfter, program, getCall, putCall, createCall}
 use Rattle.semantics.specs.Calls.{Answer as Outcome}
+use Rattle.semantics.specs.Tally.{putTally}
 use Rattle.laws.specs.Demand3.{OneRepeatedEntry, unedited, put-then-get, create-then-get, reordered}
 use Rattle.laws.specs.Shuffle.{selected, PartNumbers}
 use Rattle.answers.specs.declared.Answer.{Answer}
 use Rattle.answers.specs.declared.Answer.the-variants.{Result, Refusal}
-use Rattle.answers.specs.Contracts.{answerFor, GivesText}
+use Rattle.answers.specs.declared.PutAnswer.{PutAnswer}
+use Rattle.answers.specs.Contracts.{answerFor, GivesText, GivesSource, untallied}
+use Rattle.answers.specs.Replies.{gives-text}
 
 -- The call answered a result, whose text is that.
 pub record Gave (after : Text) (answer : Answer) (text : Text) : Type 0 where
@@ -64,39 +67,68 @@ then-gave first second text result leads before after before′ after′ answer 
 module _
     (bytes : Text)
     (before after before′ after′ : Text)
-    (answer answer′ : Answer)
     (room : length before ≡ 4096)
     (room′ : length before′ ≡ 4096)
   where
     -- 'wherever get gave a sheet for a source of at most 256 entries, putting that sheet back on it unedited gives exactly that source'
     pub unedited-calls :
-        (t a : Text) (l : Lens)
+        (answer : Answer) (answer′ : PutAnswer) (t a : Text) (l : Lens)
         → program bytes ≡ gives l
         → length (entries l t) ≤ 256
         → GivesText (getCall bytes t (length before)) before after answer
         → Gave after answer a
-        → GivesText (putCall bytes a t (length before′)) before′ after′ answer′
-        → Gave after′ answer′ t
-    unedited-calls t a l p n =
-        then-gave (getCall bytes t) (putCall bytes a t) a t (λ e. unedited bytes t a l e p n) before after before′ after′ answer answer′ room room′
+        → GivesSource (putCall bytes a t (length before′)) (putTally bytes a t) before′ after′ answer′
+        → Gave after′ (untallied answer′) t
+    unedited-calls answer answer′ t a l p n got gave given =
+        then-gave
+        (getCall bytes t)
+        (putCall bytes a t)
+        a
+        t
+        (λ e. unedited bytes t a l e p n)
+        before
+        after
+        before′
+        after′
+        answer
+        (untallied answer′)
+        room
+        room′
+        got
+        gave
+        (gives-text given)
 
     -- 'wherever put (on whatever old source) or create gave a source for a sheet, get takes exactly that sheet from the new source'
     pub put-get-calls :
-        (a old t : Text)
-        → GivesText (putCall bytes a old (length before)) before after answer
-        → Gave after answer t
+        (answer : PutAnswer) (answer′ : Answer) (a old t : Text)
+        → GivesSource (putCall bytes a old (length before)) (putTally bytes a old) before after answer
+        → Gave after (untallied answer) t
         → GivesText (getCall bytes t (length before′)) before′ after′ answer′
         → Gave after′ answer′ a
-    put-get-calls a old t =
-        then-gave (putCall bytes a old) (getCall bytes t) t a (put-then-get bytes a old t) before after before′ after′ answer answer′ room room′
+    put-get-calls answer answer′ a old t given =
+        then-gave
+        (putCall bytes a old)
+        (getCall bytes t)
+        t
+        a
+        (put-then-get bytes a old t)
+        before
+        after
+        before′
+        after′
+        (untallied answer)
+        answer′
+        room
+        room′
+        (gives-text given)
 
     pub create-get-calls :
-        (a t : Text)
+        (answer answer′ : Answer) (a t : Text)
         → GivesText (createCall bytes a (length before)) before after answer
         → Gave after answer t
         → GivesText (getCall bytes t (length before′)) before′ after′ answer′
         → Gave after′ answer′ a
-    create-get-calls a t =
+    create-get-calls answer answer′ a t =
         then-gave (createCall bytes a) (getCall bytes t) t a (create-then-get bytes a t) before after before′ after′ answer answer′ room room′
 
 -- 'whichever of its sheet entries are put back on it, none twice, 4,096 bytes at most, and in whatever order, put gives exactly those old
@@ -108,16 +140,18 @@ pub reordered-call :
     → PartNumbers (parts (language source l) t) ns
     → Different ns
     → length (joined (map (get l) (selected (parts (language source l) t) ns))) ≤ 4096
-    → (before after : Text) (answer : Answer)
+    → (before after : Text) (answer : PutAnswer)
     → length before ≡ 4096
-    → GivesText (putCall bytes (joined (map (get l) (selected (parts (language source l) t) ns))) t (length before)) before after answer
-    → Gave after answer (joined (selected (parts (language source l) t) ns))
-reordered-call bytes t n l one ns numbers different short before after answer room =
+    → let sheet = joined (map (get l) (selected (parts (language source l) t) ns)) in
+    GivesSource (putCall bytes sheet t (length before)) (putTally bytes sheet t) before after answer
+    → Gave after (untallied answer) (joined (selected (parts (language source l) t) ns))
+reordered-call bytes t n l one ns numbers different short before after answer room given =
     let chosen = selected (parts (language source l) t) ns in
     gave-of
     (putCall bytes (joined (map (get l) chosen)) t (length before))
     (joined chosen)
     before
     after
-    answer
+    (untallied answer)
     (ap (putCall bytes (joined (map (get l) chosen)) t) room ∙ reordered bytes t n l one ns numbers different short)
+    (gives-text given)

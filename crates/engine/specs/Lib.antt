@@ -1,3 +1,4 @@
 -- What the calls answer, in terms of the definitions of the calls.
 pub mod Rooms
 pub mod Demand3
+pub mod Tally

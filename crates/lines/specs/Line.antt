@@ -1,4 +1,4 @@
--- The lines of accepted and refused programs, as their functions put them together.
+-- The lines of accepted and refused programs and of a put's counts, as their functions put them together.
 use mathlib.Core.Path.{_≡_}
 use mathlib.Core.List.{List, [], _∷_, _++_}
 use Prim.Native.Nat.{ℕ, _+_}
@@ -6,6 +6,7 @@ use lib.ListN.{length}
 use lib.Seq.{sets}
 use Rattle.semantics.specs.Text.{Text}
 use Rattle.semantics.specs.Calls.{field}
+use Rattle.semantics.specs.Tally.{Tally}
 
 -- A text is put at a place of a buffer, byte by byte, and the next place is behind it.
 pub record Puts (text : Text) (at next : ℕ) (before after : List ℕ) : Type 0 where
@@ -19,3 +20,7 @@ acceptedLine count sources sheets = (111 ∷ 107 ∷ []) ++ field count ++ field
 -- '`refused`, number, node'
 unfoldable pub refusedLine : ℕ → ℕ → Text
 refusedLine number node = (114 ∷ 101 ∷ 102 ∷ 117 ∷ 115 ∷ 101 ∷ 100 ∷ []) ++ field number ++ field node ++ 10 ∷ []
+
+-- the counts that a put has, as three numbers
+abbrev pub counts : ℕ → ℕ → ℕ → Tally
+counts kept made dropped = record { kept = kept; made = made; dropped = dropped }

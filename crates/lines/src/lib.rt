@@ -1,10 +1,11 @@
-// The lines that `lenscheck` and `sheet` print of a program, put into a buffer part by part. Each function answers the place behind what it put.
+// The lines that `lenscheck` and `sheet` print of a program and `tally` of a put, put into a buffer part by part. Each function answers the place behind what it put.
 use lens::texts::write_text;
 ghost use mathlib.Core.Path.{_≡_};
 ghost use Prim.Native.Nat.{_+_, _≤_};
 ghost use lib.ListN.{length};
 ghost use Rattle.semantics.specs.Calls.{field};
-ghost use Rattle.lines.specs.Line.{Puts, acceptedLine, refusedLine};
+ghost use Rattle.semantics.specs.Tally.{countsLine};
+ghost use Rattle.lines.specs.Line.{Puts, acceptedLine, refusedLine, counts};
 
 fn put_text(text: &[u8], at: usize, out: &mut [u8]) -> usize
     requires { ⌜ at + length (now text) ≤ length (now out) ⌝ }
@@ -48,5 +49,20 @@ pub fn put_refused(number: usize, node: usize, out: &mut [u8]) -> usize
     let first = put_text(b"refused", 0, out);
     let second = put_field(number, first, out);
     let end = put_field(node, second, out);
+    put_text(b"\n", end, out)
+}
+
+// The line of a put's counts, at the start of the buffer.
+pub fn put_counts(kept: usize, made: usize, dropped: usize, out: &mut [u8]) -> usize
+    requires { ⌜ 81 ≤ length (now out) ⌝ }
+    ensures puts { λ r. ⌜ Puts (countsLine (counts kept made dropped)) 0 r (now (out .entry)) (now (out .exit)) ⌝ }
+    ensures short { λ r. ⌜ r ≤ 81 ⌝ }
+{
+    let first = put_text(b"kept", 0, out);
+    let second = put_field(kept, first, out);
+    let third = put_text(b" made", second, out);
+    let fourth = put_field(made, third, out);
+    let fifth = put_text(b" dropped", fourth, out);
+    let end = put_field(dropped, fifth, out);
     put_text(b"\n", end, out)
 }

@@ -1,13 +1,17 @@
--- The answers as three numbers, for other languages.
+-- The answers as numbers, for other languages: three, and put's as six.
 use mathlib.Core.Path.{_≡_}
 use lib.ListN.{length}
 use Rattle.semantics.specs.Text.{Text}
 use Rattle.semantics.specs.Calls.{bufferAfter}
 use Rattle.semantics.specs.Calls.{Answer as Outcome}
+use Rattle.semantics.specs.Tally.{Tally}
 use Rattle.answers.specs.declared.Answer.{Answer}
 use Rattle.answers.specs.declared.Answer.the-variants.{Result, Refusal}
+use Rattle.answers.specs.declared.PutAnswer.{PutAnswer}
+use Rattle.answers.specs.declared.PutAnswer.the-variants as P
 use Rattle.noontrough.specs.declared.Numbers.{Numbers}
-use Rattle.answers.specs.Contracts.{answerFor}
+use Rattle.noontrough.specs.declared.PutNumbers.{PutNumbers}
+use Rattle.answers.specs.Contracts.{answerFor, putAnswerFor}
 
 abbrev pub numbersOf : Answer → Numbers
 numbersOf (Result length) = record { number = 0; node = 0; length = length }
@@ -16,4 +20,13 @@ numbersOf (Refusal number node) = record { number = number; node = node; length 
 -- The numbers, and the whole buffer afterwards, are those of the outcome.
 pub record ExportsText (outcome : Outcome Text) (before after : Text) (numbers : Numbers) : Type 0 where
   pub numbers-are : numbers ≡ numbersOf (answerFor length outcome)
+  pub buffer-is : after ≡ bufferAfter outcome before
+
+abbrev pub putNumbersOf : PutAnswer → PutNumbers
+putNumbersOf (P.Result length kept made dropped) = record { number = 0; node = 0; length = length; kept = kept; made = made; dropped = dropped }
+putNumbersOf (P.Refusal number node) = record { number = number; node = node; length = 0; kept = 0; made = 0; dropped = 0 }
+
+-- The same of put, whose result has those counts.
+pub record ExportsSource (outcome : Outcome Text) (n : Tally) (before after : Text) (numbers : PutNumbers) : Type 0 where
+  pub numbers-are : numbers ≡ putNumbersOf (putAnswerFor outcome n)
   pub buffer-is : after ≡ bufferAfter outcome before

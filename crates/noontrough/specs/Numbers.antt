@@ -1,4 +1,4 @@
--- What the three numbers tell: number 0 says that there is a result, and different answers have different numbers.
+-- What the numbers tell: number 0 says that there is a result, and different answers have different numbers.
 use mathlib.Core.Path.{_≡_, refl, ap}
 use mathlib.Core.Logic.{_↔_}
 use Prim.Native.Nat.{ℕ}
@@ -7,12 +7,15 @@ use lib.ListN.{length}
 use Rattle.semantics.specs.Text.{Text}
 use Rattle.semantics.specs.Calls.{gives, refuses, checkCall, getCall, putCall, createCall}
 use Rattle.semantics.specs.Calls.{Answer as Outcome}
+use Rattle.semantics.specs.Tally.{Tally, putTally}
 use Rattle.laws.specs.Basics.{never}
 use Rattle.laws.specs.Refusals.{Named, check-named, get-named, put-named, create-named}
 use Rattle.answers.specs.declared.Answer.the-variants.{Result}
-use Rattle.answers.specs.Contracts.{answerFor}
+use Rattle.answers.specs.declared.PutAnswer.the-variants as P
+use Rattle.answers.specs.Contracts.{answerFor, putAnswerFor}
 use Rattle.noontrough.specs.declared.Numbers.{Numbers}
-use Rattle.noontrough.specs.Exports.{numbersOf, ExportsText}
+use Rattle.noontrough.specs.declared.PutNumbers.{PutNumbers}
+use Rattle.noontrough.specs.Exports.{numbersOf, putNumbersOf, ExportsText, ExportsSource}
 
 -- ---- Number 0
 
@@ -44,17 +47,37 @@ module _ (table before after : Text) (numbers : Numbers) where
       → (numbers .number ≡ 0) ↔ ((t : Text) × (getCall table source (length before) ≡ gives t))
   get-result-iff source = result-iff (getCall table source (length before)) before after numbers (get-named table source (length before))
 
-  pub put-result-iff :
-      (sheet source : Text)
-      → ExportsText (putCall table sheet source (length before)) before after numbers
-      → (numbers .number ≡ 0) ↔ ((t : Text) × (putCall table sheet source (length before) ≡ gives t))
-  put-result-iff sheet source = result-iff (putCall table sheet source (length before)) before after numbers (put-named table sheet source (length before))
-
   pub create-result-iff :
       (sheet : Text)
       → ExportsText (createCall table sheet (length before)) before after numbers
       → (numbers .number ≡ 0) ↔ ((t : Text) × (createCall table sheet (length before) ≡ gives t))
   create-result-iff sheet = result-iff (createCall table sheet (length before)) before after numbers (create-named table sheet (length before))
+
+-- put, whose numbers are six
+pub source-result-iff :
+    (outcome : Outcome Text) (n : Tally) (before after : Text) (numbers : PutNumbers)
+    → Named outcome
+    → ExportsSource outcome n before after numbers
+    → (numbers .number ≡ 0) ↔ ((t : Text) × (outcome ≡ gives t))
+unfolding putAnswerFor
+source-result-iff (gives t) n before after numbers named exported = (λ z. (t, refl), λ r. ap (λ (m : PutNumbers). m .number) (exported .numbers-are))
+source-result-iff (refuses number node) n before after numbers named exported =
+    let some = named .named number node refl in
+    let is : numbers .number ≡ number = ap (λ (m : PutNumbers). m .number) (exported .numbers-are) in
+    (λ z. absurd (omega arith), λ r. let wrong = r .1 in never (cc))
+
+pub put-result-iff :
+    (table sheet source before after : Text) (numbers : PutNumbers)
+    → ExportsSource (putCall table sheet source (length before)) (putTally table sheet source) before after numbers
+    → (numbers .number ≡ 0) ↔ ((t : Text) × (putCall table sheet source (length before) ≡ gives t))
+put-result-iff table sheet source before after numbers =
+    source-result-iff
+    (putCall table sheet source (length before))
+    (putTally table sheet source)
+    before
+    after
+    numbers
+    (put-named table sheet source (length before))
 
 -- Check
 pub check-result-iff :
@@ -84,4 +107,30 @@ numbers-differ len (refuses number node) (gives y) named named′ e =
 numbers-differ len (refuses number node) (refuses number′ node′) named named′ e =
     let numbers : number ≡ number′ = ap (λ (n : Numbers). n .number) e in
     let nodes : node ≡ node′ = ap (λ (n : Numbers). n .node) e in
+    cc
+
+pub put-numbers-differ :
+    (outcome outcome′ : Outcome Text) (n n′ : Tally)
+    → Named outcome
+    → Named outcome′
+    → putNumbersOf (putAnswerFor outcome n) ≡ putNumbersOf (putAnswerFor outcome′ n′)
+    → putAnswerFor outcome n ≡ putAnswerFor outcome′ n′
+unfolding putAnswerFor
+put-numbers-differ (gives t) (gives u) n n′ named named′ e =
+    let lengths : length t ≡ length u = ap (λ (m : PutNumbers). m .length) e in
+    let kept : n .kept ≡ n′ .kept = ap (λ (m : PutNumbers). m .kept) e in
+    let made : n .made ≡ n′ .made = ap (λ (m : PutNumbers). m .made) e in
+    let dropped : n .dropped ≡ n′ .dropped = ap (λ (m : PutNumbers). m .dropped) e in
+    cc
+put-numbers-differ (gives t) (refuses number node) n n′ named named′ e =
+    let some = named′ .named number node refl in
+    let is : 0 ≡ number = ap (λ (m : PutNumbers). m .number) e in
+    absurd (omega arith)
+put-numbers-differ (refuses number node) (gives u) n n′ named named′ e =
+    let some = named .named number node refl in
+    let is : number ≡ 0 = ap (λ (m : PutNumbers). m .number) e in
+    absurd (omega arith)
+put-numbers-differ (refuses number node) (refuses number′ node′) n n′ named named′ e =
+    let numbers : number ≡ number′ = ap (λ (m : PutNumbers). m .number) e in
+    let nodes : node ≡ node′ = ap (λ (m : PutNumbers). m .node) e in
     cc

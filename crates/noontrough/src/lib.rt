@@ -1,4 +1,4 @@
-// What other languages link: the four calls, each slice a pointer and a length, each answer three numbers.
+// What other languages link: the four calls, each slice a pointer and a length, each answer three numbers, and put's six.
 use answers::Answer;
 use answers::PutAnswer;
 use engine::check;

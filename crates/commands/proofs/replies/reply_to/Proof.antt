@@ -1,6 +1,7 @@
 -- `commands::replies::reply_to` meets its contract, command by command. Assumes nothing.
 use borrow.Author.Needs.{needs}
 use denote.Ref.{now}
+use Rattle.answers.specs.Replies.{gives-text}
 use Rattle.commands.specs.Replies.{outcomeOf}
 use Rattle.commands.proofs.Outcomes.{replies-nothing}
 use Rattle.commands.proofs.replies.reply_to.Statement.{statement}
@@ -26,6 +27,9 @@ enum-told-3 c = search needs
 
 put-requires : tie.Need-put-requires
 put-requires c κs = search needs
+
+without-tally-requires : tie.Need-without-tally-requires
+without-tally-requires c κs = search needs
 
 finish-requires-2 : tie.Need-finish-requires-2
 finish-requires-2 c κs = search needs
@@ -61,7 +65,7 @@ same-length-3 c = search needs
 
 returns-3 : tie.Need-returns-3
 unfolding outcomeOf
-returns-3 c = rw (c .before .before .before .before .before .before .before .before .enum-told3 .given .1) (c .before .before .finish2 .ensures .finishes _ _ (c .before .before .before .before .before .before .put .ensures))
+returns-3 c = rw (c .before .before .before .before .before .before .before .before .before .enum-told3 .given .1) (c .before .before .finish2 .ensures .finishes _ _ (rw (c .before .before .before .before .without-tally .ensures) (gives-text (c .before .before .before .before .before .before .before .put .ensures))))
 
 same-length-4 : tie.Need-same-length-4
 same-length-4 c = search needs
@@ -85,6 +89,7 @@ reply-to-spec =
     finish-requires
     enum-told-3
     put-requires
+    without-tally-requires
     finish-requires-2
     enum-told-4
     create-requires

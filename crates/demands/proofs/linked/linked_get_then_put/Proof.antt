@@ -3,7 +3,10 @@ use borrow.Author.Needs.{needs}
 use denote.Ref.{now}
 use Rattle.semantics.specs.Calls.{getCall, putCall}
 use Rattle.laws.specs.Refusals.{get-named}
+use Rattle.semantics.specs.Tally.{putTally}
 use Rattle.laws.specs.Demand3.{unedited}
+use Rattle.laws.specs.Tally.{tally-unedited}
+use Rattle.answers.specs.Contracts.{putAnswerFor}
 use Rattle.demands.proofs.Following.{linked-held, linked-made, linked-gave}
 use Rattle.demands.proofs.linked.linked_get_then_put.Statement.{statement}
 use Rattle.demands.proofs.linked.linked_get_then_put.Tie as tie
@@ -30,17 +33,19 @@ linked-put-of-requires : tie.Need-linked-put-of-requires
 linked-put-of-requires c κs = linked-held (get-named _ _ _) (c .before .before .before .noontrough-get .ensures)
 
 returns : tie.Need-returns
+unfolding putAnswerFor
 returns c =
     let calls =
     linked-made
     (getCall (now (c .before .before .before .before .before .before .before .before .before .before .before .args .table)) (now (c .before .before .before .before .before .before .before .before .before .before .before .args .source)))
     (λ n a. putCall (now (c .before .before .before .before .before .before .before .before .before .before .before .args .table)) a (now (c .before .before .before .before .before .before .before .before .before .before .before .args .source)) n)
+    (λ a. putTally (now (c .before .before .before .before .before .before .before .before .before .before .before .args .table)) a (now (c .before .before .before .before .before .before .before .before .before .before .before .args .source)))
     (c .before .before .before .before .before .before .before .before .blank-buffer .ensures)
     (c .before .before .before .before .before .before .before .blank-buffer2 .ensures)
     (get-named _ _ _)
     (c .before .before .before .before .before .noontrough-get .ensures)
     (c .before .linked-put-of .ensures) in
-    (calls, record { linked-restores = λ l p n. linked-gave calls (get-named _ _ _) _ (λ a e. unedited _ _ a l e p n) })
+    (calls, record { linked-restores = λ l p n. linked-gave calls (get-named _ _ _) _ _ (λ a e. (unedited _ _ a l e p n, tally-unedited _ _ a _ l p e)) })
 
 pub linked-get-then-put-spec : {M : Type 1} → statement M
 linked-get-then-put-spec =

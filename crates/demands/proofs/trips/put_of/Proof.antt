@@ -2,7 +2,7 @@
 use mathlib.Core.Path.{refl}
 use native.Mathlib.Omega.{arith}
 use borrow.Author.Needs.{needs}
-use Rattle.demands.proofs.Following.{follows-result, follows-refusal}
+use Rattle.demands.proofs.Following.{gives-plain, follows-result, follows-refusal}
 use Rattle.demands.proofs.trips.put_of.Statement.{statement}
 use Rattle.demands.proofs.trips.put_of.Tie as tie
 
@@ -21,6 +21,9 @@ part-put-end c = omega (arith, c .before .before .before .before .before .before
 put-requires : tie.Need-put-requires
 put-requires c κs = search needs
 
+without-tally-requires : tie.Need-without-tally-requires
+without-tally-requires c κs = search needs
+
 enum-known-first-2 : tie.Need-enum-known-first-2
 enum-known-first-2 c = search needs
 
@@ -28,7 +31,7 @@ same-length : tie.Need-same-length
 same-length c = search needs
 
 returns : tie.Need-returns
-returns c = follows-result (c .before .before .before .before .before .before .first .given .1) (c .before .before .put .ensures)
+returns c = follows-result (c .before .before .before .before .before .before .before .first .given .1) (gives-plain (c .before .before .before .put .ensures) (c .without-tally .ensures))
 
 returns-2 : tie.Need-returns-2
 returns-2 c = follows-refusal (c .before .first2 .given .1) refl refl
@@ -42,6 +45,7 @@ put-of-spec =
     part-put-start
     part-put-end
     put-requires
+    without-tally-requires
     enum-known-first-2
     same-length
     returns

@@ -10,6 +10,7 @@ use borrow.Fn.PlainCycle.{Measures, is, falls, and}
 use Rattle.engine.proofs.rooms.answer_in.Reads as answer-in
 use Rattle.engine.proofs.rooms.answer_in.Kinds as answer-in-kinds
 use Rattle.engine.proofs.rooms.+answer_in.Lts-answer_in as answer-in-lts
+use Rattle.answers.proofs.results.uncounted.Reads as uncounted-reads
 use Rattle.engine.proofs.rooms.try_full.Reads as try-full-reads
 use Rattle.engine.proofs.rooms.try_middle.Reads as try-middle-reads
 use Rattle.engine.proofs.rooms.try_small.Reads as try-small-reads
@@ -27,7 +28,7 @@ answer-in-below t =
     and 4 answer-in-kinds.ps (falls 4 answer-in-kinds.ps _<_ μ-answer-in t) answer-in.Pre
 
 abbrev answer-in-calls : ℕ → answer-in-lts.Claims
-answer-in-calls t = (try-small-reads.Asked, try-small-reads.Learnt, answer-in-below t, answer-in.Post, try-middle-reads.Asked, try-middle-reads.Learnt, try-full-reads.Asked, try-full-reads.Learnt)
+answer-in-calls t = (try-small-reads.Asked, try-small-reads.Learnt, answer-in-below t, answer-in.Post, try-middle-reads.Asked, try-middle-reads.Learnt, try-full-reads.Asked, try-full-reads.Learnt, uncounted-reads.Asked, uncounted-reads.Learnt)
 
 answer-in-enum-told : (t : ℕ) → answer-in-lts.Need-enum-told (answer-in-calls t) (answer-in-at t) answer-in.Post
 answer-in-enum-told t c = search needs
@@ -71,6 +72,9 @@ answer-in-enum-known-tried-3 t c = search needs
 answer-in-enum-told-6 : (t : ℕ) → answer-in-lts.Need-enum-told-6 (answer-in-calls t) (answer-in-at t) answer-in.Post
 answer-in-enum-told-6 t c = search needs
 
+answer-in-uncounted-requires : (t : ℕ) → answer-in-lts.Need-uncounted-requires (answer-in-calls t) (answer-in-at t) answer-in.Post
+answer-in-uncounted-requires t c κs = search needs
+
 answer-in-same-length : (t : ℕ) → answer-in-lts.Need-same-length (answer-in-calls t) (answer-in-at t) answer-in.Post
 answer-in-same-length t c = search needs
 
@@ -105,7 +109,7 @@ answer-in-same-length-6 : (t : ℕ) → answer-in-lts.Need-same-length-6 (answer
 answer-in-same-length-6 t c = search needs
 
 answer-in-returns-6 : (t : ℕ) → answer-in-lts.Need-returns-6 (answer-in-calls t) (answer-in-at t) answer-in.Post
-answer-in-returns-6 t c = absurd (never-small-there (c .before .before .before .before .try-full .ensures) (c .enum-told6 .given .1))
+answer-in-returns-6 t c = absurd (never-small-there (c .before .before .before .before .before .try-full .ensures) (c .before .enum-told6 .given .1))
 
 pub +answer-in-spec : {M : Type 1} → statement M
 +answer-in-spec = close μ-answer-in λ t. answer-in-lts.spec (answer-in-calls t)
@@ -125,6 +129,7 @@ pub +answer-in-spec : {M : Type 1} → statement M
     (answer-in-try-full-requires t)
     (answer-in-enum-known-tried-3 t)
     (answer-in-enum-told-6 t)
+    (answer-in-uncounted-requires t)
     (answer-in-same-length t)
     (answer-in-returns t)
     (answer-in-same-length-2 t)

@@ -22,6 +22,9 @@ answer-with-requires c κs = told _ _ (c .before .before .before .before .before
 enum-known-checked : tie.Need-enum-known-checked
 enum-known-checked c = search needs
 
+uncounted-requires : tie.Need-uncounted-requires
+uncounted-requires c κs = search needs
+
 enum-told-2 : tie.Need-enum-told-2
 enum-told-2 c = search needs
 
@@ -40,7 +43,7 @@ same-length-3 c = search needs
 
 returns-2 : tie.Need-returns-2
 unfolding TriedIs CheckedIs
-returns-2 c = record { tried-is = refused-to (told _ _ (c .before .before .before .before .before .check-in .ensures) (c .before .checked .given .1)) }
+returns-2 c = record { tried-is = refused-to (told _ _ (c .before .before .before .before .before .before .check-in .ensures) (c .before .before .checked .given .1)) (c .uncounted .ensures) }
 
 same-length-4 : tie.Need-same-length-4
 same-length-4 c = search needs
@@ -57,6 +60,7 @@ try-in-spec =
     enum-told
     answer-with-requires
     enum-known-checked
+    uncounted-requires
     enum-told-2
     same-length
     same-length-2

@@ -1,0 +1,2 @@
+-- The line of a put's answer.
+pub mod Lines

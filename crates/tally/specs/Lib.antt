@@ -1,0 +1,2 @@
+-- What the reading functions promise.
+pub mod Files
