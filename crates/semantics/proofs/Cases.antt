@@ -14,6 +14,7 @@ use Rattle.semantics.specs.Ambiguity.{shareByte, nextPairs, samePattern,
 use Rattle.semantics.specs.Lens.{source, sheet, constLanguage, language, cutAt, partsWithin, parts, get, keyOf, sameKey, entryOf, entries, answers, keeping, takeEntry, andThen, armOf, writeArm, writeParts, writeMatch, write, put, create}
 use Rattle.semantics.specs.Table.{at, two, nodeCount, poolLength, sizesWrong, nodeAt, below, nodes, pool, kindOf, patternOf, lensOf, wordOf, treeAt, patternAt, lensAt, wordAt, provided, build, treeOf, treesFrom, trees, patternSize, lensSize, positions, treePositions, treeSize, holdsMatch, line, unknownKind, isBroken, nestedMatch, nested, overLimit, firstRound, rootOf, rootLine, typingLines, treeLines, secondRound, lines, firstThatHolds}
 use Rattle.semantics.specs.Calls.{Answer, gives, refuses, refuseIf, rootAnswer, verdict, program, withProgram, tooLong, notOf, output, checkCall, getCall, putCall, createCall, digits, decimal, field, programLine, lenscheckLine}
+use Rattle.semantics.specs.Tally.{meetArm, meetParts, met, counting, tallied, tally, tallyOf, putTally, countsLine, putLine, tallyLine}
 
 -- the bytes of a quoted text
 unfoldable pub bytesOf : String → Text
@@ -22,7 +23,7 @@ bytesOf (c then s) = code c ∷ bytesOf s
 
 -- To unfold this is to unfold every definition that a call computes with.
 unfoldable pub evaluates : Unit {0}
-unfolding sameText least joined somePasses orElse apply apply₂ inRange nullable before heads matches shareByte nextPairs samePattern samePair visit explore wordRests rests states reached bothEnd overlaps onward twoCuts badRepeat constLanguage language cutAt partsWithin parts get keyOf sameKey entryOf entries answers keeping takeEntry andThen armOf writeArm writeParts writeMatch write put create at two nodeCount poolLength sizesWrong nodeAt below nodes pool kindOf patternOf lensOf wordOf treeAt patternAt lensAt wordAt provided build treeOf treesFrom trees patternSize lensSize positions treePositions treeSize holdsMatch line unknownKind isBroken nestedMatch nested overLimit firstRound rootOf rootLine typingLines treeLines secondRound lines firstThatHolds refuseIf rootAnswer verdict program withProgram tooLong notOf output checkCall getCall putCall createCall digits decimal field programLine lenscheckLine
+unfolding sameText least joined somePasses orElse apply apply₂ inRange nullable before heads matches shareByte nextPairs samePattern samePair visit explore wordRests rests states reached bothEnd overlaps onward twoCuts badRepeat constLanguage language cutAt partsWithin parts get keyOf sameKey entryOf entries answers keeping takeEntry andThen armOf writeArm writeParts writeMatch write put create at two nodeCount poolLength sizesWrong nodeAt below nodes pool kindOf patternOf lensOf wordOf treeAt patternAt lensAt wordAt provided build treeOf treesFrom trees patternSize lensSize positions treePositions treeSize holdsMatch line unknownKind isBroken nestedMatch nested overLimit firstRound rootOf rootLine typingLines treeLines secondRound lines firstThatHolds refuseIf rootAnswer verdict program withProgram tooLong notOf output checkCall getCall putCall createCall digits decimal field programLine lenscheckLine meetArm meetParts met counting tallied tally tallyOf putTally countsLine putLine tallyLine
 evaluates = tt
 
 -- a node as document 01 writes it: its kind and its operands a, b, c
@@ -174,12 +175,20 @@ rootCounts t =
     let root = treeAt (trees t) (nodeCount t - 1) in
     treeSize root ∷ treePositions source root ∷ treePositions sheet root ∷ []
 
+-- a and b both show x; a is an entry
+entryOrNone : Text
+entryOrNone =
+    table
+    (node 0 0 0 1 ∷ node 0 0 1 1 ∷ node 0 0 2 1 ∷ node 17 0 2 0 ∷ node 17 1 2 1 ∷ node 22 3 0 0 ∷ node 20 5 4 0 ∷ [])
+    "abx"
+
 pub data Case : Type 0 where
   checks : Text → Answer ℕ → Case
   prints : Text → String → Case
   gets : Text → String → ℕ → Answer Text → Case
   puts : Text → String → String → ℕ → Answer Text → Case
   creates : Text → String → ℕ → Answer Text → Case
+  tells : Text → String → String → String → Case
   counts : Text → ℕ → ℕ → ℕ → Case
 
 abbrev pub Holds : Case → Type 0
@@ -188,6 +197,7 @@ Holds (prints t text) = lenscheckLine t ≡ bytesOf text
 Holds (gets t old lent answer) = getCall t (bytesOf old) lent ≡ answer
 Holds (puts t new old lent answer) = putCall t (bytesOf new) (bytesOf old) lent ≡ answer
 Holds (creates t new lent answer) = createCall t (bytesOf new) lent ≡ answer
+Holds (tells t new old text) = tallyLine t (bytesOf new) (bytesOf old) ≡ bytesOf text
 Holds (counts t size sources sheets) = rootCounts t ≡ size ∷ sources ∷ sheets ∷ []
 
 unfoldable pub result : String → Answer Text
@@ -236,6 +246,16 @@ cases =
     ∷ checks doubled (refuses 5 5)
     ∷ checks (table (node 1 65 90 0 ∷ node 0 0 0 1 ∷ node 17 0 1 1 ∷ []) "x") (refuses 6 2)
     ∷ checks sheetsClash (refuses 8 12)
+    -- document 02, (i)
+    ∷ tells K "C;D;" "AB1;C22;" "kept 1 made 1 dropped 1\n"
+    ∷ tells K "A;A;A;" "A1;" "kept 1 made 2 dropped 0\n"
+    ∷ tells K "AB;C;" "AB1;C22;" "kept 2 made 0 dropped 0\n"
+    ∷ tells K "" "A1;A2;" "kept 0 made 0 dropped 2\n"
+    -- The sheet x fits both arms; it is an entry where the old source is of the left one.
+    ∷ tells entryOrNone "x" "a" "kept 1 made 0 dropped 0\n"
+    ∷ tells entryOrNone "x" "b" "kept 0 made 0 dropped 0\n"
+    ∷ tells K "1" "" "refused 14 0\n"
+    ∷ tells [] "" "" "refused 1 0\n"
     ∷ []
 
 -- Program K as document 01 counts it: 65 bytes.
@@ -249,5 +269,5 @@ p & q = (p, q)
 
 -- Every case holds.
 cases-hold : All Holds cases
-unfolding bytesOf kindByte operands table K-with K twoStars letters repeatOfNothing repeatOfStar sameTwice oneSheet keyOrNone sheetsClash doubled xyz result rootCounts cases evaluates
-cases-hold = refl & refl & refl & refl & refl & refl & refl & refl & refl & refl & refl & refl & refl & refl & refl & refl & refl & refl & refl & refl & refl & refl & refl & refl & refl & refl & refl & refl & refl & refl & refl & refl & refl & refl & refl & refl & refl & refl & refl & tt
+unfolding bytesOf kindByte operands table K-with K twoStars letters repeatOfNothing repeatOfStar sameTwice oneSheet keyOrNone sheetsClash doubled xyz entryOrNone result rootCounts cases evaluates
+cases-hold = refl & refl & refl & refl & refl & refl & refl & refl & refl & refl & refl & refl & refl & refl & refl & refl & refl & refl & refl & refl & refl & refl & refl & refl & refl & refl & refl & refl & refl & refl & refl & refl & refl & refl & refl & refl & refl & refl & refl & refl & refl & refl & refl & refl & refl & refl & refl & tt
