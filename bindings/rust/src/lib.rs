@@ -120,7 +120,7 @@ struct PutNumbers {
 
 impl From<PutNumbers> for PutAnswer {
     fn from(numbers: PutNumbers) -> PutAnswer {
-        // No count passes 524,288, so each is a usize.
+        // No count passes 2,097,152 (`met-few` in crates/laws), so each is a usize.
         let [kept, made, dropped] = [numbers.kept, numbers.made, numbers.dropped].map(|count| count as usize);
         match numbers.number {
             0 => PutAnswer::Result { length: numbers.length as usize, tally: Tally { kept, made, dropped } },

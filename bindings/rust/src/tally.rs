@@ -6,7 +6,7 @@ use std::fmt;
 /// reads, also an empty one.
 ///
 /// Kept and dropped together are the entries of the old source, at most 256; kept
-/// and made together are those of the new one, at most 524,288. Shown, it is a
+/// and made together are those of the new one, which can be 524,288. Shown, it is a
 /// line: `kept 1 made 1 dropped 1`.
 #[derive(Clone, Copy, Debug, Default, PartialEq, Eq, Hash)]
 pub struct Tally {
