@@ -1,13 +1,13 @@
 -- The typing rules' questions about languages, said on texts of any length, and beside each a test that computes.
 use mathlib.Core.Path.{_≡_}
-use mathlib.Core.Bool.{Bool, false, _&&_, _||_, cond}
+use mathlib.Core.Bool.{Bool, true, false, _&&_, _||_, cond}
 use mathlib.Core.List.{List, [], _∷_, _++_, map}
 use mathlib.Core.Logic.{_⊎_}
 use Prim.Native.Nat.{ℕ, zero, suc, _*_, max, min}
 use lib.Dec.{leb, eqb}
 use lib.ListN.{length}
 use Rattle.semantics.specs.Text.{Text, joined, sameText, All, somePasses}
-use Rattle.semantics.specs.Pattern.{Pattern, word, range, concat, alt, star, In, nullable, Head, heads}
+use Rattle.semantics.specs.Pattern.{Run, Class, Pattern, word, oneOf, concat, alt, star, In, nullable, heads}
 
 -- ---- On texts
 
@@ -49,22 +49,36 @@ BadRepeat r = In r [] ⊎ TwoLists r
 abbrev pub Pair : Type 0
 Pair = Pattern × Pattern
 
--- Whether one byte lies in the ranges of both.
-unfoldable pub shareByte : Head → Head → Bool
-shareByte h k = leb (max (h .first) (k .first)) (min (h .last) (k .last))
+-- Whether one byte lies in both runs.
+unfoldable pub runsMeet : Run → Run → Bool
+runsMeet r s = leb (max (r .first) (s .first)) (min (r .last) (s .last))
+
+-- Whether one byte is in both classes: some run of the one meets some run of the other.
+unfoldable pub shareByte : Class → Class → Bool
+shareByte c d = somePasses (λ r. somePasses (runsMeet r) d) c
 
 -- the pairs to which one common byte leads
 unfoldable pub nextPairs : Pair → List Pair
-nextPairs p = joined (map (λ h. joined (map (λ k. cond (shareByte h k) ((h .rest, k .rest) ∷ []) []) (heads (p .1)))) (heads (p .0)))
+nextPairs p = joined (map (λ h. joined (map (λ k. cond (shareByte (h .class) (k .class)) ((h .rest, k .rest) ∷ []) []) (heads (p .1)))) (heads (p .0)))
+
+unfoldable pub sameRun : Run → Run → Bool
+sameRun r s = eqb (r .first) (s .first) && eqb (r .last) (s .last)
+
+-- whether they have the same runs in the same order
+unfoldable pub sameClass : Class → Class → Bool
+sameClass [] [] = true
+sameClass [] (s ∷ d) = false
+sameClass (r ∷ c) [] = false
+sameClass (r ∷ c) (s ∷ d) = sameRun r s && sameClass c d
 
 unfoldable pub samePattern : Pattern → Pattern → Bool
-samePattern (word w) q = elim q [ word v ↦ sameText w v | range c d ↦ false | concat r s ↦ false | alt r s ↦ false | star r ↦ false ]
-samePattern (range a b) q = elim q [ word v ↦ false | range c d ↦ eqb a c && eqb b d | concat r s ↦ false | alt r s ↦ false | star r ↦ false ]
+samePattern (word w) q = elim q [ word v ↦ sameText w v | oneOf d ↦ false | concat r s ↦ false | alt r s ↦ false | star r ↦ false ]
+samePattern (oneOf c) q = elim q [ word v ↦ false | oneOf d ↦ sameClass c d | concat r s ↦ false | alt r s ↦ false | star r ↦ false ]
 samePattern (concat x y) q =
-    elim q [ word v ↦ false | range c d ↦ false | concat r s ↦ samePattern x r && samePattern y s | alt r s ↦ false | star r ↦ false ]
+    elim q [ word v ↦ false | oneOf d ↦ false | concat r s ↦ samePattern x r && samePattern y s | alt r s ↦ false | star r ↦ false ]
 samePattern (alt x y) q =
-    elim q [ word v ↦ false | range c d ↦ false | concat r s ↦ false | alt r s ↦ samePattern x r && samePattern y s | star r ↦ false ]
-samePattern (star x) q = elim q [ word v ↦ false | range c d ↦ false | concat r s ↦ false | alt r s ↦ false | star r ↦ samePattern x r ]
+    elim q [ word v ↦ false | oneOf d ↦ false | concat r s ↦ false | alt r s ↦ samePattern x r && samePattern y s | star r ↦ false ]
+samePattern (star x) q = elim q [ word v ↦ false | oneOf d ↦ false | concat r s ↦ false | alt r s ↦ false | star r ↦ samePattern x r ]
 
 unfoldable pub samePair : Pair → Pair → Bool
 samePair p q = samePattern (p .0) (q .0) && samePattern (p .1) (q .1)
@@ -88,7 +102,7 @@ wordRests (c ∷ w) = word w ∷ wordRests w
 
 unfoldable pub rests : Pattern → List Pattern
 rests (word w) = wordRests w
-rests (range first last) = word [] ∷ []
+rests (oneOf c) = word [] ∷ []
 rests (concat r s) = map (λ k. concat k s) (rests r) ++ rests s
 rests (alt r s) = rests r ++ rests s
 rests (star r) = map (λ k. concat k (star r)) (rests r)

@@ -5,8 +5,8 @@ use mathlib.Core.Option.{Option, none, some}
 use Prim.Native.Nat.{ℕ, zero, suc, _+_, _-_, _*_}
 use lib.Dec.{eqb, leb, ltb}
 use lib.ListN.{length, take, drop, getD, getElem?}
-use Rattle.semantics.specs.Text.{Text, orElse, apply, apply₂}
-use Rattle.semantics.specs.Pattern.{Pattern, word, range, concat, alt, star, matches}
+use Rattle.semantics.specs.Text.{Text, somePasses, orElse, apply, apply₂}
+use Rattle.semantics.specs.Pattern.{Run, Class, range, Pattern, word, oneOf, concat, alt, star, matches}
 use Rattle.semantics.specs.Ambiguity.{overlaps, twoCuts, badRepeat}
 use Rattle.semantics.specs.Lens.{Lens, copy, const, key, join, union, repeat, match, Side, source, sheet, language}
 
@@ -19,6 +19,10 @@ maxPool = 512
 
 abbrev pub maxWord : ℕ
 maxWord = 64
+
+-- Document 02 (ii): 'c pairs, 1 to 32'
+abbrev pub maxRuns : ℕ
+maxRuns = 32
 
 abbrev pub maxSize : ℕ
 maxSize = 512
@@ -75,14 +79,14 @@ pool bytes = drop (3 + 4 * nodeCount bytes) bytes
 -- ---- Kinds, and the tree of a node
 
 pub data Kind : Type 0 where
-  Word Range PatternJoin PatternUnion PatternRepeat Copy Const Key LensJoin LensUnion LensRepeat Match : Kind
+  Word Range PatternJoin PatternUnion PatternRepeat Set Copy Const Key LensJoin LensUnion LensRepeat Match : Kind
 
--- 'Kinds 0 to 4 are patterns, 16 to 22 lenses.'
+-- 'Kinds 0 to 4 are patterns, 16 to 22 lenses.' Document 02 (ii): 'Add pattern kind 5'
 unfoldable pub kindOf : ℕ → Option Kind
 kindOf k =
     cond
     (ltb k 16)
-    (getElem? (Word ∷ Range ∷ PatternJoin ∷ PatternUnion ∷ PatternRepeat ∷ []) k)
+    (getElem? (Word ∷ Range ∷ PatternJoin ∷ PatternUnion ∷ PatternRepeat ∷ Set ∷ []) k)
     (getElem? (Copy ∷ Const ∷ Key ∷ LensJoin ∷ LensUnion ∷ LensRepeat ∷ Match ∷ []) (k - 16))
 
 -- a node that breaks a rule on kinds or operands is broken
@@ -107,7 +111,7 @@ lensOf broken = none
 
 unfoldable pub wordOf : Tree → Option Text
 wordOf (pattern (word w)) = some w
-wordOf (pattern (range f l)) = none
+wordOf (pattern (oneOf c)) = none
 wordOf (pattern (concat r s)) = none
 wordOf (pattern (alt r s)) = none
 wordOf (pattern (star r)) = none
@@ -130,14 +134,33 @@ wordAt ts k = wordOf (treeAt ts k)
 unfoldable pub provided : Bool → Option Tree → Tree
 provided keeps t = cond keeps (orElse broken t) broken
 
--- Document 01's table of kinds, row by row, with its rules on operands; 'Unused operand bytes are 0.'
+-- Document 02 (ii): 'pool start in a (high) and b (low), and c pairs .. each a first and a last byte'; the pairs of a part of the pool
+unfoldable pub runsOf : Text → Class
+runsOf [] = []
+runsOf (first ∷ []) = []
+runsOf (first ∷ last ∷ more) = record { first = first; last = last } ∷ runsOf more
+
+-- 'A reversed pair'
+unfoldable pub reversed : Run → Bool
+reversed r = ltb (r .last) (r .first)
+
+unfoldable pub setPart : Text → ℕ → ℕ → ℕ → Class
+setPart bytes a b c = runsOf (take (2 * c) (drop (two a b) bytes))
+
+-- 'c pairs, 1 to 32'; 'A reversed pair or a part outside the pool gets the operand's number.'
+unfoldable pub setKeeps : Text → ℕ → ℕ → ℕ → Bool
+setKeeps bytes a b c =
+    leb 1 c && leb c maxRuns && leb (two a b + 2 * c) (length bytes) && not (somePasses reversed (setPart bytes a b c))
+
+-- Document 01's table of kinds, row by row, with its rules on operands; 'Unused operand bytes are 0.' The row of sets is document 02's.
 unfoldable pub build : Text → Trees → Kind → ℕ → ℕ → ℕ → Tree
 build bytes ts Word a b c =
     provided (leb c maxWord && leb (two a b + c) (length bytes)) (some (pattern (word (take c (drop (two a b) bytes)))))
-build bytes ts Range a b c = provided (leb a b && eqb c 0) (some (pattern (range a b)))
+build bytes ts Range a b c = provided (leb a b && eqb c 0) (some (pattern (oneOf (range a b))))
 build bytes ts PatternJoin a b c = provided (eqb c 0) (apply₂ (λ r s. pattern (concat r s)) (patternAt ts a) (patternAt ts b))
 build bytes ts PatternUnion a b c = provided (eqb c 0) (apply₂ (λ r s. pattern (alt r s)) (patternAt ts a) (patternAt ts b))
 build bytes ts PatternRepeat a b c = provided (eqb b 0 && eqb c 0) (apply (λ r. pattern (star r)) (patternAt ts a))
+build bytes ts Set a b c = provided (setKeeps bytes a b c) (some (pattern (oneOf (setPart bytes a b c))))
 build bytes ts Copy a b c = provided (eqb b 0 && eqb c 0) (apply (λ r. lens (copy r)) (patternAt ts a))
 build bytes ts Const a b c =
     provided true (apply₂ (λ (f : Text → Lens) d. lens (f d)) (apply₂ (λ r w d. const r w d) (patternAt ts a) (wordAt ts b)) (wordAt ts c))
@@ -163,7 +186,7 @@ trees bytes = treesFrom (pool bytes) [] (nodes bytes)
 -- 'Written-out size counts a node and, for every operand, its child's size again.'
 unfoldable pub patternSize : Pattern → ℕ
 patternSize (word w) = 1
-patternSize (range f l) = 1
+patternSize (oneOf c) = 1
 patternSize (concat r s) = 1 + patternSize r + patternSize s
 patternSize (alt r s) = 1 + patternSize r + patternSize s
 patternSize (star r) = 1 + patternSize r
@@ -178,10 +201,10 @@ lensSize (union l m) = 1 + lensSize l + lensSize m
 lensSize (repeat l) = 1 + lensSize l
 lensSize (match n l) = 1 + lensSize l
 
--- 'Positions: a word has its length, a range 1, other patterns the sum over their children.'
+-- 'Positions: a word has its length, a range 1, other patterns the sum over their children.' A set 'counts as one position'.
 unfoldable pub positions : Pattern → ℕ
 positions (word w) = length w
-positions (range f l) = 1
+positions (oneOf c) = 1
 positions (concat r s) = positions r + positions s
 positions (alt r s) = positions r + positions s
 positions (star r) = positions r
