@@ -1,5 +1,6 @@
 // The position automata of a program's nodes, in the prepared program. Only the functions of this crate, which read it, and
 // those of `builder`, which write it, know where its numbers stand.
+use classes::Class;
 use positions::Set;
 use table::Table;
 ghost use mathlib.Core.Path.{_≡_};
@@ -65,44 +66,78 @@ pub fn follow(prepared: &[u64], row: usize) -> Set
     set_at(prepared, Table::ROWS + 3 * row + 1)
 }
 
+// The class of a node that is a range or a set.
+fn class_at(prepared: &[u64], node: usize) -> Class
+    requires { ⌜ (node < 96) × (1920 ≤ length (now prepared)) ⌝ }
+    ensures { λ r. ⌜ r ≡ classOf (now (prepared .entry)) node ⌝ }
+{
+    let i = Table::CLASSES + 4 * node;
+    let low = set_at(prepared, i);
+    let high = set_at(prepared, i + 2);
+    Class { low, high }
+}
+
+// Whether a byte is in the class of a node, by the one number that has its bit.
+fn in_class(prepared: &[u64], node: usize, byte: u8) -> bool
+    requires { ⌜ 1920 ≤ length (now prepared) ⌝ }
+    ensures { λ r. ⌜ r ≡ inClassOf (now (prepared .entry)) node byte ⌝ }
+{
+    if Table::NODES <= node {
+        return false;
+    }
+    let b = byte as usize;
+    (prepared[Table::CLASSES + 4 * node + b / 64] >> (b % 64)) % 2 == 1
+}
+
+// Whether the classes of two nodes share a byte.
+fn classes_meet(prepared: &[u64], node: usize, other: usize) -> bool
+    requires { ⌜ 1920 ≤ length (now prepared) ⌝ }
+    ensures { λ r. ⌜ (r ≡ true) ↔ ClassesMeet (now (prepared .entry)) node other ⌝ }
+{
+    if Table::NODES <= node {
+        return false;
+    }
+    if Table::NODES <= other {
+        return false;
+    }
+    let class = class_at(prepared, node);
+    class.meets(class_at(prepared, other))
+}
+
 // Whether a byte may stand at the position of a row.
 pub fn stands(prepared: &[u64], row: usize, byte: u8) -> bool
     requires { ⌜ rowAt (row + 1) ≤ length (now prepared) ⌝ }
     ensures { λ r. ⌜ r ≡ standsIn (now (prepared .entry)) row byte ⌝ }
 {
-    let range = prepared[Table::ROWS + 3 * row];
-    let c = byte as u64;
-    c <= range % 256 && range / 256 <= c
+    let held = prepared[Table::ROWS + 3 * row];
+    if held < 256 {
+        return held == byte as u64;
+    }
+    in_class(prepared, held as usize - 256, byte)
 }
 
 // Whether the positions of two rows share a byte.
 pub fn share(prepared: &[u64], row: usize, other: usize) -> bool
     requires { ⌜ rowAt (row + 1) ≤ length (now prepared) ⌝ }
     requires { ⌜ rowAt (other + 1) ≤ length (now prepared) ⌝ }
-    ensures { λ r. ⌜ r ≡ shareIn (now (prepared .entry)) row other ⌝ }
+    ensures { λ r. ⌜ (r ≡ true) ↔ ShareByte (now (prepared .entry)) row other ⌝ }
 {
     let a = prepared[Table::ROWS + 3 * row];
     let b = prepared[Table::ROWS + 3 * other];
-    larger(a / 256, b / 256) <= smaller(a % 256, b % 256)
+    if a < 256 {
+        return stands(prepared, other, a as u8);
+    }
+    if b < 256 {
+        return stands(prepared, row, b as u8);
+    }
+    classes_meet(prepared, a as usize - 256, b as usize - 256)
 }
 
-// Whether the same bytes may stand at the positions of two rows.
+// Whether the positions of two rows have the same number, and so the same bytes.
 pub fn alike(prepared: &[u64], row: usize, other: usize) -> bool
     requires { ⌜ rowAt (row + 1) ≤ length (now prepared) ⌝ }
     requires { ⌜ rowAt (other + 1) ≤ length (now prepared) ⌝ }
     ensures { λ r. ⌜ r ≡ alikeIn (now (prepared .entry)) row other ⌝ }
 {
     prepared[Table::ROWS + 3 * row] == prepared[Table::ROWS + 3 * other]
-}
-
-fn larger(a: u64, b: u64) -> u64
-    ensures { λ r. ⌜ r ≡ Prim.Native.Nat.max a b ⌝ }
-{
-    if a < b { b } else { a }
-}
-
-fn smaller(a: u64, b: u64) -> u64
-    ensures { λ r. ⌜ r ≡ Prim.Native.Nat.min a b ⌝ }
-{
-    if a < b { a } else { b }
 }

@@ -3,7 +3,6 @@ use crate::rows::copy_rows;
 use crate::rows::only_if;
 use crate::rows::put_header;
 use crate::rows::put_row;
-use crate::rows::range_of;
 use crate::rows::single;
 use automaton::Automaton;
 use automaton::Side;
@@ -38,8 +37,7 @@ fn put_letters(prepared: &mut [u64], row: usize, letters: &[u8])
     let mut p = 0;
     while p < count {
         let letter = letters[p];
-        let range = range_of(letter, letter);
-        put_row(prepared, row + p, range, single(p + 1, count));
+        put_row(prepared, row + p, letter as u64, single(p + 1, count));
         p += 1;
     }
 }
@@ -61,12 +59,13 @@ pub fn build_word(prepared: &mut [u64], node: usize, side: Side, row: usize, let
     );
 }
 
-pub fn build_range(prepared: &mut [u64], node: usize, side: Side, row: usize, first: u8, last: u8)
+// A range or a set: its row refers to its class, which stands already.
+pub fn build_class(prepared: &mut [u64], node: usize, side: Side, row: usize)
     requires { ⌜ Space node row 1 (now prepared) ⌝ }
-    ensures { λ r. ⌜ BuiltAlone (range first last) node side row 1 (now (prepared .entry)) (now (prepared .exit)) ⌝ }
+    ensures { λ r. ⌜ ((c : Class) → HasClass c node (now (prepared .entry)) → BuiltAlone (oneOf c) node side row 1 (now (prepared .entry)) (now (prepared .exit))) ⌝ }
 {
     let none = Set::empty();
-    put_row(prepared, row, range_of(first, last), none);
+    put_row(prepared, row, 256 + node as u64, none);
     let zero = single(0, 1);
     put_header(prepared, node, side, row, false, zero, zero);
 }

@@ -2,6 +2,7 @@
 use automaton::Side;
 use automaton::follow;
 use automaton::side_index;
+use classes::Class;
 use positions::Set;
 use table::Table;
 ghost use mathlib.Core.Path.{_≡_};
@@ -21,21 +22,27 @@ fn put_two(prepared: &mut [u64], i: usize, a: u64, b: u64)
     prepared[i + 1] = b;
 }
 
-// A range as one number: its first byte times 256, and its last.
-pub fn range_of(first: u8, last: u8) -> u64
-    ensures { λ r. ⌜ (r / 256 ≡ first) × (r % 256 ≡ last) ⌝ }
+// The class of a node.
+pub fn put_class(prepared: &mut [u64], node: usize, class: Class)
+    requires { ⌜ (node < 96) × (1920 ≤ length (now prepared)) ⌝ }
+    ensures { λ r. ⌜ ClassPut node class (now (prepared .entry)) (now (prepared .exit)) ⌝ }
 {
-    first as u64 * 256 + last as u64
+    let i = Table::CLASSES + 4 * node;
+    let low = class.low;
+    let high = class.high;
+    put_two(prepared, i, low.low, low.high);
+    put_two(prepared, i + 2, high.low, high.high);
 }
 
-pub fn put_row(prepared: &mut [u64], row: usize, range: u64, follow: Set)
+// A row: the number by which it refers to its bytes, and the positions that may follow.
+pub fn put_row(prepared: &mut [u64], row: usize, held: u64, follow: Set)
     requires { ⌜ rowAt (row + 1) ≤ length (now prepared) ⌝ }
-    ensures { λ r. ⌜ RowPut row range follow (now (prepared .entry)) (now (prepared .exit)) ⌝ }
+    ensures { λ r. ⌜ RowPut row held follow (now (prepared .entry)) (now (prepared .exit)) ⌝ }
 {
     let i = Table::ROWS + 3 * row;
     let a = follow.low;
     let b = follow.high;
-    prepared[i] = range;
+    prepared[i] = held;
     put_two(prepared, i + 1, a, b);
 }
 
@@ -93,9 +100,9 @@ fn copy_row(prepared: &mut [u64], from: usize, to: usize, up: usize, more: Set)
     ensures { λ r. ⌜ RowCopied from to up (holds more) (now (prepared .entry)) (now (prepared .exit)) ⌝ }
     ensures { λ r. ⌜ Kept (rowAt to) (rowAt (to + 1)) (now (prepared .entry)) (now (prepared .exit)) ⌝ }
 {
-    let range = prepared[Table::ROWS + 3 * from];
+    let held = prepared[Table::ROWS + 3 * from];
     let next = follow(prepared, from).moved(up).union(more);
-    put_row(prepared, to, range, next);
+    put_row(prepared, to, held, next);
 }
 
 // The rows of an automaton copied, its positions moved up. Those in `last` may be followed by `more` too.

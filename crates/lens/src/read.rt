@@ -104,7 +104,7 @@ pub fn emit(
     let kind = read.kind;
     match kind {
         Kind::Word { .. } => Wrote::Count(0),
-        Kind::Range { .. } => Wrote::Count(0),
+        Kind::OneOf { .. } => Wrote::Count(0),
         Kind::PatternJoin { .. } => Wrote::Count(0),
         Kind::PatternUnion { .. } => Wrote::Count(0),
         Kind::PatternRepeat { .. } => Wrote::Count(0),

@@ -1,9 +1,10 @@
 // Sets of at most 128 positions, each step in constant time.
 ghost use mathlib.Core.Path.{_≡_};
-ghost use mathlib.Core.Bool.{true};
+ghost use mathlib.Core.Bool.{true, _&&_};
 ghost use mathlib.Core.Logic.{_↔_};
 ghost use Prim.Native.Nat.{ℕ, _≤_, _<_};
 ghost use lib.Count.{trailingZeros};
+ghost use lib.Dec.{ltb, leb};
 ghost use Rattle.positions.specs.Positions.{holds, Empty, Only, Added, Removed, Less, Joined, Met, Shared, Moved, FirstFrom};
 
 // Positions 0 to 63 are the bits of low, 64 to 127 those of high.
@@ -28,6 +29,23 @@ impl Set {
         ensures { λ r. ⌜ Empty r ⌝ }
     {
         Set { low: 0, high: 0 }
+    }
+
+    // The set of every position.
+    fn full() -> Set
+        ensures { λ r. ⌜ ((q : ℕ) → holds r q ≡ ltb q 128) ⌝ }
+    {
+        Set {
+            low: 18446744073709551615,
+            high: 18446744073709551615,
+        }
+    }
+
+    // The positions from p on.
+    pub fn from(p: usize) -> Set
+        ensures { λ r. ⌜ ((q : ℕ) → holds r q ≡ (ltb q 128 && leb p q)) ⌝ }
+    {
+        Set::full().moved(p)
     }
 
     // Whether the set holds p; it holds nothing from 128 on.

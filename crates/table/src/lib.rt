@@ -28,15 +28,16 @@ pub enum TableAnswer {
     Refused { number: usize, node: usize },
 }
 
-// A node's kind with its own operands: a part of the pool, the ends of a range, or child numbers.
+// A node's kind with its own operands: a part of the pool, the place of its runs, or child numbers. A range and a set are one kind: the runs
+// of a set stand in the pool, and the one of a range is its operands a and b.
 pub enum Kind {
     Word {
         start: usize,
         len: usize,
     },
-    Range {
-        first: u8,
-        last: u8,
+    OneOf {
+        at: usize,
+        runs: usize,
     },
     PatternJoin {
         left: usize,
@@ -97,6 +98,9 @@ impl Table {
 
     pub const WORD: usize = 64;
 
+    // the most runs of a set
+    pub const RUNS: usize = 32;
+
     pub const SIZE: usize = 512;
 
     pub const POSITIONS: usize = 128;
@@ -104,15 +108,18 @@ impl Table {
     // numbers of the prepared program that belong to a node
     pub const WORDS: usize = 16;
 
-    // where its rows begin: behind the numbers of all nodes
-    pub const ROWS: usize = Table::NODES * Table::WORDS;
+    // where its classes begin, four numbers a node: behind the numbers of all nodes
+    pub const CLASSES: usize = Table::NODES * Table::WORDS;
+
+    // where its rows begin: behind the classes
+    pub const ROWS: usize = Table::CLASSES + 4 * Table::NODES;
 
     // the longest source, sheet or result of a program, in bytes
     pub const TEXT: usize = 4096;
 
     // A table from any bytes, its nodes' sizes in the prepared program; or the refusal of the first round.
     pub fn read(bytes: &[u8], prepared: &mut [u64]) -> TableAnswer
-        requires { ⌜ 1536 ≤ length (now prepared) ⌝ }
+        requires { ⌜ 1920 ≤ length (now prepared) ⌝ }
         ensures { λ r. ⌜ ReadLeaves (now (bytes .entry)) r (now (prepared .exit)) ⌝ }
     {
         if sizes_wrong(bytes) {

@@ -2,6 +2,7 @@
 use crate::Sort;
 use crate::Table;
 use crate::parts::kind_byte;
+use crate::parts::node_count;
 use crate::parts::pool_length;
 ghost use mathlib.Core.Path.{_≡_};
 ghost use Prim.Native.Nat.{_+_, _*_, _<_};
@@ -13,7 +14,7 @@ ghost use Rattle.table.specs.Rules.{Whole, there, sortAt, wordThere, wor
 pub fn known(kind: u8) -> bool
     ensures { λ r. ⌜ r ≡ there (kindOf kind) ⌝ }
 {
-    if kind < 5 {
+    if kind < 6 {
         return true;
     }
     if kind < 16 {
@@ -71,6 +72,40 @@ fn range_ordered(a: u8, b: u8, c: u8) -> bool
     c == 0
 }
 
+// Whether none of the runs from a place on is reversed.
+fn runs_ordered(bytes: &[u8], at: usize, runs: usize) -> bool
+    requires { ⌜ at + 2 * runs ≤ length (now bytes) ⌝ }
+    ensures { λ r. ⌜ r ≡ not (somePasses reversed (runsOf (take (2 * runs) (drop at (now (bytes .entry)))))) ⌝ }
+{
+    let mut i = 0;
+    while i < runs {
+        if bytes[at + 2 * i + 1] < bytes[at + 2 * i] {
+            return false;
+        }
+        i += 1;
+    }
+    true
+}
+
+fn set_fits(bytes: &[u8], a: u8, b: u8, c: u8) -> bool
+    requires { ⌜ sizesWrong (now bytes) ≡ false ⌝ }
+    ensures { λ r. ⌜ r ≡ setKeeps (pool (now (bytes .entry))) a b c ⌝ }
+{
+    let runs = c as usize;
+    if runs == 0 {
+        return false;
+    }
+    if Table::RUNS < runs {
+        return false;
+    }
+    let start = 256 * (a as usize) + b as usize;
+    let p = pool_length(bytes);
+    if p < start + 2 * runs {
+        return false;
+    }
+    runs_ordered(bytes, 3 + 4 * node_count(bytes) + start, runs)
+}
+
 fn one_child(bytes: &[u8], k: usize, sort: Sort, a: u8, b: u8, c: u8) -> bool
     requires { ⌜ Whole (now bytes) k ⌝ }
     ensures { λ r. ⌜ r ≡ oneChild (take k (trees (now (bytes .entry)))) sort a b c ⌝ }
@@ -122,6 +157,7 @@ pub fn keeps(bytes: &[u8], k: usize, kind: u8, a: u8, b: u8, c: u8) -> bool
         0 => word_fits(bytes, a, b, c),
         1 => range_ordered(a, b, c),
         2 | 3 => two_children(bytes, k, Sort::Patterns, a, b, c),
+        5 => set_fits(bytes, a, b, c),
         4 | 16 | 18 => one_child(bytes, k, Sort::Patterns, a, b, c),
         17 => const_parts(bytes, k, a, b, c),
         19 | 20 => two_children(bytes, k, Sort::Lenses, a, b, c),

@@ -3,6 +3,7 @@ use crate::Kind;
 use crate::Node;
 use crate::Table;
 use crate::parts::kind_byte;
+use crate::parts::node_count;
 use crate::parts::operand;
 ghost use mathlib.Core.Path.{_≡_};
 ghost use mathlib.Core.Bool.{true, false};
@@ -14,9 +15,10 @@ ghost use Rattle.semantics.specs.Table as S;
 ghost use Rattle.table.specs.Prepared.{Shows};
 ghost use Rattle.table.specs.Rules.{Within, SizedBelow, Small, Numbers, OverOne, OverTwo, OverConst, OverMatch, NodeRead, decoded, wordOf};
 
-// The kind of a known kind byte, with its own operands.
-fn kind_from(kind: u8, a: u8, b: u8, c: u8) -> Kind
-    ensures { λ r. ⌜ ((κ : S.Kind) → kindOf kind ≡ some κ → r ≡ decoded κ a b c) ⌝ }
+// The kind of a known kind byte, with its own operands. They stand at `at`, and the pool at `pool`.
+fn kind_from(kind: u8, a: u8, b: u8, c: u8, at: usize, pool: usize) -> Kind
+    requires { ⌜ pool ≤ 387 ⌝ }
+    ensures { λ r. ⌜ ((κ : S.Kind) → kindOf kind ≡ some κ → r ≡ decoded κ a b c at pool) ⌝ }
 {
     let x = a as usize;
     let y = b as usize;
@@ -26,10 +28,14 @@ fn kind_from(kind: u8, a: u8, b: u8, c: u8) -> Kind
             start: 256 * x + y,
             len: z,
         },
-        1 => Kind::Range { first: a, last: b },
+        1 => Kind::OneOf { at, runs: 1 },
         2 => Kind::PatternJoin { left: x, right: y },
         3 => Kind::PatternUnion { left: x, right: y },
         4 => Kind::PatternRepeat { child: x },
+        5 => Kind::OneOf {
+            at: pool + 256 * x + y,
+            runs: z,
+        },
         16 => Kind::Copy { pattern: x },
         17 => Kind::Const {
             pattern: x,
@@ -54,7 +60,8 @@ pub fn kind_of(bytes: &[u8], k: usize) -> Kind
     let a = operand(bytes, k, 0);
     let b = operand(bytes, k, 1);
     let c = operand(bytes, k, 2);
-    kind_from(kind, a, b, c)
+    let n = node_count(bytes);
+    kind_from(kind, a, b, c, 3 + n + 3 * k, 3 + 4 * n)
 }
 
 // Word i of node a in the prepared program.
@@ -65,7 +72,7 @@ pub fn word(prepared: &[u64], a: usize, i: usize) -> usize
     prepared[Table::WORDS * a + i] as usize
 }
 
-// A word or a range: it has no child.
+// A word, a range or a set: it has no child.
 fn leaf(positions: usize, kind: Kind) -> Node
     ensures { λ r. ⌜ Numbers r kind 1 positions positions false ⌝ }
 {
@@ -148,7 +155,7 @@ pub fn measured(bytes: &[u8], prepared: &[u64], k: usize) -> Node
     let kind = kind_of(bytes, k);
     match kind {
         Kind::Word { start: _, len } => leaf(len, kind),
-        Kind::Range { first: _, last: _ } => leaf(1, kind),
+        Kind::OneOf { at: _, runs: _ } => leaf(1, kind),
         Kind::PatternJoin { left, right } => over_two(prepared, left, right, kind),
         Kind::PatternUnion { left, right } => over_two(prepared, left, right, kind),
         Kind::PatternRepeat { child } => over_one(prepared, child, kind),

@@ -132,7 +132,7 @@ fn node_fault(bytes: &[u8], prepared: &[u64], k: usize) -> usize
     let kind = node.kind;
     match kind {
         Kind::Word { start: _, len: _ } => 0,
-        Kind::Range { first: _, last: _ } => 0,
+        Kind::OneOf { at: _, runs: _ } => 0,
         Kind::PatternJoin { left: _, right: _ } => 0,
         Kind::PatternUnion { left: _, right: _ } => 0,
         Kind::PatternRepeat { child: _ } => 0,
