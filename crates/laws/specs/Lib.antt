@@ -24,3 +24,5 @@ pub mod Tally
 pub mod Refusals
 pub mod Checked
 pub mod Bytes
+pub mod Before
+pub mod WithoutSets

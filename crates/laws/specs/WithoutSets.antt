@@ -1,0 +1,246 @@
+-- Document 02 (ii): 'Programs without kind 5 get the answers they had.' In a table in which no node has kind 5 each call answers what it
+-- answered by the definitions before sets (`Before`): the same result, or the same refusal.
+use mathlib.Core.Path.{_≡_, refl, sym, ap, ap₂, _∙_}
+use mathlib.Core.Bool.{Bool, true, false, _&&_, _||_, cond, or-false, and-true}
+use mathlib.Core.List.{List, [], _∷_, _++_, map, map-append}
+use mathlib.Core.Option.{Option, none, some}
+use Prim.Native.Nat.{ℕ, zero, suc, _+_, max, min}
+use lib.Dec.{eqb, leb}
+use lib.ListN.{length, length-map}
+use Rattle.semantics.specs.Text.{Text, joined, somePasses}
+use Rattle.semantics.specs.Pattern.{range, inClass, Pattern, word, oneOf, concat, alt, star, nullable, Head, before, heads, matches}
+use Rattle.semantics.specs.Ambiguity.{Pair, runsMeet, shareByte, nextPairs, sameRun, sameClass, samePattern, samePair, visit, explore, wordRests, rests, states, reached, bothEnd, overlaps, onward, twoCuts, badRepeat}
+use Rattle.laws.specs.Classes.{range-test}
+use Rattle.laws.specs.Before as was
+
+-- ---- Lists
+
+module _ {A B : Type 0} (f : A → B) where
+  map-cond : (b : Bool) (xs ys : List A) → cond b (map f xs) (map f ys) ≡ map f (cond b xs ys)
+  map-cond true xs ys = refl
+  map-cond false xs ys = refl
+
+  -- a test of the images that is a test of the elements passes for some image exactly if it does for some element
+  passes-map : (test : B → Bool) (test′ : A → Bool) → ((x : A) → test (f x) ≡ test′ x) → (xs : List A) → somePasses test (map f xs) ≡ somePasses test′ xs
+  unfolding somePasses
+  passes-map test test′ same [] = refl
+  passes-map test test′ same (x ∷ xs) = ap₂ _||_ (same x) (passes-map test test′ same xs)
+
+module _ {A B C D : Type 0} (f : B → D) (g : A → B) (h : C → D) (k : A → C) (same : (x : A) → f (g x) ≡ h (k x)) where
+  -- one list made in two ways
+  map-two : (xs : List A) → map f (map g xs) ≡ map h (map k xs)
+  map-two [] = refl
+  map-two (x ∷ xs) = ap₂ _∷_ (same x) (map-two xs)
+
+module _ {A B C D : Type 0} (f : B → List D) (g : A → B) (h : C → D) (k : A → List C) (same : (x : A) → f (g x) ≡ map h (k x)) where
+  joined-two : (xs : List A) → joined (map f (map g xs)) ≡ map h (joined (map k xs))
+  unfolding joined
+  joined-two [] = refl
+  joined-two (x ∷ xs) = ap₂ _++_ (same x) (joined-two xs) ∙ sym (map-append h (k x) (joined (map k xs)))
+
+-- ---- Patterns
+
+-- a pattern of before as one of today: a range is the class of one run
+unfoldable pub now : was.Pattern → Pattern
+now (was.word w) = word w
+now (was.range a b) = oneOf (range a b)
+now (was.concat r s) = concat (now r) (now s)
+now (was.alt r s) = alt (now r) (now s)
+now (was.star r) = star (now r)
+
+nullable-now : (r : was.Pattern) → nullable (now r) ≡ was.nullable r
+unfolding nullable was.nullable now
+nullable-now (was.word []) = refl
+nullable-now (was.word (c ∷ w)) = refl
+nullable-now (was.range a b) = refl
+nullable-now (was.concat r s) = ap₂ _&&_ (nullable-now r) (nullable-now s)
+nullable-now (was.alt r s) = ap₂ _||_ (nullable-now r) (nullable-now s)
+nullable-now (was.star r) = refl
+
+nowHead : was.Head → Head
+nowHead h = record { class = range (h .first) (h .last); rest = now (h .rest) }
+
+before-now : (s : was.Pattern) (h : was.Head) → before (now s) (nowHead h) ≡ nowHead (was.before s h)
+unfolding nowHead before was.before now
+before-now s h = refl
+
+-- the same ways to read a first byte
+heads-now : (r : was.Pattern) → heads (now r) ≡ map nowHead (was.heads r)
+unfolding heads was.heads nowHead now
+heads-now (was.word []) = refl
+heads-now (was.word (c ∷ w)) = refl
+heads-now (was.range a b) = refl
+heads-now (was.concat r s) =
+    rw (heads-now r, heads-now s, nullable-now r)
+    (ap₂ _++_ (map-two (before (now s)) nowHead nowHead (was.before s) (before-now s) (was.heads r)) (map-cond nowHead (was.nullable r) (was.heads s) [])
+    ∙ sym (map-append nowHead (map (was.before s) (was.heads r)) (cond (was.nullable r) (was.heads s) [])))
+heads-now (was.alt r s) = ap₂ _++_ (heads-now r) (heads-now s) ∙ sym (map-append nowHead (was.heads r) (was.heads s))
+heads-now (was.star r) =
+    ap (map (before (star (now r)))) (heads-now r)
+    ∙ map-two (before (star (now r))) nowHead nowHead (was.before (was.star r)) (before-now (was.star r)) (was.heads r)
+
+-- the same texts belong
+pub matches-now : (r : was.Pattern) (t : Text) → matches (now r) t ≡ was.matches r t
+unfolding matches was.matches was.inRange nowHead
+matches-now r [] = nullable-now r
+matches-now r (c ∷ t) =
+    ap (somePasses (λ h. inClass (h .class) c && matches (h .rest) t)) (heads-now r)
+    ∙ passes-map
+    nowHead
+    (λ h. inClass (h .class) c && matches (h .rest) t)
+    (λ h. was.inRange (h .first) (h .last) c && was.matches (h .rest) t)
+    (λ h. ap₂ _&&_ (range-test (h .first) (h .last) c) (matches-now (h .rest) t))
+    (was.heads r)
+
+-- ---- The tests of the typing rules
+
+abbrev nowPair : was.Pair → Pair
+nowPair p = (now (p .0), now (p .1))
+
+-- two ranges share a byte, and are the same, as before
+share-now : (a b c d : ℕ) → shareByte (range a b) (range c d) ≡ leb (max a c) (min b d)
+unfolding shareByte runsMeet range somePasses
+share-now a b c d = or-false _ ∙ or-false (leb (max a c) (min b d))
+
+same-range : (a b c d : ℕ) → sameClass (range a b) (range c d) ≡ (eqb a c && eqb b d)
+unfolding sameClass sameRun range
+same-range a b c d = and-true (eqb a c && eqb b d)
+
+-- the same pairs come next
+next-now : (p : was.Pair) → nextPairs (nowPair p) ≡ map nowPair (was.nextPairs p)
+unfolding nextPairs was.nextPairs was.shareByte nowHead
+next-now p =
+    rw (heads-now (p .0), heads-now (p .1))
+    (joined-two
+    (λ h. joined (map (step h) (map nowHead (was.heads (p .1)))))
+    nowHead
+    nowPair
+    (λ h. joined (map (step′ h) (was.heads (p .1))))
+    (λ h. joined-two (step (nowHead h)) nowHead nowPair (step′ h) (one h) (was.heads (p .1)))
+    (was.heads (p .0)))
+  where
+    step : Head → Head → List Pair
+    step h k = cond (shareByte (h .class) (k .class)) ((h .rest, k .rest) ∷ []) []
+
+    step′ : was.Head → was.Head → List was.Pair
+    step′ h k = cond (was.shareByte h k) ((h .rest, k .rest) ∷ []) []
+
+    one : (h k : was.Head) → step (nowHead h) (nowHead k) ≡ map nowPair (step′ h k)
+    one h k =
+        ap (λ b. cond b (nowPair (h .rest, k .rest) ∷ []) []) (share-now (h .first) (h .last) (k .first) (k .last))
+        ∙ map-cond nowPair (was.shareByte h k) ((h .rest, k .rest) ∷ []) []
+
+-- the same patterns are told apart
+same-now : (p q : was.Pattern) → samePattern (now p) (now q) ≡ was.samePattern p q
+unfolding samePattern was.samePattern now
+same-now (was.word w) q = elim q [ was.word v ↦ refl | was.range c d ↦ refl | was.concat r s ↦ refl | was.alt r s ↦ refl | was.star r ↦ refl ]
+same-now (was.range a b) q =
+    elim q [ was.word v ↦ refl | was.range c d ↦ same-range a b c d | was.concat r s ↦ refl | was.alt r s ↦ refl | was.star r ↦ refl ]
+same-now (was.concat x y) q =
+    elim q [ was.word v ↦ refl | was.range c d ↦ refl | was.concat r s ↦ ap₂ _&&_ (same-now x r) (same-now y s) | was.alt r s ↦ refl | was.star r ↦ refl ]
+same-now (was.alt x y) q =
+    elim q [ was.word v ↦ refl | was.range c d ↦ refl | was.concat r s ↦ refl | was.alt r s ↦ ap₂ _&&_ (same-now x r) (same-now y s) | was.star r ↦ refl ]
+same-now (was.star x) q =
+    elim q [ was.word v ↦ refl | was.range c d ↦ refl | was.concat r s ↦ refl | was.alt r s ↦ refl | was.star r ↦ same-now x r ]
+
+samePair-now : (p q : was.Pair) → samePair (nowPair p) (nowPair q) ≡ was.samePair p q
+unfolding samePair was.samePair
+samePair-now p q = ap₂ _&&_ (same-now (p .0) (q .0)) (same-now (p .1) (q .1))
+
+-- so the search takes the same turns
+visit-now :
+    (go : List Pair → List Pair → List Pair) (go′ : List was.Pair → List was.Pair → List was.Pair)
+    → ((seen due : List was.Pair) → go (map nowPair seen) (map nowPair due) ≡ map nowPair (go′ seen due))
+    → (seen due : List was.Pair)
+    → visit go (map nowPair seen) (map nowPair due) ≡ map nowPair (was.visit go′ seen due)
+unfolding visit was.visit
+visit-now go go′ same seen [] = refl
+visit-now go go′ same seen (p ∷ due) =
+    rw
+    (
+      passes-map nowPair (samePair (nowPair p)) (was.samePair p) (samePair-now p) seen,
+      visit-now go go′ same seen due,
+      next-now p,
+      sym (map-append nowPair (was.nextPairs p) due),
+      same (p ∷ seen) (was.nextPairs p ++ due),
+    )
+    (map-cond nowPair (somePasses (was.samePair p) seen) (was.visit go′ seen due) (go′ (p ∷ seen) (was.nextPairs p ++ due)))
+
+explore-now : (n : ℕ) (seen due : List was.Pair) → explore n (map nowPair seen) (map nowPair due) ≡ map nowPair (was.explore n seen due)
+unfolding explore was.explore
+explore-now zero seen due = refl
+explore-now (suc n) seen due = visit-now (explore n) (was.explore n) (explore-now n) seen due
+
+-- among the same number of states
+wordRests-now : (w : Text) → wordRests w ≡ map now (was.wordRests w)
+unfolding wordRests was.wordRests now
+wordRests-now [] = refl
+wordRests-now (c ∷ w) = ap (λ rs. word w ∷ rs) (wordRests-now w)
+
+rests-now : (r : was.Pattern) → rests (now r) ≡ map now (was.rests r)
+unfolding rests was.rests now
+rests-now (was.word w) = wordRests-now w
+rests-now (was.range a b) = refl
+rests-now (was.concat r s) =
+    ap₂ _++_ (ap (map (λ k. concat k (now s))) (rests-now r) ∙ map-two (λ k. concat k (now s)) now now (λ k. was.concat k s) (λ k. refl) (was.rests r)) (rests-now s)
+    ∙ sym (map-append now (map (λ k. was.concat k s) (was.rests r)) (was.rests s))
+rests-now (was.alt r s) = ap₂ _++_ (rests-now r) (rests-now s) ∙ sym (map-append now (was.rests r) (was.rests s))
+rests-now (was.star r) =
+    ap (map (λ k. concat k (star (now r)))) (rests-now r)
+    ∙ map-two (λ k. concat k (star (now r))) now now (λ k. was.concat k (was.star r)) (λ k. refl) (was.rests r)
+
+states-now : (r : was.Pattern) → states (now r) ≡ map now (was.states r)
+unfolding states was.states
+states-now r = ap (λ rs. now r ∷ rs) (rests-now r)
+
+count-now : (r s : was.Pattern) → length (states (now r) ++ states (now s)) ≡ length (was.states r ++ was.states s)
+count-now r s = rw (states-now r, states-now s, sym (map-append now (was.states r) (was.states s))) (length-map (was.states r ++ was.states s) now)
+
+reached-now : (r s : was.Pattern) (starts : List was.Pair) → reached (now r) (now s) (map nowPair starts) ≡ map nowPair (was.reached r s starts)
+unfolding reached was.reached
+reached-now r s starts = rw (count-now r s) (explore-now _ [] starts)
+
+ends-now : (ps : List was.Pair) → somePasses bothEnd (map nowPair ps) ≡ somePasses was.bothEnd ps
+unfolding bothEnd was.bothEnd
+ends-now = passes-map nowPair bothEnd was.bothEnd (λ p. ap₂ _&&_ (nullable-now (p .0)) (nullable-now (p .1)))
+
+onward-now :
+    (f : Pattern → List Pair) (f′ : was.Pattern → List was.Pair)
+    → ((r : was.Pattern) → f (now r) ≡ map nowPair (f′ r))
+    → (ps : List was.Pair)
+    → onward f (map nowPair ps) ≡ map nowPair (was.onward f′ ps)
+unfolding onward was.onward
+onward-now f f′ same =
+    joined-two
+    (λ p. cond (nullable (p .0)) (f (p .1)) [])
+    nowPair
+    nowPair
+    (λ p. cond (was.nullable (p .0)) (f′ (p .1)) [])
+    (λ p. ap₂ (λ b xs. cond b xs []) (nullable-now (p .0)) (same (p .1)) ∙ map-cond nowPair (was.nullable (p .0)) (f′ (p .1)) [])
+
+-- the same patterns overlap
+pub overlaps-now : (r s : was.Pattern) → overlaps (now r) (now s) ≡ was.overlaps r s
+unfolding overlaps was.overlaps
+overlaps-now r s = rw (reached-now r s ((r, s) ∷ [])) (ends-now (was.reached r s ((r, s) ∷ [])))
+
+-- the same have a text with two cuts
+pub twoCuts-now : (r s : was.Pattern) → twoCuts (now r) (now s) ≡ was.twoCuts r s
+unfolding twoCuts was.twoCuts
+twoCuts-now r s =
+    let u = was.reached r s ((r, r) ∷ []) in
+    let x = was.reached r s (was.onward (λ p. was.nextPairs (p, s)) u) in
+    let v = was.reached r s (was.onward (λ p. (p, s) ∷ []) x) in
+    rw
+    (
+      reached-now r s ((r, r) ∷ []),
+      onward-now (λ p. nextPairs (p, now s)) (λ p. was.nextPairs (p, s)) (λ p. next-now (p, s)) u,
+      reached-now r s (was.onward (λ p. was.nextPairs (p, s)) u),
+      onward-now (λ p. (p, now s) ∷ []) (λ p. (p, s) ∷ []) (λ p. refl) x,
+      reached-now r s (was.onward (λ p. (p, s) ∷ []) x),
+    )
+    (ends-now v)
+
+-- and the same repeats fail
+pub badRepeat-now : (r : was.Pattern) → badRepeat (now r) ≡ was.badRepeat r
+unfolding badRepeat was.badRepeat now
+badRepeat-now r = ap₂ _||_ (nullable-now r) (twoCuts-now r (was.star r))
