@@ -6,10 +6,14 @@ use mathlib.Core.List.{List, [], _∷_, _++_, map, map-append}
 use mathlib.Core.Option.{Option, none, some}
 use Prim.Native.Nat.{ℕ, zero, suc, _+_, max, min}
 use lib.Dec.{eqb, leb}
-use lib.ListN.{length, length-map}
-use Rattle.semantics.specs.Text.{Text, joined, somePasses}
+use lib.ListN.{length, take, drop, length-map}
+use Rattle.semantics.specs.Text.{Text, All, least, joined, somePasses, orElse, apply, apply₂}
 use Rattle.semantics.specs.Pattern.{range, inClass, Pattern, word, oneOf, concat, alt, star, nullable, Head, before, heads, matches}
 use Rattle.semantics.specs.Ambiguity.{Pair, runsMeet, shareByte, nextPairs, sameRun, sameClass, samePattern, samePair, visit, explore, wordRests, rests, states, reached, bothEnd, overlaps, onward, twoCuts, badRepeat}
+use Rattle.semantics.specs.Lens.{Lens, copy, const, key, join, union, repeat, match, Side, source, sheet, constLanguage, language, cutAt, partsWithin, parts, get, keyOf, Book, Written, andThen, armOf, writeArm, writeParts, writeMatch, takeEntry, entryOf, entries, write, put, create}
+use Rattle.semantics.specs.Table.{Kind, Word, Range, PatternJoin, PatternUnion, PatternRepeat, Set, Copy, Const, Key, LensJoin, LensUnion, LensRepeat, Match, kindOf, Node, nodes, pool, nodeCount, Tree, pattern, lens, broken, Trees, patternOf, lensOf, wordOf, treeAt, patternAt, lensAt, wordAt, provided, build, treeOf, treesFrom, trees, patternSize, lensSize, positions, treePositions, treeSize, holdsMatch, line, Line, unknownKind, isBroken, nestedMatch, nested, maxSize, maxPositions, overLimit, firstRound, rootOf, rootLine, typingLines, treeLines, secondRound, sizesWrong, lines, firstThatHolds}
+use Rattle.semantics.specs.Calls.{Answer, gives, refuses, refuseIf, rootAnswer, verdict, program, withProgram, maxEntries, tooLong, notOf, output, checkCall, getCall, putCall, createCall}
+use Rattle.semantics.specs.Tally.{Met, meetArm, meetParts, met, Tally, tallied, tally, tallyOf, putTally}
 use Rattle.laws.specs.Classes.{range-test}
 use Rattle.laws.specs.Before as was
 
@@ -244,3 +248,125 @@ twoCuts-now r s =
 pub badRepeat-now : (r : was.Pattern) → badRepeat (now r) ≡ was.badRepeat r
 unfolding badRepeat was.badRepeat now
 badRepeat-now r = ap₂ _||_ (nullable-now r) (twoCuts-now r (was.star r))
+
+-- ---- Lenses
+
+-- a lens of before as one of today
+unfoldable pub nowLens : was.Lens → Lens
+nowLens (was.copy r) = copy (now r)
+nowLens (was.const r w d) = const (now r) w d
+nowLens (was.key r) = key (now r)
+nowLens (was.join l m) = join (nowLens l) (nowLens m)
+nowLens (was.union l m) = union (nowLens l) (nowLens m)
+nowLens (was.repeat l) = repeat (nowLens l)
+nowLens (was.match n l) = match n (nowLens l)
+
+const-now : (side : Side) (r : was.Pattern) (w : Text) → constLanguage side (now r) w ≡ now (was.constLanguage side r w)
+unfolding constLanguage was.constLanguage now
+const-now source r w = refl
+const-now sheet r w = refl
+
+-- its sources and its sheets are those of before
+pub language-now : (side : Side) (l : was.Lens) → language side (nowLens l) ≡ now (was.language side l)
+unfolding language was.language nowLens now
+language-now side (was.copy r) = refl
+language-now side (was.const r w d) = const-now side r w
+language-now side (was.key r) = refl
+language-now side (was.join l m) = ap₂ concat (language-now side l) (language-now side m)
+language-now side (was.union l m) = ap₂ alt (language-now side l) (language-now side m)
+language-now side (was.repeat l) = ap star (language-now side l)
+language-now side (was.match n l) = language-now side l
+
+in-now : (side : Side) (l : was.Lens) → matches (language side (nowLens l)) ≡ was.matches (was.language side l)
+in-now side l = ap matches (language-now side l) ∙ (λ i t. matches-now (was.language side l) t i)
+
+-- texts are cut at the same places
+cut-now :
+    (side : Side) (l m : was.Lens)
+    → cutAt (language side (nowLens l)) (language side (nowLens m)) ≡ was.cutAt (was.language side l) (was.language side m)
+unfolding cutAt was.cutAt
+cut-now side l m = λ i t. least (length t) (λ j. in-now side l i (take j t) && in-now side m i (drop j t))
+
+within-now : (n : ℕ) (r : was.Pattern) (t : Text) → partsWithin n (now r) t ≡ was.partsWithin n r t
+unfolding partsWithin was.partsWithin now
+within-now zero r t = refl
+within-now (suc n) r [] = refl
+within-now (suc n) r (c ∷ t) =
+    rw (first-part) (ap (λ ps. (c ∷ take first′ t) ∷ ps) (within-now n r (drop first′ t)))
+  where
+    first′ : ℕ
+    first′ = least (length t) (λ j. was.matches r (c ∷ take j t) && was.matches (was.star r) (drop j t))
+
+    first-part : least (length t) (λ j. matches (now r) (c ∷ take j t) && matches (now (was.star r)) (drop j t)) ≡ first′
+    first-part = λ i. least (length t) (λ j. matches-now r (c ∷ take j t) i && matches-now (was.star r) (drop j t) i)
+
+parts-now : (side : Side) (l : was.Lens) → parts (language side (nowLens l)) ≡ was.parts (was.language side l)
+unfolding parts was.parts
+parts-now side l = ap parts (language-now side l) ∙ (λ i t. within-now (length t) (was.language side l) t i)
+
+-- so get, keys, entries and put go as before
+pub get-now : (l : was.Lens) (t : Text) → get (nowLens l) t ≡ was.get l t
+unfolding get was.get nowLens
+get-now (was.copy r) t = refl
+get-now (was.const r w d) t = refl
+get-now (was.key r) t = refl
+get-now (was.join l m) t = λ i. let k = cut-now source l m i t in get-now l (take k t) i ++ get-now m (drop k t) i
+get-now (was.union l m) t = λ i. cond (in-now source l i t) (get-now l t i) (get-now m t i)
+get-now (was.repeat l) t = λ i. joined (map (λ u. get-now l u i) (parts-now source l i t))
+get-now (was.match n l) t = get-now l t
+
+key-now : (l : was.Lens) (t : Text) → keyOf (nowLens l) t ≡ was.keyOf l t
+unfolding keyOf was.keyOf nowLens
+key-now (was.copy r) t = refl
+key-now (was.const r w d) t = refl
+key-now (was.key r) t = refl
+key-now (was.join l m) t = λ i. let k = cut-now sheet l m i t in key-now l (take k t) i ++ key-now m (drop k t) i
+key-now (was.union l m) t = λ i. cond (in-now sheet l i t) (key-now l t i) (key-now m t i)
+key-now (was.repeat l) t = λ i. joined (map (λ u. key-now l u i) (parts-now sheet l i t))
+key-now (was.match n l) t = key-now l t
+
+pub entries-now : (l : was.Lens) (t : Text) → entries (nowLens l) t ≡ was.entries l t
+unfolding entries was.entries entryOf was.entryOf nowLens
+entries-now (was.copy r) t = refl
+entries-now (was.const r w d) t = refl
+entries-now (was.key r) t = refl
+entries-now (was.join l m) t = λ i. let k = cut-now source l m i t in entries-now l (take k t) i ++ entries-now m (drop k t) i
+entries-now (was.union l m) t = λ i. cond (in-now source l i t) (entries-now l t i) (entries-now m t i)
+entries-now (was.repeat l) t = λ i. joined (map (λ u. entries-now l u i) (parts-now source l i t))
+entries-now (was.match n l) t = λ i. record { child = n; key-text = key-now l (get-now l t i) i; text = t } ∷ []
+
+write-now : (l : was.Lens) (old : Option Text) (a : Text) (b : Book) → write (nowLens l) old a b ≡ was.write l old a b
+unfolding write was.write nowLens
+write-now (was.copy r) old a b = refl
+write-now (was.const r w d) old a b = refl
+write-now (was.key r) old a b = refl
+write-now (was.join l m) old a b =
+    λ i.
+    let k = cut-now sheet l m i a in
+    let j = orElse 0 (apply (cut-now source l m i) old) in
+    andThen (write-now l (apply (take j) old) (take k a) b i) (λ c. write-now m (apply (drop j) old) (drop k a) c i)
+write-now (was.union l m) old a b =
+    λ i.
+    let arm = armOf (apply (in-now source l i) old) (in-now sheet l i a) (in-now sheet m i a) in
+    writeArm (λ o t c. write-now l o t c i) (λ o t c. write-now m o t c i) arm old a b
+write-now (was.repeat l) old a b =
+    λ i. writeParts (λ o t c. write-now l o t c i) (orElse [] (apply (parts-now source l i) old)) (parts-now sheet l i a) b
+write-now (was.match n l) old a b = λ i. writeMatch (λ o t c. write-now l o t c i) a (takeEntry n (key-now l a i) b)
+
+met-now : (l : was.Lens) (old : Option Text) (a : Text) → met (nowLens l) old a ≡ was.met l old a
+unfolding met was.met nowLens
+met-now (was.copy r) old a = refl
+met-now (was.const r w d) old a = refl
+met-now (was.key r) old a = refl
+met-now (was.join l m) old a =
+    λ i.
+    let k = cut-now sheet l m i a in
+    let j = orElse 0 (apply (cut-now source l m i) old) in
+    met-now l (apply (take j) old) (take k a) i ++ met-now m (apply (drop j) old) (drop k a) i
+met-now (was.union l m) old a =
+    λ i.
+    let arm = armOf (apply (in-now source l i) old) (in-now sheet l i a) (in-now sheet m i a) in
+    meetArm (λ o t. met-now l o t i) (λ o t. met-now m o t i) arm old a
+met-now (was.repeat l) old a =
+    λ i. meetParts (λ o t. met-now l o t i) (orElse [] (apply (parts-now source l i) old)) (parts-now sheet l i a)
+met-now (was.match n l) old a = λ i. record { child = n; key-text = key-now l a i } ∷ []
