@@ -4,9 +4,9 @@ use mathlib.Core.Path.{_≡_, refl, sym, ap, ap₂, _∙_}
 use mathlib.Core.Bool.{Bool, true, false, _&&_, _||_, cond, or-false, and-true}
 use mathlib.Core.List.{List, [], _∷_, _++_, map, map-append}
 use mathlib.Core.Option.{Option, none, some}
-use Prim.Native.Nat.{ℕ, zero, suc, _+_, max, min}
-use lib.Dec.{eqb, leb}
-use lib.ListN.{length, take, drop, length-map}
+use Prim.Native.Nat.{ℕ, zero, suc, _+_, _-_, max, min}
+use lib.Dec.{eqb, leb, ltb}
+use lib.ListN.{length, take, drop, getElem?, length-map, List·getD-map}
 use Rattle.semantics.specs.Text.{Text, All, least, joined, somePasses, orElse, apply, apply₂}
 use Rattle.semantics.specs.Pattern.{range, inClass, Pattern, word, oneOf, concat, alt, star, nullable, Head, before, heads, matches}
 use Rattle.semantics.specs.Ambiguity.{Pair, runsMeet, shareByte, nextPairs, sameRun, sameClass, samePattern, samePair, visit, explore, wordRests, rests, states, reached, bothEnd, overlaps, onward, twoCuts, badRepeat}
@@ -370,3 +370,167 @@ met-now (was.union l m) old a =
 met-now (was.repeat l) old a =
     λ i. meetParts (λ o t. met-now l o t i) (orElse [] (apply (parts-now source l i) old)) (parts-now sheet l i a)
 met-now (was.match n l) old a = λ i. record { child = n; key-text = key-now l a i } ∷ []
+
+-- ---- Kinds and trees
+
+unfoldable pub nowKind : was.Kind → Kind
+nowKind was.Word = Word
+nowKind was.Range = Range
+nowKind was.PatternJoin = PatternJoin
+nowKind was.PatternUnion = PatternUnion
+nowKind was.PatternRepeat = PatternRepeat
+nowKind was.Copy = Copy
+nowKind was.Const = Const
+nowKind was.Key = Key
+nowKind was.LensJoin = LensJoin
+nowKind was.LensUnion = LensUnion
+nowKind was.LensRepeat = LensRepeat
+nowKind was.Match = Match
+
+-- a list of kinds at a place, and with one more kind behind them at any other
+kind-at : (ks : List was.Kind) (k : ℕ) → getElem? (map nowKind ks) k ≡ apply nowKind (getElem? ks k)
+unfolding apply
+kind-at [] k = refl
+kind-at (x ∷ ks) zero = refl
+kind-at (x ∷ ks) (suc k) = kind-at ks k
+
+kind-before : (ks : List was.Kind) (k : ℕ) → ¬ (k ≡ length ks) → getElem? (map nowKind ks ++ Set ∷ []) k ≡ apply nowKind (getElem? ks k)
+unfolding apply
+kind-before [] zero other = absurd (other refl)
+kind-before [] (suc k) other = refl
+kind-before (x ∷ ks) zero other = refl
+kind-before (x ∷ ks) (suc k) other = kind-before ks k (λ e. other (ap suc e))
+
+kinds-at :
+    (b : Bool) (low high : List was.Kind) (k j : ℕ)
+    → ¬ (k ≡ length low)
+    → cond b (getElem? (map nowKind low ++ Set ∷ []) k) (getElem? (map nowKind high) j) ≡ apply nowKind (cond b (getElem? low k) (getElem? high j))
+kinds-at true low high k j other = kind-before low k other
+kinds-at false low high k j other = kind-at high j
+
+-- each kind byte other than 5 is read as before
+pub kind-now : (k : ℕ) → ¬ (k ≡ 5) → kindOf k ≡ apply nowKind (was.kindOf k)
+unfolding kindOf was.kindOf nowKind
+kind-now k other =
+    kinds-at
+    (ltb k 16)
+    (was.Word ∷ was.Range ∷ was.PatternJoin ∷ was.PatternUnion ∷ was.PatternRepeat ∷ [])
+    (was.Copy ∷ was.Const ∷ was.Key ∷ was.LensJoin ∷ was.LensUnion ∷ was.LensRepeat ∷ was.Match ∷ [])
+    k
+    (k - 16)
+    other
+
+unfoldable pub nowTree : was.Tree → Tree
+nowTree (was.pattern r) = pattern (now r)
+nowTree (was.lens l) = lens (nowLens l)
+nowTree was.broken = broken
+
+-- a node's tree, pattern, lens and word, in the trees of today
+tree-now : (ts : was.Trees) (k : ℕ) → treeAt (map nowTree ts) k ≡ nowTree (was.treeAt ts k)
+unfolding treeAt was.treeAt nowTree
+tree-now ts k = List·getD-map nowTree ts k was.broken
+
+pattern-now : (ts : was.Trees) (k : ℕ) → patternAt (map nowTree ts) k ≡ apply now (was.patternAt ts k)
+unfolding patternAt was.patternAt patternOf was.patternOf nowTree apply
+pattern-now ts k = ap patternOf (tree-now ts k) ∙ go (was.treeAt ts k)
+  where
+    go : (t : was.Tree) → patternOf (nowTree t) ≡ apply now (was.patternOf t)
+    go (was.pattern r) = refl
+    go (was.lens l) = refl
+    go was.broken = refl
+
+lens-now : (ts : was.Trees) (k : ℕ) → lensAt (map nowTree ts) k ≡ apply nowLens (was.lensAt ts k)
+unfolding lensAt was.lensAt lensOf was.lensOf nowTree apply
+lens-now ts k = ap lensOf (tree-now ts k) ∙ go (was.treeAt ts k)
+  where
+    go : (t : was.Tree) → lensOf (nowTree t) ≡ apply nowLens (was.lensOf t)
+    go (was.pattern r) = refl
+    go (was.lens l) = refl
+    go was.broken = refl
+
+word-now : (ts : was.Trees) (k : ℕ) → wordAt (map nowTree ts) k ≡ was.wordAt ts k
+unfolding wordAt was.wordAt wordOf was.wordOf nowTree now
+word-now ts k = ap wordOf (tree-now ts k) ∙ go (was.treeAt ts k)
+  where
+    go : (t : was.Tree) → wordOf (nowTree t) ≡ was.wordOf t
+    go (was.pattern (was.word w)) = refl
+    go (was.pattern (was.range a b)) = refl
+    go (was.pattern (was.concat r s)) = refl
+    go (was.pattern (was.alt r s)) = refl
+    go (was.pattern (was.star r)) = refl
+    go (was.lens l) = refl
+    go was.broken = refl
+
+provided-now : (b : Bool) {x : Option Tree} (o : Option was.Tree) → x ≡ apply nowTree o → provided b x ≡ nowTree (was.provided b o)
+unfolding provided was.provided nowTree orElse apply
+provided-now b o e = ap (provided b) e ∙ go b o
+  where
+    go : (b : Bool) (o : Option was.Tree) → provided b (apply nowTree o) ≡ nowTree (was.provided b o)
+    go true none = refl
+    go true (some t) = refl
+    go false o = refl
+
+-- a row that makes a tree of no operand, of one, of two, and const's of three
+none-now : (t : was.Tree) → some (nowTree t) ≡ apply nowTree (some t)
+unfolding apply
+none-now t = refl
+
+one-now :
+    {A B : Type 0} (f : B → Tree) (g : A → B) (f′ : A → was.Tree)
+    → ((x : A) → f (g x) ≡ nowTree (f′ x))
+    → {x : Option B} (o : Option A)
+    → x ≡ apply g o
+    → apply f x ≡ apply nowTree (apply f′ o)
+unfolding apply
+one-now {A} f g f′ same o e = ap (apply f) e ∙ go o
+  where
+    go : (o : Option A) → apply f (apply g o) ≡ apply nowTree (apply f′ o)
+    go none = refl
+    go (some x) = ap some (same x)
+
+two-now :
+    {A B : Type 0} (f : B → B → Tree) (g : A → B) (f′ : A → A → was.Tree)
+    → ((x y : A) → f (g x) (g y) ≡ nowTree (f′ x y))
+    → {x y : Option B} (o p : Option A)
+    → x ≡ apply g o
+    → y ≡ apply g p
+    → apply₂ f x y ≡ apply nowTree (apply₂ f′ o p)
+unfolding apply apply₂
+two-now {A} f g f′ same o p d e = ap₂ (apply₂ f) d e ∙ go o p
+  where
+    go : (o p : Option A) → apply₂ f (apply g o) (apply g p) ≡ apply nowTree (apply₂ f′ o p)
+    go none p = refl
+    go (some x) none = refl
+    go (some x) (some y) = ap some (same x y)
+
+three-now :
+    (o : Option was.Pattern) (p q : Option Text)
+    → apply₂ (λ (f : Text → Lens) d. lens (f d)) (apply₂ (λ r w d. const r w d) (apply now o) p) q
+    ≡ apply nowTree (apply₂ (λ (f : Text → was.Lens) d. was.lens (f d)) (apply₂ (λ r w d. was.const r w d) o p) q)
+unfolding apply apply₂ nowTree nowLens
+three-now none p q = refl
+three-now (some r) none q = refl
+three-now (some r) (some w) none = refl
+three-now (some r) (some w) (some d) = refl
+
+-- each row of the table of kinds, but that of sets, makes the tree that it made
+build-now :
+    (bytes : Text) (ts : was.Trees) (k : was.Kind) (a b c : ℕ) → build bytes (map nowTree ts) (nowKind k) a b c ≡ nowTree (was.build bytes ts k a b c)
+unfolding build was.build nowKind nowTree nowLens now
+build-now bytes ts was.Word a b c = provided-now _ _ (none-now _)
+build-now bytes ts was.Range a b c = provided-now _ _ (none-now (was.pattern (was.range a b)))
+build-now bytes ts was.PatternJoin a b c =
+    provided-now _ _ (two-now _ now (λ r s. was.pattern (was.concat r s)) (λ r s. refl) _ _ (pattern-now ts a) (pattern-now ts b))
+build-now bytes ts was.PatternUnion a b c =
+    provided-now _ _ (two-now _ now (λ r s. was.pattern (was.alt r s)) (λ r s. refl) _ _ (pattern-now ts a) (pattern-now ts b))
+build-now bytes ts was.PatternRepeat a b c = provided-now _ _ (one-now _ now (λ r. was.pattern (was.star r)) (λ r. refl) _ (pattern-now ts a))
+build-now bytes ts was.Copy a b c = provided-now _ _ (one-now _ now (λ r. was.lens (was.copy r)) (λ r. refl) _ (pattern-now ts a))
+build-now bytes ts was.Const a b c =
+    provided-now _ _ (rw (pattern-now ts a, word-now ts b, word-now ts c) (three-now (was.patternAt ts a) (was.wordAt ts b) (was.wordAt ts c)))
+build-now bytes ts was.Key a b c = provided-now _ _ (one-now _ now (λ r. was.lens (was.key r)) (λ r. refl) _ (pattern-now ts a))
+build-now bytes ts was.LensJoin a b c =
+    provided-now _ _ (two-now _ nowLens (λ l m. was.lens (was.join l m)) (λ l m. refl) _ _ (lens-now ts a) (lens-now ts b))
+build-now bytes ts was.LensUnion a b c =
+    provided-now _ _ (two-now _ nowLens (λ l m. was.lens (was.union l m)) (λ l m. refl) _ _ (lens-now ts a) (lens-now ts b))
+build-now bytes ts was.LensRepeat a b c = provided-now _ _ (one-now _ nowLens (λ l. was.lens (was.repeat l)) (λ l. refl) _ (lens-now ts a))
+build-now bytes ts was.Match a b c = provided-now _ _ (one-now _ nowLens (λ l. was.lens (was.match a l)) (λ l. refl) _ (lens-now ts a))
