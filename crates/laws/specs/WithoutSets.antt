@@ -1,7 +1,7 @@
 -- Document 02 (ii): 'Programs without kind 5 get the answers they had.' In a table in which no node has kind 5 each call answers what it
 -- answered by the definitions before sets (`Before`): the same result, or the same refusal.
 use mathlib.Core.Path.{_≡_, refl, sym, ap, ap₂, _∙_}
-use mathlib.Core.Bool.{Bool, true, false, _&&_, _||_, cond, or-false, and-true}
+use mathlib.Core.Bool.{Bool, true, false, not, _&&_, _||_, cond, or-false, and-true}
 use mathlib.Core.List.{List, [], _∷_, _++_, map, map-append}
 use mathlib.Core.Option.{Option, none, some}
 use Prim.Native.Nat.{ℕ, zero, suc, _+_, _-_, max, min}
@@ -534,3 +534,261 @@ build-now bytes ts was.LensUnion a b c =
     provided-now _ _ (two-now _ nowLens (λ l m. was.lens (was.union l m)) (λ l m. refl) _ _ (lens-now ts a) (lens-now ts b))
 build-now bytes ts was.LensRepeat a b c = provided-now _ _ (one-now _ nowLens (λ l. was.lens (was.repeat l)) (λ l. refl) _ (lens-now ts a))
 build-now bytes ts was.Match a b c = provided-now _ _ (one-now _ nowLens (λ l. was.lens (was.match a l)) (λ l. refl) _ (lens-now ts a))
+
+-- 'without kind 5': no node has it
+abbrev pub NoSets : List Node → Type 0
+NoSets = All (λ n. ¬ (n .kind ≡ 5))
+
+made-now :
+    (bytes : Text) (ts : was.Trees) (a b c : ℕ) (o : Option was.Kind)
+    → orElse broken (apply (λ k. build bytes (map nowTree ts) k a b c) (apply nowKind o))
+    ≡ nowTree (orElse was.broken (apply (λ k. was.build bytes ts k a b c) o))
+unfolding orElse apply nowTree
+made-now bytes ts a b c none = refl
+made-now bytes ts a b c (some k) = build-now bytes ts k a b c
+
+treeOf-now : (bytes : Text) (ts : was.Trees) (n : Node) → ¬ (n .kind ≡ 5) → treeOf bytes (map nowTree ts) n ≡ nowTree (was.treeOf bytes ts n)
+unfolding treeOf was.treeOf
+treeOf-now bytes ts n other = rw (kind-now (n .kind) other) (made-now bytes ts (n .a) (n .b) (n .c) (was.kindOf (n .kind)))
+
+from-now :
+    (bytes : Text) (ts : was.Trees) (ns : List Node) → NoSets ns → treesFrom bytes (map nowTree ts) ns ≡ map nowTree (was.treesFrom bytes ts ns)
+unfolding treesFrom was.treesFrom
+from-now bytes ts [] h = refl
+from-now bytes ts (n ∷ ns) h =
+    rw
+    (treeOf-now bytes ts n (h .0), sym (map-append nowTree ts (was.treeOf bytes ts n ∷ [])))
+    (from-now bytes (ts ++ was.treeOf bytes ts n ∷ []) ns (h .1))
+
+-- each node's tree is the one that it had
+pub trees-now : (bytes : Text) → NoSets (nodes bytes) → trees bytes ≡ map nowTree (was.trees bytes)
+unfolding trees was.trees
+trees-now bytes h = from-now (pool bytes) [] (nodes bytes) h
+
+-- ---- Sizes and positions
+
+pub size-now : (r : was.Pattern) → patternSize (now r) ≡ was.patternSize r
+unfolding patternSize was.patternSize now
+size-now (was.word w) = refl
+size-now (was.range a b) = refl
+size-now (was.concat r s) = ap₂ (λ m n. 1 + m + n) (size-now r) (size-now s)
+size-now (was.alt r s) = ap₂ (λ m n. 1 + m + n) (size-now r) (size-now s)
+size-now (was.star r) = ap (λ n. 1 + n) (size-now r)
+
+pub positions-now : (r : was.Pattern) → positions (now r) ≡ was.positions r
+unfolding positions was.positions now
+positions-now (was.word w) = refl
+positions-now (was.range a b) = refl
+positions-now (was.concat r s) = ap₂ _+_ (positions-now r) (positions-now s)
+positions-now (was.alt r s) = ap₂ _+_ (positions-now r) (positions-now s)
+positions-now (was.star r) = positions-now r
+
+lensSize-now : (l : was.Lens) → lensSize (nowLens l) ≡ was.lensSize l
+unfolding lensSize was.lensSize nowLens
+lensSize-now (was.copy r) = ap (λ n. 1 + n) (size-now r)
+lensSize-now (was.const r w d) = ap (λ n. 1 + n + 1 + 1) (size-now r)
+lensSize-now (was.key r) = ap (λ n. 1 + n) (size-now r)
+lensSize-now (was.join l m) = ap₂ (λ m n. 1 + m + n) (lensSize-now l) (lensSize-now m)
+lensSize-now (was.union l m) = ap₂ (λ m n. 1 + m + n) (lensSize-now l) (lensSize-now m)
+lensSize-now (was.repeat l) = ap (λ n. 1 + n) (lensSize-now l)
+lensSize-now (was.match n l) = ap (λ n. 1 + n) (lensSize-now l)
+
+treeSize-now : (t : was.Tree) → treeSize (nowTree t) ≡ was.treeSize t
+unfolding treeSize was.treeSize nowTree
+treeSize-now (was.pattern r) = size-now r
+treeSize-now (was.lens l) = lensSize-now l
+treeSize-now was.broken = refl
+
+treePositions-now : (side : Side) (t : was.Tree) → treePositions side (nowTree t) ≡ was.treePositions side t
+unfolding treePositions was.treePositions nowTree
+treePositions-now side (was.pattern r) = positions-now r
+treePositions-now side (was.lens l) = ap positions (language-now side l) ∙ positions-now (was.language side l)
+treePositions-now side was.broken = refl
+
+-- ---- The lines of the table of refusals
+
+holdsMatch-now : (l : was.Lens) → holdsMatch (nowLens l) ≡ was.holdsMatch l
+unfolding holdsMatch was.holdsMatch nowLens
+holdsMatch-now (was.copy r) = refl
+holdsMatch-now (was.const r w d) = refl
+holdsMatch-now (was.key r) = refl
+holdsMatch-now (was.join l m) = ap₂ _||_ (holdsMatch-now l) (holdsMatch-now m)
+holdsMatch-now (was.union l m) = ap₂ _||_ (holdsMatch-now l) (holdsMatch-now m)
+holdsMatch-now (was.repeat l) = holdsMatch-now l
+holdsMatch-now (was.match n l) = refl
+
+nestedMatch-now : (l : was.Lens) → nestedMatch (nowLens l) ≡ was.nestedMatch l
+unfolding nestedMatch was.nestedMatch nowLens
+nestedMatch-now (was.copy r) = refl
+nestedMatch-now (was.const r w d) = refl
+nestedMatch-now (was.key r) = refl
+nestedMatch-now (was.join l m) = refl
+nestedMatch-now (was.union l m) = refl
+nestedMatch-now (was.repeat l) = refl
+nestedMatch-now (was.match n l) = holdsMatch-now l
+
+-- what the first round asks of a tree, lines 3 to 5
+isBroken-now : (t : was.Tree) → isBroken (nowTree t) ≡ was.isBroken t
+unfolding isBroken was.isBroken nowTree
+isBroken-now (was.pattern r) = refl
+isBroken-now (was.lens l) = refl
+isBroken-now was.broken = refl
+
+nested-now : (t : was.Tree) → nested (nowTree t) ≡ was.nested t
+unfolding nested was.nested nowTree
+nested-now (was.pattern r) = refl
+nested-now (was.lens l) = nestedMatch-now l
+nested-now was.broken = refl
+
+overLimit-now : (t : was.Tree) → overLimit (nowTree t) ≡ was.overLimit t
+unfolding overLimit was.overLimit
+overLimit-now t = rw (treeSize-now t, treePositions-now source t, treePositions-now sheet t)
+
+-- and of a kind byte, line 2
+unknown-now : (n : Node) → ¬ (n .kind ≡ 5) → unknownKind n ≡ was.unknownKind n
+unfolding unknownKind was.unknownKind orElse apply
+unknown-now n other = ap (λ o. orElse true (apply (λ k. false) o)) (kind-now (n .kind) other) ∙ go (was.kindOf (n .kind))
+  where
+    go : (o : Option was.Kind) → orElse true (apply (λ k. false) (apply nowKind o)) ≡ orElse true (apply (λ k. false) o)
+    go none = refl
+    go (some k) = refl
+
+first-now : (k : ℕ) (ns : List Node) (ts : was.Trees) → NoSets ns → firstRound k ns (map nowTree ts) ≡ was.firstRound k ns ts
+unfolding firstRound was.firstRound
+first-now k [] ts h = refl
+first-now k (n ∷ ns) [] h = refl
+first-now k (n ∷ ns) (t ∷ ts) h =
+    λ i.
+    line 2 k (unknown-now n (h .0) i)
+    ∷ line 3 k (isBroken-now t i)
+    ∷ line 4 k (nested-now t i)
+    ∷ line 5 k (overLimit-now t i)
+    ∷ first-now (suc k) ns ts (h .1) i
+
+root-now : (bytes : Text) → NoSets (nodes bytes) → rootOf bytes ≡ apply nowLens (was.rootOf bytes)
+unfolding rootOf was.rootOf
+root-now bytes h = ap (λ ts. lensAt ts (nodeCount bytes - 1)) (trees-now bytes h) ∙ lens-now (was.trees bytes) (nodeCount bytes - 1)
+
+rootLine-now : (bytes : Text) → NoSets (nodes bytes) → rootLine bytes ≡ was.rootLine bytes
+unfolding rootLine was.rootLine orElse apply
+rootLine-now bytes h = ap (λ o. line 3 (nodeCount bytes - 1) (orElse true (apply (λ l. false) o))) (root-now bytes h) ∙ go (was.rootOf bytes)
+  where
+    go :
+        (o : Option was.Lens)
+        → line 3 (nodeCount bytes - 1) (orElse true (apply (λ l. false) (apply nowLens o))) ≡ line 3 (nodeCount bytes - 1) (orElse true (apply (λ l. false) o))
+    go none = refl
+    go (some l) = refl
+
+-- the typing rules, lines 6 to 11
+typing-now : (k : ℕ) (l : was.Lens) → typingLines k (nowLens l) ≡ was.typingLines k l
+unfolding typingLines was.typingLines nowLens
+typing-now k (was.copy r) = refl
+typing-now k (was.const r w d) = rw (matches-now r d)
+typing-now k (was.key r) = refl
+typing-now k (was.join l m) = λ i. line 7 k (cuts source i) ∷ line 8 k (cuts sheet i) ∷ []
+  where
+    cuts : (side : Side) → twoCuts (language side (nowLens l)) (language side (nowLens m)) ≡ was.twoCuts (was.language side l) (was.language side m)
+    cuts side = ap₂ twoCuts (language-now side l) (language-now side m) ∙ twoCuts-now (was.language side l) (was.language side m)
+typing-now k (was.union l m) =
+    ap
+    (λ b. line 9 k b ∷ [])
+    (ap₂ overlaps (language-now source l) (language-now source m) ∙ overlaps-now (was.language source l) (was.language source m))
+typing-now k (was.repeat l) = λ i. line 10 k (bad source i) ∷ line 11 k (bad sheet i) ∷ []
+  where
+    bad : (side : Side) → badRepeat (language side (nowLens l)) ≡ was.badRepeat (was.language side l)
+    bad side = ap badRepeat (language-now side l) ∙ badRepeat-now (was.language side l)
+typing-now k (was.match n l) = refl
+
+treeLines-now : (k : ℕ) (t : was.Tree) → treeLines k (nowTree t) ≡ was.treeLines k t
+unfolding treeLines was.treeLines nowTree
+treeLines-now k (was.pattern r) = refl
+treeLines-now k (was.lens l) = typing-now k l
+treeLines-now k was.broken = refl
+
+second-now : (k : ℕ) (ts : was.Trees) → secondRound k (map nowTree ts) ≡ was.secondRound k ts
+unfolding secondRound was.secondRound
+second-now k [] = refl
+second-now k (t ∷ ts) = ap₂ _++_ (treeLines-now k t) (second-now (suc k) ts)
+
+-- the lines 1 to 11 hold where they held
+pub lines-now : (bytes : Text) → NoSets (nodes bytes) → lines bytes ≡ was.lines bytes
+unfolding lines was.lines
+lines-now bytes h =
+    rw
+    (trees-now bytes h, first-now 0 (nodes bytes) (was.trees bytes) h, rootLine-now bytes h, second-now 0 (was.trees bytes))
+    refl
+
+-- ---- The calls
+
+nowAnswer : Answer was.Lens → Answer Lens
+nowAnswer (gives l) = gives (nowLens l)
+nowAnswer (refuses number node) = refuses number node
+
+verdict-now : (first : Option Line) (root : Option was.Lens) → verdict first (apply nowLens root) ≡ nowAnswer (was.verdict first root)
+unfolding verdict was.verdict rootAnswer was.rootAnswer nowAnswer apply
+verdict-now (some l) root = refl
+verdict-now none none = refl
+verdict-now none (some l) = refl
+
+program-now : (bytes : Text) → NoSets (nodes bytes) → program bytes ≡ nowAnswer (was.program bytes)
+unfolding program was.program
+program-now bytes h =
+    rw (lines-now bytes h, root-now bytes h) (verdict-now (firstThatHolds (was.lines bytes)) (was.rootOf bytes))
+
+-- a call that answers for each lens of before as it did answers as it did
+with-now :
+    {A : Type 0} (call : Lens → Answer A) (call′ : was.Lens → Answer A)
+    → ((l : was.Lens) → call (nowLens l) ≡ call′ l)
+    → (bytes : Text)
+    → NoSets (nodes bytes)
+    → withProgram (program bytes) call ≡ was.withProgram (was.program bytes) call′
+unfolding withProgram was.withProgram nowAnswer
+with-now {A} call call′ same bytes h = ap (λ p. withProgram p call) (program-now bytes h) ∙ go (was.program bytes)
+  where
+    go : (p : Answer was.Lens) → withProgram (nowAnswer p) call ≡ was.withProgram p call′
+    go (gives l) = same l
+    go (refuses number node) = refl
+
+notOf-now : (side : Side) (l : was.Lens) (t : Text) → notOf side (nowLens l) t ≡ was.notOf side l t
+unfolding notOf was.notOf
+notOf-now side l t = λ i. not (in-now side l i t)
+
+put-now : (l : was.Lens) (a old : Text) → put (nowLens l) a old ≡ was.put l a old
+unfolding put was.put
+put-now l a old = λ i. write-now l (some old) a (entries-now l old i) i .text
+
+create-now : (l : was.Lens) (a : Text) → create (nowLens l) a ≡ was.create l a
+unfolding create was.create
+create-now l a = λ i. write-now l none a [] i .text
+
+tally-now : (l : was.Lens) (a old : Text) → tally (nowLens l) a old ≡ was.tally l a old
+unfolding tally was.tally
+tally-now l a old = λ i. tallied (met-now l (some old) a i) (entries-now l old i)
+
+-- 'Programs without kind 5 get the answers they had.'
+module _ (bytes : Text) (without : NoSets (nodes bytes)) where
+  pub check-as-before : checkCall bytes ≡ was.checkCall bytes
+  unfolding checkCall was.checkCall
+  check-as-before = with-now (λ l. gives (nodeCount bytes)) (λ l. gives (nodeCount bytes)) (λ l. refl) bytes without
+
+  pub get-as-before : (t : Text) (lent : ℕ) → getCall bytes t lent ≡ was.getCall bytes t lent
+  unfolding getCall was.getCall
+  get-as-before t lent = with-now _ _ (λ l. rw (notOf-now source l t, get-now l t)) bytes without
+
+  pub put-as-before : (a old : Text) (lent : ℕ) → putCall bytes a old lent ≡ was.putCall bytes a old lent
+  unfolding putCall was.putCall
+  put-as-before a old lent =
+      with-now _ _ (λ l. rw (notOf-now source l old, notOf-now sheet l a, entries-now l old, put-now l a old)) bytes without
+
+  pub create-as-before : (a : Text) (lent : ℕ) → createCall bytes a lent ≡ was.createCall bytes a lent
+  unfolding createCall was.createCall
+  create-as-before a lent = with-now _ _ (λ l. rw (notOf-now sheet l a, create-now l a)) bytes without
+
+  -- and the counts beside a put
+  pub counts-as-before : (a old : Text) → putTally bytes a old ≡ was.putTally bytes a old
+  unfolding putTally was.putTally tallyOf was.tallyOf nowAnswer
+  counts-as-before a old = ap (λ p. tallyOf p a old) (program-now bytes without) ∙ go (was.program bytes)
+    where
+      go : (p : Answer was.Lens) → tallyOf (nowAnswer p) a old ≡ was.tallyOf p a old
+      go (gives l) = tally-now l a old
+      go (refuses number node) = refl
