@@ -1,5 +1,6 @@
--- The definitions as they were before document 02 (ii) added sets: those of the crate `semantics` that speak of patterns, where a range was
--- a pattern of its own, in its words. `WithoutSets` holds today's to them. Nothing else uses them.
+-- The definitions as they were before document 02 (ii) added sets, word for word and without their comments: those of the crate `semantics`
+-- that speak of patterns, lenses or trees, where a range was a pattern of its own. What speaks of none of these has not changed, and is
+-- today's. `WithoutSets` holds today's calls to those here; nothing else uses them.
 use mathlib.Core.Bool.{Bool, true, false, not, _&&_, _||_, cond}
 use mathlib.Core.List.{List, [], _∷_, _++_, map}
 use mathlib.Core.Option.{Option, none, some}
@@ -9,7 +10,7 @@ use lib.ListN.{length, take, drop, getD, getElem?}
 use Rattle.semantics.specs.Text.{Text, sameText, least, joined, somePasses, orElse, apply, apply₂}
 use Rattle.semantics.specs.Lens.{Side, source, sheet, Entry, Book, takeEntry, Writer, andThen, armOf, writeArm, writeParts, writeMatch}
 use Rattle.semantics.specs.Table.{maxWord, maxSize, maxPositions, two, nodeCount, sizesWrong, Node, nodes, pool, Line, line, firstThatHolds}
-use Rattle.semantics.specs.Calls.{Answer, gives, refuses, refuseIf, maxEntries, tooLong, output}
+use Rattle.semantics.specs.Calls.{Answer, gives, refuses, refuseIf, maxEntries, tooLong, output, field}
 use Rattle.semantics.specs.Tally.{Meeting, meetArm, meetParts, Tally, tallied}
 
 -- ---- Patterns, and the test for membership
@@ -432,6 +433,14 @@ putCall bytes a old lent =
 unfoldable pub createCall : Text → Text → ℕ → Answer Text
 createCall bytes a lent =
     withProgram (program bytes) (λ l. refuseIf (tooLong a) 12 (refuseIf (notOf sheet l a) 14 (output lent (create l a))))
+
+unfoldable pub programLine : Text → Answer Lens → Text
+programLine bytes (gives l) =
+    (111 ∷ 107 ∷ []) ++ field (nodeCount bytes) ++ field (treePositions source (lens l)) ++ field (treePositions sheet (lens l)) ++ 10 ∷ []
+programLine bytes (refuses number node) = (114 ∷ 101 ∷ 102 ∷ 117 ∷ 115 ∷ 101 ∷ 100 ∷ []) ++ field number ++ field node ++ 10 ∷ []
+
+unfoldable pub lenscheckLine : Text → Text
+lenscheckLine bytes = programLine bytes (program bytes)
 
 -- ---- The counts of a put
 

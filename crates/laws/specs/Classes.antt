@@ -42,18 +42,21 @@ byte-meets r s byte p q =
 
 -- ---- The class of one run
 
+-- the range from a to b holds what its run holds
+run-test : (a b c : ℕ) → inClass (range a b) c ≡ inRun c (record { first = a; last = b })
+unfolding inClass range somePasses
+run-test a b c = or-false (inRun c (record { first = a; last = b }))
+
 -- a byte is in a range exactly if it lies between its ends
 pub range-test : (a b c : ℕ) → inClass (range a b) c ≡ (leb a c && leb c b)
-unfolding inClass range inRun somePasses
-range-test a b c = or-false (leb a c && leb c b)
+unfolding inRun
+range-test = run-test
 
 pub in-range : (a b c : ℕ) → a ≤ c → c ≤ b → inClass (range a b) c ≡ true
-in-range a b c p q = range-test a b c ∙ and-of (leb a c) (leb c b) (le-leb a c p) (le-leb c b q)
+in-range a b c p q = run-test a b c ∙ in-run _ c p q
 
 pub range-of : (a b c : ℕ) → inClass (range a b) c ≡ true → (a ≤ c) × (c ≤ b)
-range-of a b c e =
-    let (p, q) = and-both (leb a c) (leb c b) (sym (range-test a b c) ∙ e) in
-    (leb-true a c p, leb-true c b q)
+range-of a b c e = run-of _ c (sym (run-test a b c) ∙ e)
 
 -- the range from a byte to itself holds that byte
 pub one-byte : (c : ℕ) → inClass (range c c) c ≡ true

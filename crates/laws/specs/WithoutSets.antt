@@ -1,5 +1,6 @@
--- Document 02 (ii): 'Programs without kind 5 get the answers they had.' In a table in which no node has kind 5 each call answers what it
--- answered by the definitions before sets (`Before`): the same result, or the same refusal.
+-- Document 02 (ii): 'Programs without kind 5 get the answers they had.' Where no node of a table has kind 5, each call answers what it
+-- answered by the definitions before sets (`Before`): the same result, or the same refusal at the same node. The theorems are at the end;
+-- on the way there, what a pattern, a lens, a tree and a line of before is today, and that each is asked the same with the same answer.
 use mathlib.Core.Path.{_≡_, refl, sym, ap, ap₂, _∙_}
 use mathlib.Core.Bool.{Bool, true, false, not, _&&_, _||_, cond, or-false, and-true}
 use mathlib.Core.List.{List, [], _∷_, _++_, map, map-append}
@@ -10,16 +11,17 @@ use lib.ListN.{length, take, drop, getElem?, length-map, List·getD-map}
 use Rattle.semantics.specs.Text.{Text, All, least, joined, somePasses, orElse, apply, apply₂}
 use Rattle.semantics.specs.Pattern.{range, inClass, Pattern, word, oneOf, concat, alt, star, nullable, Head, before, heads, matches}
 use Rattle.semantics.specs.Ambiguity.{Pair, runsMeet, shareByte, nextPairs, sameRun, sameClass, samePattern, samePair, visit, explore, wordRests, rests, states, reached, bothEnd, overlaps, onward, twoCuts, badRepeat}
-use Rattle.semantics.specs.Lens.{Lens, copy, const, key, join, union, repeat, match, Side, source, sheet, constLanguage, language, cutAt, partsWithin, parts, get, keyOf, Book, Written, andThen, armOf, writeArm, writeParts, writeMatch, takeEntry, entryOf, entries, write, put, create}
-use Rattle.semantics.specs.Table.{Kind, Word, Range, PatternJoin, PatternUnion, PatternRepeat, Set, Copy, Const, Key, LensJoin, LensUnion, LensRepeat, Match, kindOf, Node, nodes, pool, nodeCount, Tree, pattern, lens, broken, Trees, patternOf, lensOf, wordOf, treeAt, patternAt, lensAt, wordAt, provided, build, treeOf, treesFrom, trees, patternSize, lensSize, positions, treePositions, treeSize, holdsMatch, line, Line, unknownKind, isBroken, nestedMatch, nested, maxSize, maxPositions, overLimit, firstRound, rootOf, rootLine, typingLines, treeLines, secondRound, sizesWrong, lines, firstThatHolds}
-use Rattle.semantics.specs.Calls.{Answer, gives, refuses, refuseIf, rootAnswer, verdict, program, withProgram, maxEntries, tooLong, notOf, output, checkCall, getCall, putCall, createCall}
-use Rattle.semantics.specs.Tally.{Met, meetArm, meetParts, met, Tally, tallied, tally, tallyOf, putTally}
+use Rattle.semantics.specs.Lens.{Lens, copy, const, key, join, union, repeat, match, Side, source, sheet, constLanguage, language, cutAt, partsWithin, parts, get, keyOf, Book, andThen, armOf, writeArm, writeParts, writeMatch, takeEntry, entryOf, entries, write, put, create}
+use Rattle.semantics.specs.Table.{Kind, Word, Range, PatternJoin, PatternUnion, PatternRepeat, Set, Copy, Const, Key, LensJoin, LensUnion, LensRepeat, Match, kindOf, Node, nodes, pool, nodeCount, Tree, pattern, lens, broken, Trees, patternOf, lensOf, wordOf, treeAt, patternAt, lensAt, wordAt, provided, build, treeOf, treesFrom, trees, patternSize, lensSize, positions, treePositions, treeSize, holdsMatch, line, Line, unknownKind, isBroken, nestedMatch, nested, overLimit, firstRound, rootOf, rootLine, typingLines, treeLines, secondRound, lines, firstThatHolds}
+use Rattle.semantics.specs.Calls.{Answer, gives, refuses, rootAnswer, verdict, program, withProgram, notOf, checkCall, getCall, putCall, createCall, programLine, lenscheckLine}
+use Rattle.semantics.specs.Tally.{meetArm, meetParts, met, tallied, tally, tallyOf, putTally}
 use Rattle.laws.specs.Classes.{range-test}
 use Rattle.laws.specs.Before as was
 
 -- ---- Lists
 
 module _ {A B : Type 0} (f : A → B) where
+  -- the image of the list that a test chooses
   map-cond : (b : Bool) (xs ys : List A) → cond b (map f xs) (map f ys) ≡ map f (cond b xs ys)
   map-cond true xs ys = refl
   map-cond false xs ys = refl
@@ -37,6 +39,7 @@ module _ {A B C D : Type 0} (f : B → D) (g : A → B) (h : C → D) (k : A →
   map-two (x ∷ xs) = ap₂ _∷_ (same x) (map-two xs)
 
 module _ {A B C D : Type 0} (f : B → List D) (g : A → B) (h : C → D) (k : A → List C) (same : (x : A) → f (g x) ≡ map h (k x)) where
+  -- and one list joined of parts that are made in two ways
   joined-two : (xs : List A) → joined (map f (map g xs)) ≡ map h (joined (map k xs))
   unfolding joined
   joined-two [] = refl
@@ -52,6 +55,7 @@ now (was.concat r s) = concat (now r) (now s)
 now (was.alt r s) = alt (now r) (now s)
 now (was.star r) = star (now r)
 
+-- the empty text belongs as before
 nullable-now : (r : was.Pattern) → nullable (now r) ≡ was.nullable r
 unfolding nullable was.nullable now
 nullable-now (was.word []) = refl
@@ -61,6 +65,7 @@ nullable-now (was.concat r s) = ap₂ _&&_ (nullable-now r) (nullable-now s)
 nullable-now (was.alt r s) = ap₂ _||_ (nullable-now r) (nullable-now s)
 nullable-now (was.star r) = refl
 
+-- a way to read a first byte
 nowHead : was.Head → Head
 nowHead h = record { class = range (h .first) (h .last); rest = now (h .rest) }
 
@@ -147,6 +152,7 @@ same-now (was.alt x y) q =
 same-now (was.star x) q =
     elim q [ was.word v ↦ refl | was.range c d ↦ refl | was.concat r s ↦ refl | was.alt r s ↦ refl | was.star r ↦ same-now x r ]
 
+-- and the same pairs
 samePair-now : (p q : was.Pair) → samePair (nowPair p) (nowPair q) ≡ was.samePair p q
 unfolding samePair was.samePair
 samePair-now p q = ap₂ _&&_ (same-now (p .0) (q .0)) (same-now (p .1) (q .1))
@@ -160,8 +166,7 @@ visit-now :
 unfolding visit was.visit
 visit-now go go′ same seen [] = refl
 visit-now go go′ same seen (p ∷ due) =
-    rw
-    (
+    rw (
       passes-map nowPair (samePair (nowPair p)) (was.samePair p) (samePair-now p) seen,
       visit-now go go′ same seen due,
       next-now p,
@@ -204,10 +209,12 @@ reached-now : (r s : was.Pattern) (starts : List was.Pair) → reached (now r) (
 unfolding reached was.reached
 reached-now r s starts = rw (count-now r s) (explore-now _ [] starts)
 
+-- some pair ends on both sides as before
 ends-now : (ps : List was.Pair) → somePasses bothEnd (map nowPair ps) ≡ somePasses was.bothEnd ps
 unfolding bothEnd was.bothEnd
 ends-now = passes-map nowPair bothEnd was.bothEnd (λ p. ap₂ _&&_ (nullable-now (p .0)) (nullable-now (p .1)))
 
+-- the same pairs to go on with
 onward-now :
     (f : Pattern → List Pair) (f′ : was.Pattern → List was.Pair)
     → ((r : was.Pattern) → f (now r) ≡ map nowPair (f′ r))
@@ -234,8 +241,7 @@ twoCuts-now r s =
     let u = was.reached r s ((r, r) ∷ []) in
     let x = was.reached r s (was.onward (λ p. was.nextPairs (p, s)) u) in
     let v = was.reached r s (was.onward (λ p. (p, s) ∷ []) x) in
-    rw
-    (
+    rw (
       reached-now r s ((r, r) ∷ []),
       onward-now (λ p. nextPairs (p, now s)) (λ p. was.nextPairs (p, s)) (λ p. next-now (p, s)) u,
       reached-now r s (was.onward (λ p. was.nextPairs (p, s)) u),
@@ -277,6 +283,7 @@ language-now side (was.union l m) = ap₂ alt (language-now side l) (language-no
 language-now side (was.repeat l) = ap star (language-now side l)
 language-now side (was.match n l) = language-now side l
 
+-- so the same texts belong to them
 in-now : (side : Side) (l : was.Lens) → matches (language side (nowLens l)) ≡ was.matches (was.language side l)
 in-now side l = ap matches (language-now side l) ∙ (λ i t. matches-now (was.language side l) t i)
 
@@ -287,6 +294,7 @@ cut-now :
 unfolding cutAt was.cutAt
 cut-now side l m = λ i t. least (length t) (λ j. in-now side l i (take j t) && in-now side m i (drop j t))
 
+-- and into the same parts
 within-now : (n : ℕ) (r : was.Pattern) (t : Text) → partsWithin n (now r) t ≡ was.partsWithin n r t
 unfolding partsWithin was.partsWithin now
 within-now zero r t = refl
@@ -353,6 +361,7 @@ write-now (was.repeat l) old a b =
     λ i. writeParts (λ o t c. write-now l o t c i) (orElse [] (apply (parts-now source l i) old)) (parts-now sheet l i a) b
 write-now (was.match n l) old a b = λ i. writeMatch (λ o t c. write-now l o t c i) a (takeEntry n (key-now l a i) b)
 
+-- a put meets the same matches
 met-now : (l : was.Lens) (old : Option Text) (a : Text) → met (nowLens l) old a ≡ was.met l old a
 unfolding met was.met nowLens
 met-now (was.copy r) old a = refl
@@ -373,6 +382,7 @@ met-now (was.match n l) old a = λ i. record { child = n; key-text = key-now l a
 
 -- ---- Kinds and trees
 
+-- a kind of before, and a tree, today
 unfoldable pub nowKind : was.Kind → Kind
 nowKind was.Word = Word
 nowKind was.Range = Range
@@ -401,6 +411,7 @@ kind-before [] (suc k) other = refl
 kind-before (x ∷ ks) zero other = refl
 kind-before (x ∷ ks) (suc k) other = kind-before ks k (λ e. other (ap suc e))
 
+-- so for the two lists of kinds
 kinds-at :
     (b : Bool) (low high : List was.Kind) (k j : ℕ)
     → ¬ (k ≡ length low)
@@ -461,6 +472,7 @@ word-now ts k = ap wordOf (tree-now ts k) ∙ go (was.treeAt ts k)
     go (was.lens l) = refl
     go was.broken = refl
 
+-- a row whose rule on the operands is kept makes the tree that it made
 provided-now : (b : Bool) {x : Option Tree} (o : Option was.Tree) → x ≡ apply nowTree o → provided b x ≡ nowTree (was.provided b o)
 unfolding provided was.provided nowTree orElse apply
 provided-now b o e = ap (provided b) e ∙ go b o
@@ -539,6 +551,7 @@ build-now bytes ts was.Match a b c = provided-now _ _ (one-now _ nowLens (λ l. 
 abbrev pub NoSets : List Node → Type 0
 NoSets = All (λ n. ¬ (n .kind ≡ 5))
 
+-- so does a kind byte that is known, and one that is not
 made-now :
     (bytes : Text) (ts : was.Trees) (a b c : ℕ) (o : Option was.Kind)
     → orElse broken (apply (λ k. build bytes (map nowTree ts) k a b c) (apply nowKind o))
@@ -567,6 +580,7 @@ trees-now bytes h = from-now (pool bytes) [] (nodes bytes) h
 
 -- ---- Sizes and positions
 
+-- a pattern's, a lens's and a tree's are what they were
 pub size-now : (r : was.Pattern) → patternSize (now r) ≡ was.patternSize r
 unfolding patternSize was.patternSize now
 size-now (was.word w) = refl
@@ -607,6 +621,7 @@ treePositions-now side was.broken = refl
 
 -- ---- The lines of the table of refusals
 
+-- a match stands where it stood
 holdsMatch-now : (l : was.Lens) → holdsMatch (nowLens l) ≡ was.holdsMatch l
 unfolding holdsMatch was.holdsMatch nowLens
 holdsMatch-now (was.copy r) = refl
@@ -653,6 +668,7 @@ unknown-now n other = ap (λ o. orElse true (apply (λ k. false) o)) (kind-now (
     go none = refl
     go (some k) = refl
 
+-- so the first round's lines hold where they held
 first-now : (k : ℕ) (ns : List Node) (ts : was.Trees) → NoSets ns → firstRound k ns (map nowTree ts) ≡ was.firstRound k ns ts
 unfolding firstRound was.firstRound
 first-now k [] ts h = refl
@@ -665,6 +681,7 @@ first-now k (n ∷ ns) (t ∷ ts) h =
     ∷ line 5 k (overLimit-now t i)
     ∷ first-now (suc k) ns ts (h .1) i
 
+-- the root is the lens that it was
 root-now : (bytes : Text) → NoSets (nodes bytes) → rootOf bytes ≡ apply nowLens (was.rootOf bytes)
 unfolding rootOf was.rootOf
 root-now bytes h = ap (λ ts. lensAt ts (nodeCount bytes - 1)) (trees-now bytes h) ∙ lens-now (was.trees bytes) (nodeCount bytes - 1)
@@ -699,6 +716,7 @@ typing-now k (was.repeat l) = λ i. line 10 k (bad source i) ∷ line 11 k (bad 
     bad side = ap badRepeat (language-now side l) ∙ badRepeat-now (was.language side l)
 typing-now k (was.match n l) = refl
 
+-- so the second round's hold where they held
 treeLines-now : (k : ℕ) (t : was.Tree) → treeLines k (nowTree t) ≡ was.treeLines k t
 unfolding treeLines was.treeLines nowTree
 treeLines-now k (was.pattern r) = refl
@@ -720,7 +738,8 @@ lines-now bytes h =
 
 -- ---- The calls
 
-nowAnswer : Answer was.Lens → Answer Lens
+-- a program that was accepted, or refused
+unfoldable pub nowAnswer : Answer was.Lens → Answer Lens
 nowAnswer (gives l) = gives (nowLens l)
 nowAnswer (refuses number node) = refuses number node
 
@@ -730,7 +749,8 @@ verdict-now (some l) root = refl
 verdict-now none none = refl
 verdict-now none (some l) = refl
 
-program-now : (bytes : Text) → NoSets (nodes bytes) → program bytes ≡ nowAnswer (was.program bytes)
+-- is accepted with the lens that it had, or refused as it was
+pub program-now : (bytes : Text) → NoSets (nodes bytes) → program bytes ≡ nowAnswer (was.program bytes)
 unfolding program was.program
 program-now bytes h =
     rw (lines-now bytes h, root-now bytes h) (verdict-now (firstThatHolds (was.lines bytes)) (was.rootOf bytes))
@@ -749,6 +769,7 @@ with-now {A} call call′ same bytes h = ap (λ p. withProgram p call) (program-
     go (gives l) = same l
     go (refuses number node) = refl
 
+-- what the calls ask of the root
 notOf-now : (side : Side) (l : was.Lens) (t : Text) → notOf side (nowLens l) t ≡ was.notOf side l t
 unfolding notOf was.notOf
 notOf-now side l t = λ i. not (in-now side l i t)
@@ -791,4 +812,13 @@ module _ (bytes : Text) (without : NoSets (nodes bytes)) where
     where
       go : (p : Answer was.Lens) → tallyOf (nowAnswer p) a old ≡ was.tallyOf p a old
       go (gives l) = tally-now l a old
+      go (refuses number node) = refl
+
+  -- and the line that `lenscheck` prints
+  pub line-as-before : lenscheckLine bytes ≡ was.lenscheckLine bytes
+  unfolding lenscheckLine was.lenscheckLine programLine was.programLine nowAnswer nowTree
+  line-as-before = ap (programLine bytes) (program-now bytes without) ∙ go (was.program bytes)
+    where
+      go : (p : Answer was.Lens) → programLine bytes (nowAnswer p) ≡ was.programLine bytes p
+      go (gives l) = rw (treePositions-now source (was.lens l), treePositions-now sheet (was.lens l))
       go (refuses number node) = refl
