@@ -7,12 +7,12 @@ use Prim.Native.Nat.{ℕ, zero, suc, _+_, _*_, _<_}
 use native.Mathlib.Omega.{arith}
 use lib.ListN.{take, drop}
 use Rattle.semantics.specs.Text.{Text, joined, All, Member}
-use Rattle.semantics.specs.Pattern.{Pattern, word, range, concat, alt, star, In}
+use Rattle.semantics.specs.Pattern.{Class, range, inRun, inClass, Pattern, word, oneOf, concat, alt, star, In}
 use Rattle.semantics.specs.Ambiguity.{TwoCuts, Overlap, TwoLists}
 use Rattle.semantics.specs.Lens.{Lens, join, union, repeat, Side, source, sheet, constLanguage, language}
-use Rattle.semantics.specs.Table.{at, Node, nodeAt, nodes, below, nodeCount, pool, two, Tree, pattern, lens, broken, Trees, patternOf, wordOf, treeAt, patternAt, lensAt, wordAt, trees}
-use Rattle.laws.specs.Basics.{all-append, map-member}
-use Rattle.laws.specs.Search.{range-of}
+use Rattle.semantics.specs.Table.{at, Node, nodeAt, nodes, below, nodeCount, pool, two, Tree, pattern, lens, broken, Trees, patternOf, wordOf, treeAt, patternAt, lensAt, wordAt, runsOf, setPart, trees}
+use Rattle.laws.specs.Basics.{all-append, all-at, map-member, passes-at}
+use Rattle.laws.specs.Classes.{run-of}
 use Rattle.laws.specs.NodeTrees.{Rows, at-has, trees-have, lens-tree}
 
 -- 'Texts are bytes.'
@@ -54,9 +54,32 @@ word-bytes : (w : Text) → All IsByte w → OfBytes (word w)
 unfolding In
 word-bytes w h t i = subst (All IsByte) (sym i) h
 
-range-bytes : (a b : ℕ) → IsByte b → OfBytes (range a b)
-unfolding In
-range-bytes a b h t (byte, e, i) = let inside = range-of a b byte i in subst (All IsByte) (sym e) (omega arith, tt)
+-- each run of the class ends with a byte
+abbrev RunsOfBytes : Class → Type 0
+RunsOfBytes = All (λ r. IsByte (r .last))
+
+class-bytes : (c : Class) → RunsOfBytes c → OfBytes (oneOf c)
+unfolding In inClass
+class-bytes c h t (byte, e, i) =
+    let (r, m, p) = passes-at (inRun byte) c i in
+    let inside = run-of r byte p in
+    let end : r .last < 256 = all-at (λ r. IsByte (r .last)) r c h m in
+    subst (All IsByte) (sym e) (omega arith, tt)
+
+range-bytes : (a b : ℕ) → IsByte b → OfBytes (oneOf (range a b))
+unfolding range
+range-bytes a b h = class-bytes _ (h, tt)
+
+-- the pairs of a text of bytes
+runs-bytes : (t : Text) → All IsByte t → RunsOfBytes (runsOf t)
+unfolding runsOf
+runs-bytes [] h = tt
+runs-bytes (first ∷ []) h = tt
+runs-bytes (first ∷ last ∷ more) h = (h .1 .0, runs-bytes more (h .1 .1))
+
+set-bytes : (bytes : Text) (a b c : ℕ) → All IsByte bytes → OfBytes (oneOf (setPart bytes a b c))
+unfolding setPart
+set-bytes bytes a b c h = class-bytes _ (runs-bytes _ (all-take IsByte (2 * c) _ (all-drop IsByte (two a b) bytes h)))
 
 module _ (r s : Pattern) (r-bytes : OfBytes r) (s-bytes : OfBytes s) where
   concat-bytes : OfBytes (concat r s)
@@ -106,7 +129,7 @@ module _ (ts : Trees) (all : All TreeBytes ts) where
     where
       go : (t : Tree) → TreeBytes t → wordOf t ≡ some w → OfBytes (word w)
       go (pattern (word v)) h e = let same : v ≡ w = cc in subst (λ x. OfBytes (word x)) same h
-      go (pattern (range a b)) h e = absurd (Option·none-ne-some w e)
+      go (pattern (oneOf c)) h e = absurd (Option·none-ne-some w e)
       go (pattern (concat r s)) h e = absurd (Option·none-ne-some w e)
       go (pattern (alt r s)) h e = absurd (Option·none-ne-some w e)
       go (pattern (star r)) h e = absurd (Option·none-ne-some w e)
@@ -119,6 +142,7 @@ module _ (ts : Trees) (all : All TreeBytes ts) where
       record {
         of-word = word-bytes _ (all-take IsByte c _ (all-drop IsByte (two a b) bytes own));
         of-range = range-bytes a b b-byte;
+        of-set = set-bytes bytes a b c own;
         of-patterns = λ r s p q. (concat-bytes r s (pattern-at a r p) (pattern-at b s q), alt-bytes r s (pattern-at a r p) (pattern-at b s q));
         of-pattern = λ r p. (star-bytes r (pattern-at a r p), λ side. pattern-at a r p, λ side. pattern-at a r p);
         of-const = λ r w d p q o. sides r w (pattern-at a r p) (word-at b w q);

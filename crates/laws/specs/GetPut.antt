@@ -11,7 +11,7 @@ use lib.Dec.{eqb}
 use lib.ListN.{length, take, drop, length-append}
 use borrow.Author.Tests.{eq-eqb}
 use Rattle.semantics.specs.Text.{Text, joined, All, orElse}
-use Rattle.semantics.specs.Pattern.{Pattern, word, range, concat, alt, star, In, matches}
+use Rattle.semantics.specs.Pattern.{Pattern, word, oneOf, concat, alt, star, In, matches}
 use Rattle.semantics.specs.Lens.{Lens, copy, const, key, join, union, repeat, match, source, sheet, language, constLanguage, cutAt, parts, Entry, Book, Written, andThen, writeParts, writeMatch, get, sameKey, entryOf, answers, keeping, takeEntry, entries, write}
 use Rattle.semantics.specs.Table.{holdsMatch, positions}
 use Rattle.laws.specs.Basics.{and-of, cond-true, sameText-refl, or-neither}
@@ -68,7 +68,7 @@ joined-empty law (p ∷ ps) all = rw length-append (omega (arith, law p (all .0)
 no-positions : (r : Pattern) (t : Text) → In r t → positions r ≡ 0 → length t ≡ 0
 unfolding In positions
 no-positions (word w) t e z = ap length e ∙ z
-no-positions (range first last) t i z = absurd (omega arith)
+no-positions (oneOf c) t i z = absurd (omega arith)
 no-positions (concat r s) t (u, v, e, i, j) z =
     let p : length u ≡ 0 = no-positions r u i (omega arith) in
     let q : length v ≡ 0 = no-positions s v j (omega arith) in

@@ -1,5 +1,6 @@
 -- What follows from the definitions. The files build on each other in this order.
 pub mod Basics
+pub mod Classes
 pub mod Membership
 pub mod Cuts
 pub mod States
@@ -23,3 +24,5 @@ pub mod Tally
 pub mod Refusals
 pub mod Checked
 pub mod Bytes
+pub mod Before
+pub mod WithoutSets

@@ -4,12 +4,8 @@ use mathlib.Core.Bool.{Bool, true, false, _&&_, cond, false≢true}
 use mathlib.Core.List.{List, [], _∷_, _++_, map, nil≢cons, cons≢nil, head-eq-of-cons-eq, tail-eq-of-cons-eq}
 use mathlib.Core.Logic.{_⊎_, inl, inr, _↔_, ⊎-elim, ⊎-map}
 use Prim.Native.Nat.{ℕ}
-use native.Mathlib.Omega.{arith}
-use native.Mathlib.Nat.{le-refl}
-use lib.Dec.{leb}
-use borrow.Author.Tests.{leb-true, le-leb}
 use Rattle.semantics.specs.Text.{Text, joined, All, Member}
-use Rattle.semantics.specs.Pattern.{Pattern, word, range, concat, alt, star, inRange, In, nullable, Head, before, heads, matches}
+use Rattle.semantics.specs.Pattern.{range, inClass, Pattern, word, oneOf, concat, alt, star, In, nullable, Head, before, heads, matches}
 use Rattle.laws.specs.Basics.{
   and-both,
   and-of,
@@ -25,6 +21,7 @@ use Rattle.laws.specs.Basics.{
   passes-at,
   passes-of,
 }
+use Rattle.laws.specs.Classes.{one-byte, only-byte}
 
 -- ---- The empty text
 
@@ -33,7 +30,7 @@ pub nullable-in : (r : Pattern) → nullable r ≡ true → In r []
 unfolding nullable In joined
 nullable-in (word []) e = refl
 nullable-in (word (c ∷ w)) e = absurd (false≢true e)
-nullable-in (range first last) e = absurd (false≢true e)
+nullable-in (oneOf k) e = absurd (false≢true e)
 nullable-in (concat r s) e = let h = and-both (nullable r) (nullable s) e in ([], [], refl, nullable-in r (h .0), nullable-in s (h .1))
 nullable-in (alt r s) e = ⊎-elim (λ p. inl (nullable-in r p)) (λ p. inr (nullable-in s p)) (or-either (nullable r) (nullable s) e)
 nullable-in (star r) e = ([], refl, tt)
@@ -48,7 +45,7 @@ pub in-nullable : (r : Pattern) → In r [] → nullable r ≡ true
 unfolding nullable In
 in-nullable (word []) i = refl
 in-nullable (word (c ∷ w)) i = absurd (nil≢cons i)
-in-nullable (range first last) i = absurd (nil≢cons (i .1))
+in-nullable (oneOf k) i = absurd (nil≢cons (i .1))
 in-nullable (concat r s) (u, v, e, i, j) =
     let h = empty-halves u v e in
     and-of (nullable r) (nullable s) (in-nullable r (rw (h .0) at i)) (in-nullable s (rw (h .1) at j))
@@ -58,23 +55,9 @@ in-nullable (star r) i = refl
 
 -- ---- The first byte
 
--- the range from a byte to itself holds that byte
-one-byte : (c : ℕ) → inRange c c c ≡ true
-unfolding inRange
-one-byte c = let e = le-leb c c (le-refl c) in and-of (leb c c) (leb c c) e e
-
--- and no other
-only-byte : (c d : ℕ) → inRange c c d ≡ true → d ≡ c
-unfolding inRange
-only-byte c d e =
-    let h = and-both (leb c d) (leb d c) e in
-    let p = leb-true c d (h .0) in
-    let q = leb-true d c (h .1) in
-    omega arith
-
 -- one of these ways reads the byte c and leaves the text t
 abbrev Reads : List Head → ℕ → Text → Type 0
-Reads hs c t = (h : Head) × Member h hs × (inRange (h .first) (h .last) c ≡ true) × In (h .rest) t
+Reads hs c t = (h : Head) × Member h hs × (inClass (h .class) c ≡ true) × In (h .rest) t
 
 -- one of these ways reads the byte c and leaves a first half of t, and the other half is a text of s
 abbrev ReadsThen : List Head → Pattern → ℕ → Text → Type 0
@@ -110,7 +93,7 @@ reads-in (word (d ∷ w)) c t (h, inl p, e, i) =
     let q = only-byte d c (rw p at e) in
     let rest : t ≡ w = rw p at i in
     cc
-reads-in (range first last) c t (h, inl p, e, i) =
+reads-in (oneOf k) c t (h, inl p, e, i) =
     let rest : t ≡ [] = rw p at i in
     (c, cc, rw p at e)
 reads-in (concat r s) c t m =
@@ -132,7 +115,7 @@ reads-in (star r) c t m =
 pub head-in :
     (r : Pattern) (h : Head) (c : ℕ) (t : Text)
     → Member h (heads r)
-    → inRange (h .first) (h .last) c ≡ true
+    → inClass (h .class) c ≡ true
     → In (h .rest) t
     → In r (c ∷ t)
 head-in r h c t m e i = reads-in r c t (h, m, e, i)
@@ -153,13 +136,13 @@ first-part r c t reads ((d ∷ u) ∷ ps) e (i, all) =
 
 -- each member that is not empty comes from a way to read its first byte
 pub in-head :
-    (r : Pattern) (c : ℕ) (t : Text) → In r (c ∷ t) → (h : Head) × Member h (heads r) × (inRange (h .first) (h .last) c ≡ true) × In (h .rest) t
+    (r : Pattern) (c : ℕ) (t : Text) → In r (c ∷ t) → (h : Head) × Member h (heads r) × (inClass (h .class) c ≡ true) × In (h .rest) t
 unfolding heads In
 in-head (word []) c t e = absurd (cons≢nil e)
 in-head (word (d ∷ w)) c t e =
-    (record { first = d; last = d; rest = word w }, inl refl, rw (head-eq-of-cons-eq e) (one-byte d), tail-eq-of-cons-eq e)
-in-head (range first last) c t (b, e, p) =
-    (record { first = first; last = last; rest = word [] }, inl refl, rw (head-eq-of-cons-eq e) p, tail-eq-of-cons-eq e)
+    (record { class = range d d; rest = word w }, inl refl, rw (head-eq-of-cons-eq e) (one-byte d), tail-eq-of-cons-eq e)
+in-head (oneOf k) c t (b, e, p) =
+    (record { class = k; rest = word [] }, inl refl, rw (head-eq-of-cons-eq e) p, tail-eq-of-cons-eq e)
 in-head (concat r s) c t ([], v, e, i, j) =
     reads-right
     (map (before s) (heads r))
@@ -185,8 +168,8 @@ pub matches-in : (r : Pattern) (t : Text) → matches r t ≡ true → In r t
 unfolding matches
 matches-in r [] e = nullable-in r e
 matches-in r (c ∷ t) e =
-    let (h, m, p) = passes-at (λ h. inRange (h .first) (h .last) c && matches (h .rest) t) (heads r) e in
-    let b = and-both (inRange (h .first) (h .last) c) (matches (h .rest) t) p in
+    let (h, m, p) = passes-at (λ h. inClass (h .class) c && matches (h .rest) t) (heads r) e in
+    let b = and-both (inClass (h .class) c) (matches (h .rest) t) p in
     head-in r h c t m (b .0) (matches-in (h .rest) t (b .1))
 
 -- and where the text belongs, the test is true
@@ -196,11 +179,11 @@ in-matches r [] i = in-nullable r i
 in-matches r (c ∷ t) i =
     let (h, m, e, j) = in-head r c t i in
     passes-of
-    (λ h. inRange (h .first) (h .last) c && matches (h .rest) t)
+    (λ h. inClass (h .class) c && matches (h .rest) t)
     h
     (heads r)
     m
-    (and-of (inRange (h .first) (h .last) c) (matches (h .rest) t) e (in-matches (h .rest) t j))
+    (and-of (inClass (h .class) c) (matches (h .rest) t) e (in-matches (h .rest) t j))
 
 -- both at once
 pub matches-iff : (r : Pattern) (t : Text) → (matches r t ≡ true) ↔ In r t

@@ -11,9 +11,9 @@ use lib.Seq.{getD-at}
 use lib.Dec.{ltb}
 use borrow.Author.Tests.{ltb-true, ltb-false}
 use Rattle.semantics.specs.Text.{Text, All, Member, orElse, apply, apply₂}
-use Rattle.semantics.specs.Pattern.{Pattern, word, range, concat, alt, star}
+use Rattle.semantics.specs.Pattern.{range, Pattern, word, oneOf, concat, alt, star}
 use Rattle.semantics.specs.Lens.{Lens, copy, const, key, join, union, repeat, match}
-use Rattle.semantics.specs.Table.{Node, nodeAt, nodeCount, nodes, below, pool, two, Kind, Word, Range, PatternJoin, PatternUnion, PatternRepeat, Copy, Const, Key, LensJoin, LensUnion, LensRepeat, Match, Tree, pattern, lens, broken, Trees, lensOf, treeAt, patternAt, lensAt, wordAt, provided, build, treeOf, treesFrom, trees}
+use Rattle.semantics.specs.Table.{Node, nodeAt, nodeCount, nodes, below, pool, two, Kind, Word, Range, PatternJoin, PatternUnion, PatternRepeat, Set, Copy, Const, Key, LensJoin, LensUnion, LensRepeat, Match, Tree, pattern, lens, broken, Trees, lensOf, treeAt, patternAt, lensAt, wordAt, provided, setPart, build, treeOf, treesFrom, trees}
 use Rattle.laws.specs.Basics.{bool-cases, all-at, all-of, all-append}
 
 -- ---- What holds of each tree that is made holds of all
@@ -21,7 +21,8 @@ use Rattle.laws.specs.Basics.{bool-cases, all-at, all-of, all-append}
 -- P holds of what each row of the table of kinds makes
 pub record Rows (P : Tree → Type 0) (pool : Text) (ts : Trees) (a b c : ℕ) : Type 0 where
   pub of-word : P (pattern (word (take c (drop (two a b) pool))))
-  pub of-range : P (pattern (range a b))
+  pub of-range : P (pattern (oneOf (range a b)))
+  pub of-set : P (pattern (oneOf (setPart pool a b c)))
   pub of-patterns : (r s : Pattern) → patternAt ts a ≡ some r → patternAt ts b ≡ some s → P (pattern (concat r s)) × P (pattern (alt r s))
   pub of-pattern : (r : Pattern) → patternAt ts a ≡ some r → P (pattern (star r)) × P (lens (copy r)) × P (lens (key r))
   pub of-const : (r : Pattern) (w d : Text) → patternAt ts a ≡ some r → wordAt ts b ≡ some w → wordAt ts c ≡ some d → P (lens (const r w d))
@@ -78,6 +79,7 @@ module _ (P : Tree → Type 0) (of-broken : P broken) where
   build-has pool ts PatternJoin a b c rows = provided-has _ _ (apply₂-has _ _ _ (λ r s p q. rows .of-patterns r s p q .0))
   build-has pool ts PatternUnion a b c rows = provided-has _ _ (apply₂-has _ _ _ (λ r s p q. rows .of-patterns r s p q .1))
   build-has pool ts PatternRepeat a b c rows = provided-has _ _ (apply-has _ _ (λ r p. rows .of-pattern r p .0))
+  build-has pool ts Set a b c rows = provided-has _ _ (rows .of-set)
   build-has pool ts Copy a b c rows = provided-has _ _ (apply-has _ _ (λ r p. rows .of-pattern r p .1))
   build-has pool ts Const a b c rows = provided-has _ _ (const-has _ _ _ (rows .of-const))
   build-has pool ts Key a b c rows = provided-has _ _ (apply-has _ _ (λ r p. rows .of-pattern r p .2))
@@ -182,6 +184,7 @@ rows-made pool ts a b c =
     record {
       of-word = tt;
       of-range = tt;
+      of-set = tt;
       of-patterns = λ r s p q. (tt, tt);
       of-pattern = λ r p. (tt, tt, tt);
       of-const = λ r w d p q o. tt;

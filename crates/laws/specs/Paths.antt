@@ -12,14 +12,13 @@ use lib.Dec.{ltb}
 use lib.ListN.{length, take, drop, take-append-drop}
 use borrow.Author.Tests.{ltb-true, ltb-false}
 use Rattle.semantics.specs.Text.{Text}
-use Rattle.semantics.specs.Pattern.{Pattern, concat, alt, star, In, nullable}
+use Rattle.semantics.specs.Pattern.{Class, Pattern, concat, alt, star, In, nullable}
 use Rattle.semantics.specs.Table.{positions}
 use Rattle.laws.specs.Basics.{bool-cases, not-both, and-both, and-of, or-either, or-left, or-right, cond-true, cond-false}
 use Rattle.laws.specs.Membership.{nullable-in, in-nullable}
 use Rattle.laws.specs.PositionAutomaton.{
   split,
-  lowAt,
-  highAt,
+  classAt,
   standsAt,
   firstAt,
   lastAt,
@@ -241,18 +240,17 @@ closed-from {whole} {to = to} base base′ inside shift i p e h (q ∷ path) (c 
 
 -- the second of two patterns is closed in a whole that splits at the first one's positions
 second-inside :
-    {whole s : Pattern} (n : ℕ) (low high : ℕ → ℕ) (rest : ℕ → Pattern) (last : ℕ → Bool) (follow : ℕ → ℕ → Bool)
+    {whole s : Pattern} (n : ℕ) (class : ℕ → Class) (rest : ℕ → Pattern) (last : ℕ → Bool) (follow : ℕ → ℕ → Bool)
     → positions whole ≡ n + positions s
-    → ((p : ℕ) → lowAt whole p ≡ split n low (lowAt s) p)
-    → ((p : ℕ) → highAt whole p ≡ split n high (highAt s) p)
+    → ((p : ℕ) → classAt whole p ≡ split n class (classAt s) p)
     → ((p : ℕ) → restAt whole p ≡ split n rest (restAt s) p)
     → ((p : ℕ) → lastAt whole p ≡ split n last (lastAt s) p)
     → ((p q : ℕ) → followAt whole p q ≡ split n (λ i. follow i q) (λ i. split n (λ j. false) (followAt s i) q) p)
     → Inside whole s (λ p. n + p)
 unfolding standsAt
-second-inside {whole} {s} n low high rest last follow size lows highs rests lasts follows =
+second-inside {whole} {s} n class rest last follow size classes rests lasts follows =
     record {
-      same = λ p c h. simp (lows, highs, split-right);
+      same = λ p c h. simp (classes, split-right);
       rest = λ p h. rests (n + p) ∙ split-right n rest (restAt s) p;
       last = λ p h. lasts (n + p) ∙ split-right n last (lastAt s) p;
       follow = λ p q h k. simp (follows, split-right);
@@ -269,12 +267,11 @@ second-inside {whole} {s} n low high rest last follow size lows highs rests last
 
 -- so is the second half of a join, the second arm of a union, and the first
 join-second : (r s : Pattern) → Inside (concat r s) s (λ p. positions r + p)
-unfolding positions lowAt highAt restAt lastAt followAt
+unfolding positions classAt restAt lastAt followAt
 join-second r s =
     second-inside
     (positions r)
-    (lowAt r)
-    (highAt r)
+    (classAt r)
     (λ q. concat (restAt r q) s)
     (λ q. nullable s && lastAt r q)
     (λ i. split (positions r) (followAt r i) (λ j. lastAt r i && firstAt s j))
@@ -282,16 +279,14 @@ join-second r s =
     (λ p. refl)
     (λ p. refl)
     (λ p. refl)
-    (λ p. refl)
     (λ p q. refl)
 
 union-second : (r s : Pattern) → Inside (alt r s) s (λ p. positions r + p)
-unfolding positions lowAt highAt restAt lastAt followAt
+unfolding positions classAt restAt lastAt followAt
 union-second r s =
     second-inside
     (positions r)
-    (lowAt r)
-    (highAt r)
+    (classAt r)
     (restAt r)
     (lastAt r)
     (λ i. split (positions r) (followAt r i) (λ j. false))
@@ -299,11 +294,10 @@ union-second r s =
     (λ p. refl)
     (λ p. refl)
     (λ p. refl)
-    (λ p. refl)
     (λ p q. refl)
 
 union-first : (r s : Pattern) → Inside (alt r s) r (λ p. p)
-unfolding positions standsAt lowAt highAt restAt lastAt followAt
+unfolding positions standsAt classAt restAt lastAt followAt
 union-first r s =
     record {
       same = λ p c h. simp split-left;
@@ -399,12 +393,12 @@ record Begins (whole r s : Pattern) : Type 0 where
 
 -- so a join begins with its first half, and a repeat with a part, behind which the repeat comes again
 join-begins : (r s : Pattern) → Begins (concat r s) r s
-unfolding standsAt lowAt highAt restAt
+unfolding standsAt classAt restAt
 join-begins r s =
     record { same = λ p c h. simp split-left; rest = split-left (positions r) (λ q. concat (restAt r q) s) (restAt s) }
 
 repeat-begins : (r : Pattern) → Begins (star r) r (star r)
-unfolding standsAt lowAt highAt restAt
+unfolding standsAt classAt restAt
 repeat-begins r = record { same = λ p c h. refl; rest = λ p h. refl }
 
 -- two texts side by side belong to a join

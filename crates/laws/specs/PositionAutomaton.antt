@@ -12,7 +12,7 @@ use lib.ListN.{length, drop, getD, drop-of-length-le}
 use lib.Seq.{drop-cons}
 use borrow.Author.Tests.{ltb-true, ltb-false, lt-ltb, le-ltb, eqb-true, eq-eqb, ne-eqb}
 use Rattle.semantics.specs.Text.{Text, Member}
-use Rattle.semantics.specs.Pattern.{Pattern, word, range, concat, alt, star, inRange, In, nullable, Head, before, heads}
+use Rattle.semantics.specs.Pattern.{Class, range, inClass, Pattern, word, oneOf, concat, alt, star, In, nullable, Head, before, heads}
 use Rattle.semantics.specs.Table.{positions}
 use Rattle.laws.specs.Basics.{
   bool-cases,
@@ -35,29 +35,22 @@ use Rattle.laws.specs.Membership.{nullable-in, in-nullable, head-in, in-
 unfoldable pub split : {A : Type 0} → ℕ → (ℕ → A) → (ℕ → A) → ℕ → A
 split n f g p = cond (ltb p n) (f p) (g (p - n))
 
--- the first and the last byte of the range of a position
-unfoldable pub lowAt : Pattern → ℕ → ℕ
-lowAt (word w) p = getD w p 0
-lowAt (range first last) p = first
-lowAt (concat r s) p = split (positions r) (lowAt r) (lowAt s) p
-lowAt (alt r s) p = split (positions r) (lowAt r) (lowAt s) p
-lowAt (star r) p = lowAt r p
-
-unfoldable pub highAt : Pattern → ℕ → ℕ
-highAt (word w) p = getD w p 0
-highAt (range first last) p = last
-highAt (concat r s) p = split (positions r) (highAt r) (highAt s) p
-highAt (alt r s) p = split (positions r) (highAt r) (highAt s) p
-highAt (star r) p = highAt r p
+-- the class of a position
+unfoldable pub classAt : Pattern → ℕ → Class
+classAt (word w) p = range (getD w p 0) (getD w p 0)
+classAt (oneOf c) p = c
+classAt (concat r s) p = split (positions r) (classAt r) (classAt s) p
+classAt (alt r s) p = split (positions r) (classAt r) (classAt s) p
+classAt (star r) p = classAt r p
 
 -- 'byte c may stand at position p'
 unfoldable pub standsAt : Pattern → ℕ → ℕ → Bool
-standsAt r p c = inRange (lowAt r p) (highAt r p) c
+standsAt r p c = inClass (classAt r p) c
 
 -- the positions at which a text can begin
 unfoldable pub firstAt : Pattern → ℕ → Bool
 firstAt (word w) p = eqb p 0 && ltb 0 (length w)
-firstAt (range first last) p = eqb p 0
+firstAt (oneOf c) p = eqb p 0
 firstAt (concat r s) p = split (positions r) (firstAt r) (λ q. nullable r && firstAt s q) p
 firstAt (alt r s) p = split (positions r) (firstAt r) (firstAt s) p
 firstAt (star r) p = firstAt r p
@@ -65,7 +58,7 @@ firstAt (star r) p = firstAt r p
 -- those at which it can end
 unfoldable pub lastAt : Pattern → ℕ → Bool
 lastAt (word w) p = eqb (p + 1) (length w)
-lastAt (range first last) p = eqb p 0
+lastAt (oneOf c) p = eqb p 0
 lastAt (concat r s) p = split (positions r) (λ q. nullable s && lastAt r q) (lastAt s) p
 lastAt (alt r s) p = split (positions r) (lastAt r) (lastAt s) p
 lastAt (star r) p = lastAt r p
@@ -73,7 +66,7 @@ lastAt (star r) p = lastAt r p
 -- and those that may follow position p
 unfoldable pub followAt : Pattern → ℕ → ℕ → Bool
 followAt (word w) p q = eqb q (p + 1) && ltb q (length w)
-followAt (range first last) p q = false
+followAt (oneOf c) p q = false
 followAt (concat r s) p q =
     split (positions r) (λ i. split (positions r) (followAt r i) (λ j. lastAt r i && firstAt s j) q) (λ i. split (positions r) (λ j. false) (followAt s i) q) p
 followAt (alt r s) p q =
@@ -83,7 +76,7 @@ followAt (star r) p q = followAt r p q || lastAt r p && firstAt r q
 -- what may stand behind position p
 unfoldable pub restAt : Pattern → ℕ → Pattern
 restAt (word w) p = word (drop (p + 1) w)
-restAt (range first last) p = word []
+restAt (oneOf c) p = word []
 restAt (concat r s) p = split (positions r) (λ q. concat (restAt r q) s) (restAt s) p
 restAt (alt r s) p = split (positions r) (restAt r) (restAt s) p
 restAt (star r) p = concat (restAt r p) (star r)
@@ -155,7 +148,7 @@ nullable-rest (word w) p h =
     (p + 1)
     (λ k e. rw e (sym (ne-eqb (p + 1) (length w) (λ q. omega arith))))
     (λ k e. rw e (sym (eq-eqb (p + 1) (length w) (omega arith))))
-nullable-rest (range first last) p h = sym (eq-eqb p 0 (omega arith))
+nullable-rest (oneOf c) p h = sym (eq-eqb p 0 (omega arith))
 nullable-rest (concat r s) p h =
     halves
     (positions r)
@@ -178,7 +171,7 @@ last-law r p h =
 
 -- position p as a way to read a first byte
 headAt : Pattern → ℕ → Head
-headAt r p = record { first = lowAt r p; last = highAt r p; rest = restAt r p }
+headAt r p = record { class = classAt r p; rest = restAt r p }
 
 -- The ways in the list are those of the positions below n that `may` allows.
 record WaysAt (hs : List Head) (n : ℕ) (may : ℕ → Bool) (way : ℕ → Head) : Type 0 where
@@ -268,27 +261,22 @@ split-ways :
     (n : ℕ) (f g : ℕ → Head)
     → _≡_
     {A = ℕ → Head}
-    (λ p. record { first = split n (λ q. f q .first) (λ q. g q .first) p; last = split n (λ q. f q .last) (λ q. g q .last) p; rest = split n (λ q. f q .rest) (λ q. g q .rest) p })
+    (λ p. record { class = split n (λ q. f q .class) (λ q. g q .class) p; rest = split n (λ q. f q .rest) (λ q. g q .rest) p })
     (split n f g)
 split-ways n f g =
-    λ i p.
-    record {
-      first = split-map (λ h. h .first) n f g p i;
-      last = split-map (λ h. h .last) n f g p i;
-      rest = split-map (λ h. h .rest) n f g p i;
-    }
+    λ i p. record { class = split-map (λ h. h .class) n f g p i; rest = split-map (λ h. h .rest) n f g p i }
 
 -- the ways of a pattern's positions, from those of its children
 ways-concat : (r s : Pattern) → headAt (concat r s) ≡ split (positions r) (λ p. before s (headAt r p)) (headAt s)
-unfolding headAt before lowAt highAt restAt
+unfolding headAt before classAt restAt
 ways-concat r s = split-ways (positions r) (λ p. before s (headAt r p)) (headAt s)
 
 ways-alt : (r s : Pattern) → headAt (alt r s) ≡ split (positions r) (headAt r) (headAt s)
-unfolding headAt lowAt highAt restAt
+unfolding headAt classAt restAt
 ways-alt r s = split-ways (positions r) (headAt r) (headAt s)
 
 ways-star : (r : Pattern) → headAt (star r) ≡ (λ p. before (star r) (headAt r p))
-unfolding headAt before lowAt highAt restAt
+unfolding headAt before classAt restAt
 ways-star r = refl
 
 -- what is left of a word from k on begins at position k, unless the word ends there
@@ -297,14 +285,14 @@ word-ways :
     → (k < length w → may k ≡ true)
     → ((q : ℕ) → may q ≡ true → q ≡ k)
     → WaysAt (heads (word (drop k w))) (length w) may (headAt (word w))
-unfolding headAt heads lowAt highAt restAt
+unfolding headAt heads classAt restAt
 word-ways w k may allowed only =
     word-rest w k (λ h e. rw e (one k h (allowed h) only)) (λ h e. rw e (none (λ p a l. omega (arith, only p a))))
 
--- a range has one way, at its one position
-range-ways : (first last : ℕ) → WaysAt (heads (range first last)) 1 (λ p. eqb p 0) (headAt (range first last))
-unfolding heads headAt lowAt highAt restAt
-range-ways first last = one 0 (omega arith) refl (λ q e. eqb-true q 0 e)
+-- a class has one way, at its one position
+class-ways : (c : Class) → WaysAt (heads (oneOf c)) 1 (λ p. eqb p 0) (headAt (oneOf c))
+unfolding heads headAt classAt restAt
+class-ways c = one 0 (omega arith) refl (λ q e. eqb-true q 0 e)
 
 -- ---- The first byte of a text, and the next byte behind a position
 
@@ -313,7 +301,7 @@ first-ways : (r : Pattern) → WaysAt (heads r) (positions r) (firstAt r) (headA
 unfolding heads positions firstAt
 first-ways (word w) =
     word-ways w 0 (firstAt (word w)) (lt-ltb 0 (length w)) (λ q e. eqb-true q 0 (and-both (eqb q 0) (ltb 0 (length w)) e .0))
-first-ways (range first last) = range-ways first last
+first-ways (oneOf c) = class-ways c
 first-ways (concat r s) = rw ways-concat (beside (then s (first-ways r)) (under (nullable r) (first-ways s)))
 first-ways (alt r s) = rw ways-alt (beside (first-ways r) (first-ways s))
 first-ways (star r) = rw ways-star (then (star r) (first-ways r))
@@ -333,9 +321,9 @@ follow-word w p h =
     (λ l. and-of (eqb (p + 1) (p + 1)) (ltb (p + 1) (length w)) (eq-eqb (p + 1) (p + 1) refl) (lt-ltb (p + 1) (length w) l))
     (λ q e. eqb-true q (p + 1) (and-both (eqb q (p + 1)) (ltb q (length w)) e .0))
 
-follow-range : (first last : ℕ) → Follows (range first last)
+follow-class : (c : Class) → Follows (oneOf c)
 unfolding heads restAt followAt
-follow-range first last p h = none (λ q e l. false≢true e)
+follow-class c p h = none (λ q e l. false≢true e)
 
 -- of two patterns, s the second: none of the first's positions follows one of s
 follow-two :
@@ -396,7 +384,7 @@ follow-star r follow p h =
 -- and so for every pattern
 follow-ways : (r : Pattern) → Follows r
 follow-ways (word w) = follow-word w
-follow-ways (range first last) = follow-range first last
+follow-ways (oneOf c) = follow-class c
 follow-ways (concat r s) = follow-concat r s (follow-ways r) (follow-ways s)
 follow-ways (alt r s) = follow-alt r s (follow-ways r) (follow-ways s)
 follow-ways (star r) = follow-star r (follow-ways r)
@@ -440,7 +428,7 @@ unfolding firstAt positions
 first-within (word w) p e =
     let h = and-both (eqb p 0) (ltb 0 (length w)) e in
     omega (arith, eqb-true p 0 (h .0), ltb-true 0 (length w) (h .1))
-first-within (range first last) p e = omega (arith, eqb-true p 0 e)
+first-within (oneOf c) p e = omega (arith, eqb-true p 0 e)
 first-within (concat r s) p e =
     split-within
     (positions r)
@@ -456,7 +444,7 @@ first-within (star r) p e = first-within r p e
 pub last-within : (r : Pattern) (p : ℕ) → lastAt r p ≡ true → p < positions r
 unfolding lastAt positions
 last-within (word w) p e = omega (arith, eqb-true (p + 1) (length w) e)
-last-within (range first last) p e = omega (arith, eqb-true p 0 e)
+last-within (oneOf c) p e = omega (arith, eqb-true p 0 e)
 last-within (concat r s) p e =
     split-within (positions r) (positions s) (λ q. nullable s && lastAt r q) (lastAt s) (last-within s) p e
 last-within (alt r s) p e = split-within (positions r) (positions s) (lastAt r) (lastAt s) (last-within s) p e
@@ -483,7 +471,7 @@ two-within n m first cross second over within p q =
 pub follow-within : (r : Pattern) (p q : ℕ) → followAt r p q ≡ true → q < positions r
 unfolding followAt positions
 follow-within (word w) p q e = ltb-true q (length w) (and-both (eqb q (p + 1)) (ltb q (length w)) e .1)
-follow-within (range first last) p q e = absurd (false≢true e)
+follow-within (oneOf c) p q e = absurd (false≢true e)
 follow-within (concat r s) p q e =
     two-within
     (positions r)

@@ -3,15 +3,14 @@ use mathlib.Core.Path.{_≡_, refl, sym, ap, subst}
 use mathlib.Core.Bool.{Bool, true, false, cond}
 use mathlib.Core.List.{List, [], _∷_, _++_, map, append-nil}
 use mathlib.Core.Logic.{inl, inr, ⊎-elim}
-use Prim.Native.Nat.{ℕ, zero, suc, _+_, _*_, _≤_, _<_, max, min}
+use Prim.Native.Nat.{ℕ, zero, suc, _+_, _*_, _≤_, _<_}
 use native.Mathlib.Omega.{arith}
-use lib.Dec.{leb}
 use lib.ListN.{length, length-append, length-map}
-use borrow.Author.Tests.{leb-true, le-leb}
 use Rattle.semantics.specs.Text.{Text, joined, somePasses, All, Member, Different}
-use Rattle.semantics.specs.Pattern.{Pattern, inRange, In, Head, heads}
+use Rattle.semantics.specs.Pattern.{inClass, Pattern, In, Head, heads}
 use Rattle.semantics.specs.Ambiguity.{Pair, shareByte, nextPairs, samePair, visit, explore, states, reached}
-use Rattle.laws.specs.Basics.{bool-cases, not-both, and-both, and-of, member-left, member-right, member-append, all-at, all-of, all-append, passes-at, passes-of, member-map}
+use Rattle.laws.specs.Basics.{bool-cases, not-both, member-left, member-right, member-append, all-at, all-of, all-append, passes-at, passes-of, member-map}
+use Rattle.laws.specs.Classes.{shared-byte, byte-shared}
 use Rattle.laws.specs.Membership.{head-in, in-head}
 use Rattle.laws.specs.States.{member-one, member-cond, cond-member, member-joined-map, joined-map-member, samePair-eq, samePair-refl, states-closed}
 
@@ -61,36 +60,11 @@ module _ {A B : Type 0} where
 
 -- the byte c leads from p to q
 abbrev Leads : Pattern → ℕ → Pattern → Type 0
-Leads p c q = (h : Head) × Member h (heads p) × (inRange (h .first) (h .last) c ≡ true) × (q ≡ h .rest)
-
-in-range : (a b c : ℕ) → a ≤ c → c ≤ b → inRange a b c ≡ true
-unfolding inRange
-in-range a b c p q = and-of (leb a c) (leb c b) (le-leb a c p) (le-leb c b q)
-
-pub range-of : (a b c : ℕ) → inRange a b c ≡ true → (a ≤ c) × (c ≤ b)
-unfolding inRange
-range-of a b c e = let h = and-both (leb a c) (leb c b) e in (leb-true a c (h .0), leb-true c b (h .1))
-
--- The greater of the two first bytes lies in both ranges, if any byte does.
-share-byte :
-    (h k : Head)
-    → shareByte h k ≡ true
-    → (inRange (h .first) (h .last) (max (h .first) (k .first)) ≡ true) × (inRange (k .first) (k .last) (max (h .first) (k .first)) ≡ true)
-unfolding shareByte
-share-byte h k e =
-    let l = leb-true (max (h .first) (k .first)) (min (h .last) (k .last)) e in
-    (in-range _ _ _ (omega arith) (omega arith), in-range _ _ _ (omega arith) (omega arith))
-
-byte-shared : (h k : Head) (c : ℕ) → inRange (h .first) (h .last) c ≡ true → inRange (k .first) (k .last) c ≡ true → shareByte h k ≡ true
-unfolding shareByte
-byte-shared h k c p q =
-    let i = range-of (h .first) (h .last) c p in
-    let j = range-of (k .first) (k .last) c q in
-    le-leb (max (h .first) (k .first)) (min (h .last) (k .last)) (omega arith)
+Leads p c q = (h : Head) × Member h (heads p) × (inClass (h .class) c ≡ true) × (q ≡ h .rest)
 
 -- the next pairs by one way to read the byte on the left, and by one on each side
 abbrev nextBy : Head → Head → List Pair
-nextBy h k = cond (shareByte h k) ((h .rest, k .rest) ∷ []) []
+nextBy h k = cond (shareByte (h .class) (k .class)) ((h .rest, k .rest) ∷ []) []
 
 abbrev nextFrom : Pattern → Head → List Pair
 nextFrom q h = joined (map (nextBy h) (heads q))
@@ -101,17 +75,17 @@ unfolding nextPairs
 next-leads a b m =
     let (h, i, n) = joined-map-member (nextFrom (a .1)) b (heads (a .0)) m in
     let (k, j, o) = joined-map-member (nextBy h) b (heads (a .1)) n in
-    let (e, l) = member-cond (shareByte h k) b ((h .rest, k .rest) ∷ []) o in
-    let (p, q) = share-byte h k e in
+    let (e, l) = member-cond (shareByte (h .class) (k .class)) b ((h .rest, k .rest) ∷ []) o in
+    let (c, p, q) = shared-byte (h .class) (k .class) e in
     let ends = member-one b (h .rest, k .rest) l in
-    (max (h .first) (k .first), (h, i, p, ap (λ x. x .0) ends), (k, j, q, ap (λ x. x .1) ends))
+    (c, (h, i, p, ap (λ x. x .0) ends), (k, j, q, ap (λ x. x .1) ends))
 
 leads-next : (a b : Pair) (c : ℕ) → Leads (a .0) c (b .0) → Leads (a .1) c (b .1) → Member b (nextPairs a)
 unfolding nextPairs
 leads-next a b c left right =
     let (h, i, p, d) = left in
     let (k, j, q, e) = right in
-    let here = cond-member (shareByte h k) b ((h .rest, k .rest) ∷ []) (byte-shared h k c p q) (inl (λ t. (d t, e t))) in
+    let here = cond-member (shareByte (h .class) (k .class)) b ((h .rest, k .rest) ∷ []) (byte-shared (h .class) (k .class) c p q) (inl (λ t. (d t, e t))) in
     member-joined-map (nextFrom (a .1)) h b (heads (a .0)) i (member-joined-map (nextBy h) k b (heads (a .1)) j here)
 
 leads-in : (p : Pattern) (c : ℕ) (q : Pattern) → Leads p c q → (t : Text) → In q t → In p (c ∷ t)

@@ -3,13 +3,11 @@ use mathlib.Core.Path.{_≡_, refl, ap, ap₂, subst}
 use mathlib.Core.Bool.{Bool, true, false, _&&_, cond, false≢true}
 use mathlib.Core.List.{List, [], _∷_, _++_, map}
 use mathlib.Core.Logic.{inl, inr, ⊎-elim}
-use Prim.Native.Nat.{ℕ}
-use lib.Dec.{eqb}
-use borrow.Author.Tests.{eqb-true, eq-eqb}
 use Rattle.semantics.specs.Text.{Text, joined, Member}
-use Rattle.semantics.specs.Pattern.{Pattern, word, range, concat, alt, star, nullable, Head, before, heads}
+use Rattle.semantics.specs.Pattern.{Class, Pattern, word, oneOf, concat, alt, star, nullable, Head, before, heads}
 use Rattle.semantics.specs.Ambiguity.{Pair, samePattern, samePair, wordRests, rests, states}
 use Rattle.laws.specs.Basics.{and-both, and-of, sameText-eq, sameText-refl, member-left, member-right, member-append, member-joined, joined-member, member-map, map-member}
+use Rattle.laws.specs.Classes.{sameClass-eq, sameClass-refl}
 
 -- ---- Lists
 
@@ -51,19 +49,19 @@ both-eq {a = a} {b = b} e f g = let h = and-both a b e in (f (h .0), g (h .1))
 
 samePattern-eq : (p q : Pattern) → samePattern p q ≡ true → p ≡ q
 unfolding samePattern
-samePattern-eq (word w) q = elim q [ word v ↦ λ e. ap word (sameText-eq w v e) | range c d ↦ never | concat r s ↦ never | alt r s ↦ never | star r ↦ never ]
-samePattern-eq (range a b) q =
-    elim q [ word v ↦ never | range c d ↦ λ e. two range (both-eq e (eqb-true a c) (eqb-true b d)) | concat r s ↦ never | alt r s ↦ never | star r ↦ never ]
+samePattern-eq (word w) q = elim q [ word v ↦ λ e. ap word (sameText-eq w v e) | oneOf d ↦ never | concat r s ↦ never | alt r s ↦ never | star r ↦ never ]
+samePattern-eq (oneOf c) q =
+    elim q [ word v ↦ never | oneOf d ↦ λ e. ap oneOf (sameClass-eq c d e) | concat r s ↦ never | alt r s ↦ never | star r ↦ never ]
 samePattern-eq (concat x y) q =
-    elim q [ word v ↦ never | range c d ↦ never | concat r s ↦ λ e. two concat (both-eq e (samePattern-eq x r) (samePattern-eq y s)) | alt r s ↦ never | star r ↦ never ]
+    elim q [ word v ↦ never | oneOf d ↦ never | concat r s ↦ λ e. two concat (both-eq e (samePattern-eq x r) (samePattern-eq y s)) | alt r s ↦ never | star r ↦ never ]
 samePattern-eq (alt x y) q =
-    elim q [ word v ↦ never | range c d ↦ never | concat r s ↦ never | alt r s ↦ λ e. two alt (both-eq e (samePattern-eq x r) (samePattern-eq y s)) | star r ↦ never ]
-samePattern-eq (star x) q = elim q [ word v ↦ never | range c d ↦ never | concat r s ↦ never | alt r s ↦ never | star r ↦ λ e. ap star (samePattern-eq x r e) ]
+    elim q [ word v ↦ never | oneOf d ↦ never | concat r s ↦ never | alt r s ↦ λ e. two alt (both-eq e (samePattern-eq x r) (samePattern-eq y s)) | star r ↦ never ]
+samePattern-eq (star x) q = elim q [ word v ↦ never | oneOf d ↦ never | concat r s ↦ never | alt r s ↦ never | star r ↦ λ e. ap star (samePattern-eq x r e) ]
 
 samePattern-refl : (p : Pattern) → samePattern p p ≡ true
 unfolding samePattern
 samePattern-refl (word w) = sameText-refl w
-samePattern-refl (range a b) = and-of (eqb a a) (eqb b b) (eq-eqb a a refl) (eq-eqb b b refl)
+samePattern-refl (oneOf c) = sameClass-refl c
 samePattern-refl (concat x y) = and-of (samePattern x x) (samePattern y y) (samePattern-refl x) (samePattern-refl y)
 samePattern-refl (alt x y) = and-of (samePattern x x) (samePattern y y) (samePattern-refl x) (samePattern-refl y)
 samePattern-refl (star x) = samePattern-refl x
@@ -91,10 +89,10 @@ word-closed [] q h (inl e) m = absurd (heads-of h e m)
 word-closed (c ∷ w) q h (inl e) m = inl (ap (λ k. k .rest) (member-one h _ (heads-of h e m)))
 word-closed (c ∷ w) q h (inr n) m = inr (word-closed w q h n m)
 
-range-closed : (a b : ℕ) → Closed (range a b)
+class-closed : (c : Class) → Closed (oneOf c)
 unfolding states rests heads
-range-closed a b q h (inl e) m = inl (ap (λ k. k .rest) (member-one h _ (heads-of h e m)))
-range-closed a b q h (inr (inl e)) m = absurd (heads-of h e m)
+class-closed c q h (inl e) m = inl (ap (λ k. k .rest) (member-one h _ (heads-of h e m)))
+class-closed c q h (inr (inl e)) m = absurd (heads-of h e m)
 
 -- After one byte of `concat k s`, either k goes on, or k was empty and s has begun.
 before-closed :
@@ -171,7 +169,7 @@ star-closed r f q h n m = start n
 
 closed : (r : Pattern) → Closed r
 closed (word w) = word-closed w
-closed (range a b) = range-closed a b
+closed (oneOf c) = class-closed c
 closed (concat r s) = concat-closed r s (closed r) (closed s)
 closed (alt r s) = alt-closed r s (closed r) (closed s)
 closed (star r) = star-closed r (closed r)
