@@ -59,7 +59,7 @@ pub enum Checked {
 
 // Checks a program, and prepares it in the slice that is lent.
 pub fn check_in(bytes: &[u8], prepared: &mut [u64]) -> Checked
-    requires { ⌜ 1920 ≤ length (now prepared) ⌝ }
+    requires { ⌜ 1536 ≤ length (now prepared) ⌝ }
     ensures { λ r. ⌜ CheckedIs (now (bytes .entry)) r (now (prepared .exit)) ⌝ }
 {
     let read = Table::read(bytes, prepared);

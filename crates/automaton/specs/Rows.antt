@@ -1,18 +1,21 @@
 -- How a position automaton stands in the prepared program, a slice of 64-bit numbers. A node has 16 of them: its four sizes, then for each
 -- side its first row, whether the empty text belongs, and the sets of first and last positions. Behind the nodes stand the rows, three numbers
--- a position: the first and the last byte of its range, in one number, and the set of positions that may follow it.
+-- a position: what tells its bytes, and the set of positions that may follow it. A letter is told by itself, a number below 256; any other
+-- number is the place of a class. A range or a set has its class in the two rows behind its own, and each copy of its row refers to it.
 use mathlib.Core.Path.{_≡_}
-use mathlib.Core.Bool.{Bool, _&&_}
+use mathlib.Core.Bool.{Bool, _&&_, cond}
 use mathlib.Core.List.{List}
-use Prim.Native.Nat.{ℕ, _+_, _*_, _/_, _%_, _≤_, _<_, max, min}
-use lib.Dec.{eqb, leb}
+use Prim.Native.Nat.{ℕ, _+_, _*_, _≤_, _<_}
+use lib.Dec.{eqb, ltb}
 use lib.ListN.{length, getD}
-use Rattle.semantics.specs.Pattern.{Pattern, inRange, nullable}
+use Rattle.semantics.specs.Pattern.{Pattern, nullable}
 use Rattle.semantics.specs.Lens.{Side as SideOf, source, sheet}
 use Rattle.semantics.specs.Table.{positions}
-use Rattle.laws.specs.PositionAutomaton.{lowAt, highAt, firstAt, lastAt, followAt}
+use Rattle.laws.specs.PositionAutomaton.{standsAt, firstAt, lastAt, followAt}
 use Rattle.positions.specs.declared.Set.{Set}
 use Rattle.positions.specs.Positions.{holds}
+use Rattle.classes.specs.declared.Class.{Class}
+use Rattle.classes.specs.Classes.{holdsByte, anyBelow}
 use Rattle.automaton.specs.declared.Automaton.{Automaton}
 use Rattle.automaton.specs.declared.Side.{Side}
 use Rattle.automaton.specs.declared.Side.the-variants.{Source, Sheet}
@@ -33,29 +36,30 @@ rowAt row = 1536 + 3 * row
 abbrev pub setAt : List ℕ → ℕ → Set
 setAt prepared i = record { low = getD prepared i 0; high = getD prepared (i + 1) 0 }
 
--- the first and the last byte of a row's range
-abbrev pub lowOf : List ℕ → ℕ → ℕ
-lowOf prepared row = getD prepared (rowAt row) 0 / 256
+-- what tells the bytes of a row
+abbrev pub heldOf : List ℕ → ℕ → ℕ
+heldOf prepared row = getD prepared (rowAt row) 0
 
-abbrev pub highOf : List ℕ → ℕ → ℕ
-highOf prepared row = getD prepared (rowAt row) 0 % 256
+-- four numbers, from a place on, as a class
+abbrev pub classAt : List ℕ → ℕ → Class
+classAt prepared i = record { low = setAt prepared i; high = setAt prepared (i + 2) }
 
 abbrev pub followOf : List ℕ → ℕ → Set
 followOf prepared row = setAt prepared (rowAt row + 1)
 
 -- 'byte c may stand at position p'
 unfoldable pub standsIn : List ℕ → ℕ → ℕ → Bool
-standsIn prepared row byte = inRange (lowOf prepared row) (highOf prepared row) byte
+standsIn prepared row byte =
+    let held = heldOf prepared row in
+    cond (ltb held 256) (eqb byte held) (holdsByte (classAt prepared held) byte)
 
 -- 'two positions share a byte'
 unfoldable pub shareIn : List ℕ → ℕ → ℕ → Bool
-shareIn prepared row row′ =
-    leb (max (lowOf prepared row) (lowOf prepared row′)) (min (highOf prepared row) (highOf prepared row′))
+shareIn prepared row row′ = anyBelow 256 (λ byte. standsIn prepared row byte && standsIn prepared row′ byte)
 
--- 'two positions have the same bytes'
+-- two positions are told by the same number
 unfoldable pub alikeIn : List ℕ → ℕ → ℕ → Bool
-alikeIn prepared row row′ =
-    eqb (lowOf prepared row) (lowOf prepared row′) && eqb (highOf prepared row) (highOf prepared row′)
+alikeIn prepared row row′ = eqb (heldOf prepared row) (heldOf prepared row′)
 
 -- the automaton of a node and a side, as it stands in the prepared program
 unfoldable pub automatonAt : List ℕ → ℕ → Side → Automaton
@@ -69,15 +73,20 @@ automatonAt prepared k side =
       last = setAt prepared (i + 4);
     }
 
--- The rows of an automaton stand in the prepared program, and its positions fit a set.
+-- The row stands in the prepared program, and so does its class, if it refers to one.
+pub record RowRoom (prepared : List ℕ) (row : ℕ) : Type 0 where
+  pub inside : rowAt (row + 1) ≤ length prepared
+  pub class-inside : heldOf prepared row + 4 ≤ length prepared
+
+-- The rows of an automaton stand in the prepared program with their classes, and its positions fit a set.
 pub record Room (a : Automaton) (prepared : List ℕ) : Type 0 where
   pub few : a .count ≤ 128
   pub inside : rowAt (a .start + a .count) ≤ length prepared
+  pub rows : (p : ℕ) → p < a .count → RowRoom prepared (a .start + p)
 
 -- Row p of the automaton that starts at `start` is that of position p.
 pub record RowIs (r : Pattern) (start p : ℕ) (prepared : List ℕ) : Type 0 where
-  pub low-is : lowOf prepared (start + p) ≡ lowAt r p
-  pub high-is : highOf prepared (start + p) ≡ highAt r p
+  pub bytes-are : (byte : ℕ) → standsIn prepared (start + p) byte ≡ standsAt r p byte
   pub follow-is : (q : ℕ) → holds (followOf prepared (start + p)) q ≡ followAt r p q
 
 -- It is the position automaton of the pattern r.

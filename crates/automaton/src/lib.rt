@@ -6,7 +6,7 @@ use table::Table;
 ghost use mathlib.Core.Path.{_≡_};
 ghost use Prim.Native.Nat.{_+_, _*_, _≤_, _<_};
 ghost use lib.ListN.{length};
-ghost use Rattle.automaton.specs.Rows.{rowAt, followOf, standsIn, shareIn, alikeIn, automatonAt};
+ghost use Rattle.automaton.specs.Rows.{rowAt, followOf, classAt, RowRoom, standsIn, shareIn, alikeIn, automatonAt};
 
 pub enum Side {
     Source,
@@ -66,61 +66,34 @@ pub fn follow(prepared: &[u64], row: usize) -> Set
     set_at(prepared, Table::ROWS + 3 * row + 1)
 }
 
-// The class of a node that is a range or a set.
-fn class_at(prepared: &[u64], node: usize) -> Class
-    requires { ⌜ (node < 96) × (1920 ≤ length (now prepared)) ⌝ }
-    ensures { λ r. ⌜ r ≡ classOf (now (prepared .entry)) node ⌝ }
+// Four numbers, from a place on, as a class.
+fn class_at(prepared: &[u64], i: usize) -> Class
+    requires { ⌜ i + 4 ≤ length (now prepared) ⌝ }
+    ensures { λ r. ⌜ r ≡ classAt (now (prepared .entry)) i ⌝ }
 {
-    let i = Table::CLASSES + 4 * node;
     let low = set_at(prepared, i);
     let high = set_at(prepared, i + 2);
     Class { low, high }
 }
 
-// Whether a byte is in the class of a node, by the one number that has its bit.
-fn in_class(prepared: &[u64], node: usize, byte: u8) -> bool
-    requires { ⌜ 1920 ≤ length (now prepared) ⌝ }
-    ensures { λ r. ⌜ r ≡ inClassOf (now (prepared .entry)) node byte ⌝ }
-{
-    if Table::NODES <= node {
-        return false;
-    }
-    let b = byte as usize;
-    (prepared[Table::CLASSES + 4 * node + b / 64] >> (b % 64)) % 2 == 1
-}
-
-// Whether the classes of two nodes share a byte.
-fn classes_meet(prepared: &[u64], node: usize, other: usize) -> bool
-    requires { ⌜ 1920 ≤ length (now prepared) ⌝ }
-    ensures { λ r. ⌜ (r ≡ true) ↔ ClassesMeet (now (prepared .entry)) node other ⌝ }
-{
-    if Table::NODES <= node {
-        return false;
-    }
-    if Table::NODES <= other {
-        return false;
-    }
-    let class = class_at(prepared, node);
-    class.meets(class_at(prepared, other))
-}
-
-// Whether a byte may stand at the position of a row.
+// Whether a byte may stand at the position of a row, by the one number of its class that has the byte's bit.
 pub fn stands(prepared: &[u64], row: usize, byte: u8) -> bool
-    requires { ⌜ rowAt (row + 1) ≤ length (now prepared) ⌝ }
+    requires { ⌜ RowRoom (now prepared) row ⌝ }
     ensures { λ r. ⌜ r ≡ standsIn (now (prepared .entry)) row byte ⌝ }
 {
     let held = prepared[Table::ROWS + 3 * row];
     if held < 256 {
         return held == byte as u64;
     }
-    in_class(prepared, held as usize - 256, byte)
+    let b = byte as usize;
+    (prepared[held as usize + b / 64] >> (b % 64)) % 2 == 1
 }
 
 // Whether the positions of two rows share a byte.
 pub fn share(prepared: &[u64], row: usize, other: usize) -> bool
-    requires { ⌜ rowAt (row + 1) ≤ length (now prepared) ⌝ }
-    requires { ⌜ rowAt (other + 1) ≤ length (now prepared) ⌝ }
-    ensures { λ r. ⌜ (r ≡ true) ↔ ShareByte (now (prepared .entry)) row other ⌝ }
+    requires { ⌜ RowRoom (now prepared) row ⌝ }
+    requires { ⌜ RowRoom (now prepared) other ⌝ }
+    ensures { λ r. ⌜ r ≡ shareIn (now (prepared .entry)) row other ⌝ }
 {
     let a = prepared[Table::ROWS + 3 * row];
     let b = prepared[Table::ROWS + 3 * other];
@@ -130,10 +103,11 @@ pub fn share(prepared: &[u64], row: usize, other: usize) -> bool
     if b < 256 {
         return stands(prepared, row, b as u8);
     }
-    classes_meet(prepared, a as usize - 256, b as usize - 256)
+    let class = class_at(prepared, a as usize);
+    class.meets(class_at(prepared, b as usize))
 }
 
-// Whether the positions of two rows have the same number, and so the same bytes.
+// Whether the positions of two rows hold the same byte or refer to the same class. Then the same bytes may stand at them.
 pub fn alike(prepared: &[u64], row: usize, other: usize) -> bool
     requires { ⌜ rowAt (row + 1) ≤ length (now prepared) ⌝ }
     requires { ⌜ rowAt (other + 1) ≤ length (now prepared) ⌝ }

@@ -1,18 +1,22 @@
 // The automaton of a node, built from those of its parts. The count of its positions stands in the prepared program already.
 use crate::rows::copy_rows;
 use crate::rows::only_if;
+use crate::rows::put_class;
 use crate::rows::put_header;
 use crate::rows::put_row;
 use crate::rows::single;
 use automaton::Automaton;
 use automaton::Side;
+use classes::Class;
 use positions::Set;
+use table::Table;
 ghost use mathlib.Core.Path.{_≡_};
 ghost use mathlib.Core.Bool.{_&&_, _||_};
 ghost use Prim.Native.Nat.{ℕ, _+_, _≤_};
 ghost use lib.Dec.{eqb};
 ghost use lib.ListN.{length};
-ghost use Rattle.semantics.specs.Pattern.{word, range, concat, alt};
+ghost use Rattle.semantics.specs.Pattern.{word, oneOf, concat, alt};
+ghost use Rattle.semantics.specs.Table.{runsOf};
 ghost use Rattle.positions.specs.Positions.{holds};
 ghost use Rattle.automaton.specs.Rows.{rowAt};
 ghost use Rattle.builder.specs.Build.{Space, Below, BuiltAlone, BuiltRepeat, BuiltPair, Aliased, RowsJoined, Lettered};
@@ -59,13 +63,18 @@ pub fn build_word(prepared: &mut [u64], node: usize, side: Side, row: usize, let
     );
 }
 
-// A range or a set: its row refers to its class, which stands already.
-pub fn build_class(prepared: &mut [u64], node: usize, side: Side, row: usize)
-    requires { ⌜ Space node row 1 (now prepared) ⌝ }
-    ensures { λ r. ⌜ ((c : Class) → HasClass c node (now (prepared .entry)) → BuiltAlone (oneOf c) node side row 1 (now (prepared .entry)) (now (prepared .exit))) ⌝ }
+// The rows of a range or a set: its own, and two that have room for its class.
+pub const CLASS_ROWS: usize = 3;
+
+// A range or a set, from its runs.
+pub fn build_class(prepared: &mut [u64], node: usize, side: Side, row: usize, runs: &[u8])
+    requires { ⌜ Space node row 3 (now prepared) ⌝ }
+    ensures { λ r. ⌜ BuiltAlone (oneOf (runsOf (now (runs .entry)))) node side row 3 (now (prepared .entry)) (now (prepared .exit)) ⌝ }
 {
     let none = Set::empty();
-    put_row(prepared, row, 256 + node as u64, none);
+    let at = Table::ROWS + 3 * (row + 1);
+    put_class(prepared, at, Class::of(runs));
+    put_row(prepared, row, at as u64, none);
     let zero = single(0, 1);
     put_header(prepared, node, side, row, false, zero, zero);
 }

@@ -2,13 +2,12 @@
 use crate::build::alias;
 use crate::build::build_alt;
 use crate::build::build_concat;
+use crate::build::CLASS_ROWS;
 use crate::build::build_class;
 use crate::build::build_star;
 use crate::build::build_word;
-use crate::rows::put_class;
 use automaton::Side;
 use automaton::automaton_of;
-use classes::Class;
 use table::Kind;
 use table::Table;
 use table::parts::node_count;
@@ -29,17 +28,17 @@ enum Pair {
     Union,
 }
 
-// The parts of a node on one side: letters of the pool, the runs of its class, or nodes whose same side it is made of.
+// The parts of a node on one side: letters of the pool, runs of bytes from a place of the table on, or nodes whose same side it is made of.
 enum Parts {
     Letters(usize, usize),
-    OneOf(usize, usize),
+    Runs(usize, usize),
     Two(Pair, usize, usize),
     Repeat(usize),
     Same(usize),
 }
 
-// How many rows the automata of node k take. Both sides of a pattern have the same rows, so they count once. A copy,
-// const, key or match takes none: it has those of its children.
+// How many rows the automata of node k take. Both sides of a pattern have the same rows, so they count once. A range or a set has its class
+// behind its row. A copy, const, key or match takes none: it has those of its children.
 fn rows_of(bytes: &[u8], prepared: &[u64], k: usize) -> usize
     requires { ⌜ AllSized (now bytes) (now prepared) ⌝ }
     requires { ⌜ k < nodeCount (now bytes) ⌝ }
@@ -51,7 +50,7 @@ fn rows_of(bytes: &[u8], prepared: &[u64], k: usize) -> usize
     let both = once + node.sheet;
     match kind {
         Kind::Word { start: _, len: _ } => once,
-        Kind::OneOf { at: _, runs: _ } => once,
+        Kind::OneOf { at: _, runs: _ } => CLASS_ROWS,
         Kind::PatternJoin { left: _, right: _ } => once,
         Kind::PatternUnion { left: _, right: _ } => once,
         Kind::PatternRepeat { child: _ } => once,
@@ -160,7 +159,7 @@ fn parts_of(kind: Kind, side: Side) -> Parts
 {
     match kind {
         Kind::Word { start, len } => Parts::Letters(start, len),
-        Kind::OneOf { at, runs } => Parts::OneOf(at, runs),
+        Kind::OneOf { at, runs } => Parts::Runs(at, runs),
         Kind::PatternJoin { left, right } => Parts::Two(Pair::Join, left, right),
         Kind::PatternUnion { left, right } => Parts::Two(Pair::Union, left, right),
         Kind::PatternRepeat { child } => Parts::Repeat(child),
@@ -199,9 +198,10 @@ fn build_side(
             build_word(prepared, k, side, row, word);
             row + word.len()
         }
-        Parts::OneOf(_, _) => {
-            build_class(prepared, k, side, row);
-            row + 1
+        Parts::Runs(at, count) => {
+            let to = at + 2 * count;
+            build_class(prepared, k, side, row, &bytes[at..to]);
+            row + CLASS_ROWS
         }
         Parts::Two(pair, a, b) => two_of(prepared, k, side, row, pair, a, b),
         Parts::Repeat(a) => repeat_of(prepared, k, side, row, a),
@@ -247,44 +247,12 @@ fn build_node(bytes: &[u8], prepared: &mut [u64], k: usize, row: usize) -> usize
     build_side(bytes, prepared, k, kind, Side::Sheet, next)
 }
 
-// The class of node k, if it is a range or a set.
-fn fill_class(bytes: &[u8], prepared: &mut [u64], k: usize)
-    requires { ⌜ AllSized (now bytes) (now prepared) ⌝ }
-    requires { ⌜ k < nodeCount (now bytes) ⌝ }
-    ensures { λ r. ⌜ ClassFilled (now (bytes .entry)) k (now (prepared .entry)) (now (prepared .exit)) ⌝ }
-{
-    let node = Table::node(bytes, prepared, k);
-    let kind = node.kind;
-    let parts = parts_of(kind, Side::Source);
-    match parts {
-        Parts::OneOf(at, runs) => put_class(prepared, k, Class::of(&bytes[at..at + 2 * runs])),
-        Parts::Letters(_, _) => {}
-        Parts::Two(_, _, _) => {}
-        Parts::Repeat(_) => {}
-        Parts::Same(_) => {}
-    }
-}
-
-// The class of every node that is a range or a set.
-fn fill_classes(bytes: &[u8], prepared: &mut [u64])
-    requires { ⌜ AllSized (now bytes) (now prepared) ⌝ }
-    ensures { λ r. ⌜ Classed (now (bytes .entry)) (nodeCount (now (bytes .entry))) (now (prepared .entry)) (now (prepared .exit)) ⌝ }
-{
-    let n = node_count(bytes);
-    let mut k = 0;
-    while k < n {
-        fill_class(bytes, prepared, k);
-        k += 1;
-    }
-}
-
-// Builds every node's class and automata, lowest first, from those of its children.
+// Builds every node's automata, lowest first, from those of its children.
 pub fn build_all(bytes: &[u8], prepared: &mut [u64])
     requires { ⌜ AllSized (now bytes) (now prepared) ⌝ }
     requires { ⌜ rowAt (rowsNeeded (now bytes)) ≤ length (now prepared) ⌝ }
     ensures { λ r. ⌜ Built (now (bytes .entry)) (now (prepared .exit)) ⌝ }
 {
-    fill_classes(bytes, prepared);
     let n = node_count(bytes);
     let mut row = 0;
     let mut k = 0;

@@ -7,12 +7,12 @@ use positions::Set;
 use table::Table;
 ghost use mathlib.Core.Path.{_≡_};
 ghost use mathlib.Core.Bool.{_&&_};
-ghost use Prim.Native.Nat.{ℕ, _+_, _*_, _/_, _%_, _≤_, _<_};
+ghost use Prim.Native.Nat.{ℕ, _+_, _*_, _≤_, _<_};
 ghost use lib.Dec.{eqb, ltb};
 ghost use lib.ListN.{length};
 ghost use Rattle.positions.specs.Positions.{holds};
 ghost use Rattle.automaton.specs.Rows.{rowAt};
-ghost use Rattle.builder.specs.Build.{TwoPut, RowPut, HeaderPut, RowCopied, Kept, Copied};
+ghost use Rattle.builder.specs.Build.{TwoPut, ClassPut, RowPut, HeaderPut, RowCopied, Kept, Copied};
 
 fn put_two(prepared: &mut [u64], i: usize, a: u64, b: u64)
     requires { ⌜ i + 1 < length (now prepared) ⌝ }
@@ -22,19 +22,18 @@ fn put_two(prepared: &mut [u64], i: usize, a: u64, b: u64)
     prepared[i + 1] = b;
 }
 
-// The class of a node.
-pub fn put_class(prepared: &mut [u64], node: usize, class: Class)
-    requires { ⌜ (node < 96) × (1920 ≤ length (now prepared)) ⌝ }
-    ensures { λ r. ⌜ ClassPut node class (now (prepared .entry)) (now (prepared .exit)) ⌝ }
+// A class, from a place on.
+pub fn put_class(prepared: &mut [u64], i: usize, class: Class)
+    requires { ⌜ i + 4 ≤ length (now prepared) ⌝ }
+    ensures { λ r. ⌜ ClassPut i class (now (prepared .entry)) (now (prepared .exit)) ⌝ }
 {
-    let i = Table::CLASSES + 4 * node;
     let low = class.low;
     let high = class.high;
     put_two(prepared, i, low.low, low.high);
     put_two(prepared, i + 2, high.low, high.high);
 }
 
-// A row: the number by which it refers to its bytes, and the positions that may follow.
+// A row: the number that tells its bytes, and the positions that may follow.
 pub fn put_row(prepared: &mut [u64], row: usize, held: u64, follow: Set)
     requires { ⌜ rowAt (row + 1) ≤ length (now prepared) ⌝ }
     ensures { λ r. ⌜ RowPut row held follow (now (prepared .entry)) (now (prepared .exit)) ⌝ }

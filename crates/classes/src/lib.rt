@@ -1,7 +1,7 @@
 // Classes: sets of bytes, what one position of a pattern may hold. Each question takes constant time, whatever the number of runs.
 use positions::Set;
 ghost use mathlib.Core.Path.{_≡_};
-ghost use mathlib.Core.Bool.{true, not, _&&_, _||_};
+ghost use mathlib.Core.Bool.{true, false, not, _&&_, _||_};
 ghost use mathlib.Core.Logic.{_↔_};
 ghost use Prim.Native.Nat.{ℕ, _≤_};
 ghost use lib.Dec.{ltb, leb};
@@ -18,7 +18,7 @@ pub struct Class {
 impl Class {
     // The class that holds nothing.
     fn empty() -> Class
-        ensures { λ r. ⌜ ((byte : ℕ) → holdsByte r byte ≡ Mathlib.false) ⌝ }
+        ensures { λ r. ⌜ ((byte : ℕ) → holdsByte r byte ≡ false) ⌝ }
     {
         Class {
             low: Set::empty(),

@@ -92,7 +92,7 @@ fn try_in(
     source: &[u8],
     out: &mut [u8],
 ) -> Tried
-    requires { ⌜ 1920 ≤ length (now prepared) ⌝ }
+    requires { ⌜ 1536 ≤ length (now prepared) ⌝ }
     ensures { λ r. ⌜ Tries (length (now (prepared .entry))) call (now (bytes .entry)) (now (sheet .entry)) (now (source .entry)) (now (out .entry)) (now (out .exit)) r ⌝ }
 {
     let checked = check_in(bytes, prepared);
@@ -107,21 +107,21 @@ fn try_in(
 }
 
 fn try_small(call: Call, bytes: &[u8], sheet: &[u8], source: &[u8], out: &mut [u8]) -> Tried
-    ensures { λ r. ⌜ Tries 2304 call (now (bytes .entry)) (now (sheet .entry)) (now (source .entry)) (now (out .entry)) (now (out .exit)) r ⌝ }
+    ensures { λ r. ⌜ Tries 1920 call (now (bytes .entry)) (now (sheet .entry)) (now (source .entry)) (now (out .entry)) (now (out .exit)) r ⌝ }
 {
     let mut prepared = small_room();
     try_in(call, bytes, &mut prepared, sheet, source, out)
 }
 
 fn try_middle(call: Call, bytes: &[u8], sheet: &[u8], source: &[u8], out: &mut [u8]) -> Tried
-    ensures { λ r. ⌜ Tries 8064 call (now (bytes .entry)) (now (sheet .entry)) (now (source .entry)) (now (out .entry)) (now (out .exit)) r ⌝ }
+    ensures { λ r. ⌜ Tries 7680 call (now (bytes .entry)) (now (sheet .entry)) (now (source .entry)) (now (out .entry)) (now (out .exit)) r ⌝ }
 {
     let mut prepared = middle_room();
     try_in(call, bytes, &mut prepared, sheet, source, out)
 }
 
 fn try_full(call: Call, bytes: &[u8], sheet: &[u8], source: &[u8], out: &mut [u8]) -> Tried
-    ensures { λ r. ⌜ Tries 75648 call (now (bytes .entry)) (now (sheet .entry)) (now (source .entry)) (now (out .entry)) (now (out .exit)) r ⌝ }
+    ensures { λ r. ⌜ Tries 75264 call (now (bytes .entry)) (now (sheet .entry)) (now (source .entry)) (now (out .entry)) (now (out .exit)) r ⌝ }
 {
     let mut prepared = full_room();
     try_in(call, bytes, &mut prepared, sheet, source, out)

@@ -9,8 +9,8 @@ ghost use lib.Bits.{bitOr};
 ghost use lib.Dec.{eqb};
 ghost use lib.ListN.{length, set, getD};
 ghost use Rattle.positions.specs.Positions.{holds};
-ghost use Rattle.automaton.specs.Rows.{rowAt, Room};
-ghost use Rattle.pairs.specs.Pairs.{Gathered, byFollow, bySharing, byRow, rowOf, Change, Gained, Shares, Poured, PouredAt, Spread, NextDue, Blank, Filled};
+ghost use Rattle.automaton.specs.Rows.{rowAt, RowRoom, Room};
+ghost use Rattle.pairs.specs.Pairs.{Gathered, byFollow, bySharing, sameAsLast, byRow, rowOf, Change, Gained, Shares, Poured, PouredAt, Spread, NextDue, Blank, Filled};
 
 // A set, joined with another if a test is true.
 pub fn joined_if(set: Set, other: Set, test: bool) -> Set
@@ -51,7 +51,7 @@ pub fn followers(prepared: &[u64], a: Automaton, set: Set) -> Set
 
 // The positions that share a byte with the position of a row.
 fn sharing(prepared: &[u64], row: usize, b: Automaton) -> Set
-    requires { ⌜ rowAt (row + 1) ≤ length (now prepared) ⌝ }
+    requires { ⌜ RowRoom (now prepared) row ⌝ }
     requires { ⌜ Room b (now prepared) ⌝ }
     ensures { λ r. ⌜ Gathered (b .count) (bySharing (now (prepared .entry)) row (b .start)) r ⌝ }
 {
@@ -127,18 +127,26 @@ fn gain(cells: &mut [u64], x: usize, set: Set) -> bool
     low | high
 }
 
+// Whether position x has the same bytes as the one before it.
+fn same_as_last(prepared: &[u64], start: usize, x: usize) -> bool
+    requires { ⌜ rowAt (start + x + 1) ≤ length (now prepared) ⌝ }
+    ensures { λ r. ⌜ r ≡ sameAsLast (now (prepared .entry)) start x ⌝ }
+{
+    if x == 0 {
+        return false;
+    }
+    automaton::alike(prepared, start + (x - 1), start + x)
+}
+
 // The positions that share a byte with position x, once the rows before it are known. In a run of positions with the same bytes all have the same, so
 // that long runs, of which the slowest tables are made, are compared once.
 fn share_row(prepared: &[u64], start: usize, x: usize, b: Automaton, shares: &[u64]) -> Set
-    requires { ⌜ (x < 128) × (rowAt (start + x + 1) ≤ length (now prepared)) ⌝ }
+    requires { ⌜ (x < 128) × RowRoom (now prepared) (start + x) ⌝ }
     requires { ⌜ Room b (now prepared) ⌝ }
     requires { ⌜ Shares (now prepared) start b x (now shares) ⌝ }
     ensures { λ r. ⌜ Gathered (b .count) (bySharing (now (prepared .entry)) (start + x) (b .start)) r ⌝ }
 {
-    if x == 0 {
-        return sharing(prepared, start + x, b);
-    }
-    if automaton::alike(prepared, start + (x - 1), start + x) {
+    if same_as_last(prepared, start, x) {
         return row(shares, x - 1);
     }
     sharing(prepared, start + x, b)

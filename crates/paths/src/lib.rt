@@ -32,19 +32,21 @@ pub struct Walk {
 
 // ---- One step
 
-// The lowest of the positions, from `from` on, at which the byte may stand; `Set::SIZE` if there is none.
-fn lowest(prepared: &[u64], a: Automaton, due: Set, byte: u8, from: usize) -> usize
+// The lowest of the positions at which the byte may stand; `Set::SIZE` if there is none.
+fn lowest(prepared: &[u64], a: Automaton, due: Set, byte: u8) -> usize
     requires { ⌜ Room a (now prepared) ⌝ }
-    ensures { λ p. ⌜ Lowest (now (prepared .entry)) a due byte from p ⌝ }
+    ensures { λ p. ⌜ Lowest (now (prepared .entry)) a due byte p ⌝ }
 {
     let count = a.count;
-    let mut p = due.first_from(from);
+    let mut left = due;
+    let mut p = left.first_from(0);
     while p < count {
         let row = a.start + p;
         if automaton::stands(prepared, row, byte) {
             return p;
         }
-        p = due.first_from(p + 1);
+        left = left.rest();
+        p = left.first_from(0);
     }
     Set::SIZE
 }
@@ -54,14 +56,22 @@ fn alone(prepared: &[u64], a: Automaton, due: Set, byte: u8) -> usize
     requires { ⌜ Room a (now prepared) ⌝ }
     ensures { λ p. ⌜ Alone (now (prepared .entry)) a due byte p ⌝ }
 {
-    let p = lowest(prepared, a, due, byte, 0);
-    if Set::SIZE <= p {
-        return Set::SIZE;
+    let count = a.count;
+    let mut left = due;
+    let mut found = Set::SIZE;
+    let mut p = left.first_from(0);
+    while p < count {
+        let row = a.start + p;
+        if automaton::stands(prepared, row, byte) {
+            if found < Set::SIZE {
+                return Set::SIZE;
+            }
+            found = p;
+        }
+        left = left.rest();
+        p = left.first_from(0);
     }
-    if lowest(prepared, a, due, byte, p + 1) < Set::SIZE {
-        return Set::SIZE;
-    }
-    p
+    found
 }
 
 // The path comes past position p.
@@ -195,7 +205,7 @@ fn walk_block(
         let i = walk.at;
         let due = walk.set;
         let may = due.intersect(set_at(sets, 2 * (i - start)));
-        let p = lowest(prepared, a, may, text[i], 0);
+        let p = lowest(prepared, a, may, text[i]);
         if Set::SIZE <= p {
             return walk;
         }

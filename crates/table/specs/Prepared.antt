@@ -4,15 +4,15 @@ use mathlib.Core.Bool.{false, cond}
 use mathlib.Core.List.{List, [], _∷_, _++_}
 use mathlib.Core.Option.{Option, none, some}
 use Prim.Native.Nat.{ℕ, _+_, _*_, _≤_, _<_}
-use lib.ListN.{take, drop, getD}
+use lib.ListN.{length, take, drop, getD}
 use Rattle.semantics.specs.Text.{Text}
-use Rattle.semantics.specs.Pattern.{Pattern, word, range, concat, alt, star}
+use Rattle.semantics.specs.Pattern.{Pattern, word, oneOf, concat, alt, star}
 use Rattle.semantics.specs.Lens.{Lens, copy, const, key, join, union, repeat, match, source, sheet}
-use Rattle.semantics.specs.Table.{nodeCount, poolLength, sizesWrong, nodes, trees, Tree, Trees, pattern, lens, broken, treeAt, pool, treeSize, treePositions, holdsMatch, isBroken, nested, overLimit, Line, line, firstRound, rootLine, firstThatHolds}
+use Rattle.semantics.specs.Table.{nodeCount, poolLength, sizesWrong, nodes, trees, Tree, Trees, pattern, lens, broken, treeAt, pool, runsOf, treeSize, treePositions, holdsMatch, isBroken, nested, overLimit, Line, line, firstRound, rootLine, firstThatHolds}
 use Rattle.table.specs.declared.TableAnswer.{TableAnswer}
 use Rattle.table.specs.declared.TableAnswer.the-variants.{Ready, Refused}
 use Rattle.table.specs.declared.Kind.{Kind}
-use Rattle.table.specs.declared.Kind.the-variants.{Word, Range, PatternJoin, PatternUnion, PatternRepeat, Copy, Const, Key, LensJoin, LensUnion, LensRepeat, Match}
+use Rattle.table.specs.declared.Kind.the-variants.{Word, OneOf, PatternJoin, PatternUnion, PatternRepeat, Copy, Const, Key, LensJoin, LensUnion, LensRepeat, Match}
 
 -- the lines 1 to 5, and 'root is no lens', in the order in which the places are passed
 unfoldable pub tableLines : Text → List Line
@@ -95,9 +95,14 @@ pub record WordPart (bytes : Text) (k start len : ℕ) : Type 0 where
   pub inside : start + len ≤ poolLength bytes
   pub tree-is : treeAt (trees bytes) k ≡ pattern (word (take len (drop start (pool bytes))))
 
+-- the runs of a range or a set, from a place of the table on: in the operands of a range, in the pool for a set
+pub record RunsPart (bytes : Text) (k at runs : ℕ) : Type 0 where
+  pub inside : at + 2 * runs ≤ length bytes
+  pub tree-is : treeAt (trees bytes) k ≡ pattern (oneOf (runsOf (take (2 * runs) (drop at bytes))))
+
 unfoldable pub Shows : Text → ℕ → Kind → Type 0
 Shows bytes k (Word start len) = WordPart bytes k start len
-Shows bytes k (Range first last) = treeAt (trees bytes) k ≡ pattern (range first last)
+Shows bytes k (OneOf at runs) = RunsPart bytes k at runs
 Shows bytes k (PatternJoin a b) = TwoPatterns (trees bytes) k a b (λ r s. pattern (concat r s))
 Shows bytes k (PatternUnion a b) = TwoPatterns (trees bytes) k a b (λ r s. pattern (alt r s))
 Shows bytes k (PatternRepeat a) = OnePattern (trees bytes) k a (λ r. pattern (star r))

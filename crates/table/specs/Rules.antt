@@ -9,11 +9,11 @@ use lib.Dec.{eqb, leb, ltb}
 use lib.ListN.{length, getD}
 use Rattle.semantics.specs.Text.{Text}
 use Rattle.semantics.specs.Lens.{source, sheet}
-use Rattle.semantics.specs.Table.{two, nodeCount, poolLength, sizesWrong, nodeAt, trees, Tree, Trees, pattern, lens, broken, treeAt, patternAt, lensAt, wordAt, treeSize, treePositions, isBroken, nested, overLimit, unknownKind, maxWord, maxSize, maxPositions, firstThatHolds}
+use Rattle.semantics.specs.Table.{two, nodeCount, poolLength, sizesWrong, nodeAt, pool, setKeeps, trees, Tree, Trees, pattern, lens, broken, treeAt, patternAt, lensAt, wordAt, treeSize, treePositions, isBroken, nested, overLimit, unknownKind, maxWord, maxSize, maxPositions, firstThatHolds}
 use Rattle.semantics.specs.Table as S
 use Rattle.table.specs.declared.TableAnswer.{TableAnswer}
 use Rattle.table.specs.declared.Kind.{Kind}
-use Rattle.table.specs.declared.Kind.the-variants.{Word, Range, PatternJoin, PatternUnion, PatternRepeat, Copy, Const, Key, LensJoin, LensUnion, LensRepeat, Match}
+use Rattle.table.specs.declared.Kind.the-variants.{Word, OneOf, PatternJoin, PatternUnion, PatternRepeat, Copy, Const, Key, LensJoin, LensUnion, LensRepeat, Match}
 use Rattle.table.specs.declared.Node.{Node}
 use Rattle.table.specs.declared.Sort.{Sort}
 use Rattle.table.specs.declared.Sort.the-variants.{Patterns, Lenses}
@@ -81,6 +81,7 @@ keepsRules bytes ts (some S.Range) a b c = rangeOrdered a b c
 keepsRules bytes ts (some S.PatternJoin) a b c = twoChildren ts Patterns a b c
 keepsRules bytes ts (some S.PatternUnion) a b c = twoChildren ts Patterns a b c
 keepsRules bytes ts (some S.PatternRepeat) a b c = oneChild ts Patterns a b c
+keepsRules bytes ts (some S.Set) a b c = setKeeps (pool bytes) a b c
 keepsRules bytes ts (some S.Copy) a b c = oneChild ts Patterns a b c
 keepsRules bytes ts (some S.Const) a b c = constParts ts a b c
 keepsRules bytes ts (some S.Key) a b c = oneChild ts Patterns a b c
@@ -91,20 +92,21 @@ keepsRules bytes ts (some S.Match) a b c = oneChild ts Lenses a b c
 
 -- ---- A node, decoded
 
--- a kind with its own operands
-unfoldable pub decoded : S.Kind → ℕ → ℕ → ℕ → Kind
-decoded S.Word a b c = Word (two a b) c
-decoded S.Range a b c = Range a b
-decoded S.PatternJoin a b c = PatternJoin a b
-decoded S.PatternUnion a b c = PatternUnion a b
-decoded S.PatternRepeat a b c = PatternRepeat a
-decoded S.Copy a b c = Copy a
-decoded S.Const a b c = Const a b c
-decoded S.Key a b c = Key a
-decoded S.LensJoin a b c = LensJoin a b
-decoded S.LensUnion a b c = LensUnion a b
-decoded S.LensRepeat a b c = LensRepeat a
-decoded S.Match a b c = Match a
+-- a kind with its own operands; they stand at `at` in the table, and the pool at `pool-at`
+unfoldable pub decoded : S.Kind → ℕ → ℕ → ℕ → ℕ → ℕ → Kind
+decoded S.Word a b c at pool-at = Word (two a b) c
+decoded S.Range a b c at pool-at = OneOf at 1
+decoded S.PatternJoin a b c at pool-at = PatternJoin a b
+decoded S.PatternUnion a b c at pool-at = PatternUnion a b
+decoded S.PatternRepeat a b c at pool-at = PatternRepeat a
+decoded S.Set a b c at pool-at = OneOf (pool-at + two a b) c
+decoded S.Copy a b c at pool-at = Copy a
+decoded S.Const a b c at pool-at = Const a b c
+decoded S.Key a b c at pool-at = Key a
+decoded S.LensJoin a b c at pool-at = LensJoin a b
+decoded S.LensUnion a b c at pool-at = LensUnion a b
+decoded S.LensRepeat a b c at pool-at = LensRepeat a
+decoded S.Match a b c at pool-at = Match a
 
 -- whether a node holds a match
 unfoldable pub treeHolds : Tree → Bool

@@ -108,18 +108,15 @@ impl Table {
     // numbers of the prepared program that belong to a node
     pub const WORDS: usize = 16;
 
-    // where its classes begin, four numbers a node: behind the numbers of all nodes
-    pub const CLASSES: usize = Table::NODES * Table::WORDS;
-
-    // where its rows begin: behind the classes
-    pub const ROWS: usize = Table::CLASSES + 4 * Table::NODES;
+    // where its rows begin: behind the numbers of all nodes
+    pub const ROWS: usize = Table::NODES * Table::WORDS;
 
     // the longest source, sheet or result of a program, in bytes
     pub const TEXT: usize = 4096;
 
     // A table from any bytes, its nodes' sizes in the prepared program; or the refusal of the first round.
     pub fn read(bytes: &[u8], prepared: &mut [u64]) -> TableAnswer
-        requires { ⌜ 1920 ≤ length (now prepared) ⌝ }
+        requires { ⌜ 1536 ≤ length (now prepared) ⌝ }
         ensures { λ r. ⌜ ReadLeaves (now (bytes .entry)) r (now (prepared .exit)) ⌝ }
     {
         if sizes_wrong(bytes) {

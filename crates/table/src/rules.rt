@@ -5,9 +5,11 @@ use crate::parts::kind_byte;
 use crate::parts::node_count;
 use crate::parts::pool_length;
 ghost use mathlib.Core.Path.{_≡_};
-ghost use Prim.Native.Nat.{_+_, _*_, _<_};
-ghost use lib.ListN.{length, take};
-ghost use Rattle.semantics.specs.Table.{kindOf, trees};
+ghost use Prim.Native.Nat.{_+_, _*_, _≤_, _<_};
+ghost use lib.ListN.{length, take, drop};
+ghost use mathlib.Core.Bool.{false, not};
+ghost use Rattle.semantics.specs.Text.{somePasses};
+ghost use Rattle.semantics.specs.Table.{kindOf, trees, pool, sizesWrong, runsOf, reversed, setKeeps};
 ghost use Rattle.table.specs.Rules.{Whole, there, sortAt, wordThere, wordFits, rangeOrdered, oneChild, twoChildren, constParts, keepsRules};
 
 // Whether there is such a kind.

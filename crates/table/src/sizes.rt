@@ -33,7 +33,7 @@ fn kind_from(kind: u8, a: u8, b: u8, c: u8, at: usize, pool: usize) -> Kind
         3 => Kind::PatternUnion { left: x, right: y },
         4 => Kind::PatternRepeat { child: x },
         5 => Kind::OneOf {
-            at: pool + 256 * x + y,
+            at: pool + (256 * x + y),
             runs: z,
         },
         16 => Kind::Copy { pattern: x },

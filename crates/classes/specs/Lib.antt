@@ -1,0 +1,2 @@
+-- What a class of bytes holds.
+pub mod Classes
