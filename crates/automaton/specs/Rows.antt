@@ -1,10 +1,11 @@
 -- How a position automaton stands in the prepared program, a slice of 64-bit numbers. A node has 16 of them: its four sizes, then for each
 -- side its first row, whether the empty text belongs, and the sets of first and last positions. Behind the nodes stand the rows, three numbers
 -- a position: what tells its bytes, and the set of positions that may follow it. A letter is told by itself, a number below 256; any other
--- number is the place of a class. A range or a set has its class in the two rows behind its own, and each copy of its row refers to it.
+-- number is the place of a class. A range or a set has its class in the two rows in front of its own, and each copy of its row refers to it.
 use mathlib.Core.Path.{_≡_}
 use mathlib.Core.Bool.{Bool, _&&_, cond}
 use mathlib.Core.List.{List}
+use mathlib.Core.Logic.{_⊎_}
 use Prim.Native.Nat.{ℕ, _+_, _*_, _≤_, _<_}
 use lib.Dec.{eqb, ltb}
 use lib.ListN.{length, getD}
@@ -73,6 +74,10 @@ automatonAt prepared k side =
       last = setAt prepared (i + 4);
     }
 
+-- What tells the bytes of a row is a letter, or the place of a class behind the numbers of the nodes and in front of the row.
+abbrev pub ClassBelow : List ℕ → ℕ → Type 0
+ClassBelow prepared row = (heldOf prepared row < 256) ⊎ ((1536 ≤ heldOf prepared row) × (heldOf prepared row + 4 ≤ rowAt row))
+
 -- The row stands in the prepared program, and so does its class, if it refers to one.
 pub record RowRoom (prepared : List ℕ) (row : ℕ) : Type 0 where
   pub inside : rowAt (row + 1) ≤ length prepared
@@ -87,6 +92,7 @@ pub record Room (a : Automaton) (prepared : List ℕ) : Type 0 where
 -- Row p of the automaton that starts at `start` is that of position p.
 pub record RowIs (r : Pattern) (start p : ℕ) (prepared : List ℕ) : Type 0 where
   pub bytes-are : (byte : ℕ) → standsIn prepared (start + p) byte ≡ standsAt r p byte
+  pub class-below : ClassBelow prepared (start + p)
   pub follow-is : (q : ℕ) → holds (followOf prepared (start + p)) q ≡ followAt r p q
 
 -- It is the position automaton of the pattern r.

@@ -11,10 +11,11 @@ use lib.Seq.{getD-set-same, getD-set-other}
 use borrow.Author.Tests.{ltb-true, ltb-false, lt-ltb, le-ltb, eqb-true, ne-eqb}
 use Rattle.laws.specs.Basics.{bool-cases}
 use Rattle.positions.proofs.Bits.{same-test}
+use Rattle.classes.specs.declared.Class.{Class}
 use Rattle.positions.specs.declared.Set.{Set}
 use Rattle.positions.specs.Positions.{holds, holdsMoved, Empty, Added, Moved, Joined}
-use Rattle.automaton.specs.Rows.{rowAt, setAt, followOf, automatonAt}
-use Rattle.builder.specs.Build.{countAt, headerAt, Kept, TwoPut, RowPut, HeaderPut, RowCopied, Copied}
+use Rattle.automaton.specs.Rows.{rowAt, setAt, heldOf, classAt, followOf, automatonAt}
+use Rattle.builder.specs.Build.{countAt, headerAt, Kept, TwoPut, ClassPut, RowPut, HeaderPut, SameBelow, RowCopied, Copied}
 use Rattle.automaton.specs.declared.Side.{Side}
 
 -- ---- Tests
@@ -47,10 +48,11 @@ kept-both from to first second h₁ h₂ h₃ h₄ =
           second .kept i (λ x y. out (omega arith) (omega arith)) ∙ first .kept i (λ x y. out (omega arith) (omega arith));
     }
 
--- The row is as it was.
+-- The row is as it was, and so are those below it, among which its class stands.
 pub record RowKept (row : ℕ) (before after : List ℕ) : Type 0 where
-  pub range-kept : getD after (rowAt row) 0 ≡ getD before (rowAt row) 0
+  pub held-kept : heldOf after row ≡ heldOf before row
   pub follow-kept : followOf after row ≡ followOf before row
+  pub below-kept : SameBelow row before after
 
 -- two numbers of a list as a set
 set-path : (s : Set) (x y : ℕ) → x ≡ s .low → y ≡ s .high → _≡_ {A = Set} (record { low = x; high = y }) s
@@ -59,11 +61,12 @@ set-path s x y p q = λ i. record { low = p i; high = q i }
 -- it is, where each of its numbers is
 pub row-kept :
     (row : ℕ) (before after : List ℕ)
-    → ((i : ℕ) → rowAt row ≤ i → i < rowAt (row + 1) → getD after i 0 ≡ getD before i 0)
+    → SameBelow (row + 1) before after
     → RowKept row before after
 row-kept row before after same =
     record {
-      range-kept = same (rowAt row) (omega arith) (omega arith);
+      held-kept = same (rowAt row) (omega arith) (omega arith);
+      below-kept = λ i l u. same i l (omega arith);
       follow-kept =
           set-path
           (followOf before row)
@@ -77,7 +80,7 @@ row-kept row before after same =
 pub row-outside :
     {from to : ℕ} {before after : List ℕ} (row : ℕ)
     → Kept from to before after
-    → ((i : ℕ) → rowAt row ≤ i → i < rowAt (row + 1) → from ≤ i → i < to → ⊥)
+    → ((i : ℕ) → 1536 ≤ i → i < rowAt (row + 1) → from ≤ i → i < to → ⊥)
     → RowKept row before after
 row-outside {before = before} {after = after} row rest out = row-kept row before after (λ i x y. rest .kept i (out i x y))
 
@@ -98,23 +101,44 @@ two-put l i a b h =
           };
     }
 
--- a row is put as its range, and then the two numbers of its set
-pub row-put :
-    (l l′ : List ℕ) (row range : ℕ) (follow : Set)
-    → rowAt row < length l
-    → TwoPut (rowAt row + 1) (follow .low) (follow .high) (set l (rowAt row) range) l′
-    → RowPut row range follow l l′
-row-put l l′ row range follow inside two =
+-- a class is put as the two numbers of each of its sets
+pub class-put :
+    (l₀ l₁ l₂ : List ℕ) (i : ℕ) (class : Class)
+    → TwoPut i (class .low .low) (class .low .high) l₀ l₁
+    → TwoPut (i + 2) (class .high .low) (class .high .high) l₁ l₂
+    → ClassPut i class l₀ l₂
+class-put l₀ l₁ l₂ i class one two =
     record {
-      range-put = two .rest .kept (rowAt row) (omega arith) ∙ getD-set-same l (rowAt row) range 0 inside;
+      class-put =
+          λ k.
+          record {
+            low =
+                set-path (class .low) (getD l₂ i 0) (getD l₂ (i + 1) 0)
+                (two .rest .kept i (omega arith) ∙ one .first-put)
+                (two .rest .kept (i + 1) (omega arith) ∙ one .second-put)
+                k;
+            high = set-path (class .high) (getD l₂ (i + 2) 0) (getD l₂ (i + 2 + 1) 0) (two .first-put) (two .second-put) k;
+          };
+      rest = kept-both i (i + 4) (one .rest) (two .rest) (omega arith) (omega arith) (omega arith) (omega arith);
+    }
+
+-- a row is put as what tells its bytes, and then the two numbers of its set
+pub row-put :
+    (l l′ : List ℕ) (row held : ℕ) (follow : Set)
+    → rowAt row < length l
+    → TwoPut (rowAt row + 1) (follow .low) (follow .high) (set l (rowAt row) held) l′
+    → RowPut row held follow l l′
+row-put l l′ row held follow inside two =
+    record {
+      held-put = two .rest .kept (rowAt row) (omega arith) ∙ getD-set-same l (rowAt row) held 0 inside;
       follow-put = set-path follow (getD l′ (rowAt row + 1) 0) (getD l′ (rowAt row + 1 + 1) 0) (two .first-put) (two .second-put);
       rest =
           record {
-            same-length = two .rest .same-length ∙ length-set l (rowAt row) range;
+            same-length = two .rest .same-length ∙ length-set l (rowAt row) held;
             kept =
                 λ i out.
                 two .rest .kept i (λ x y. out (omega arith) (omega arith))
-                ∙ getD-set-other l (rowAt row) i range 0 (λ e. out (omega arith) (omega arith));
+                ∙ getD-set-other l (rowAt row) i held 0 (λ e. out (omega arith) (omega arith));
           };
     }
 
@@ -184,14 +208,16 @@ moved-joined up read old moved more all read-is up-is all-is q =
 -- a row is put as it was read, its set moved up and joined with more
 pub row-copied :
     (from to up : ℕ) (l l′ : List ℕ) (more follow moved all : Set)
+    → from < to
     → follow ≡ followOf l from
     → Moved follow up moved
     → Joined moved more all
-    → RowPut to (getD l (rowAt from) 0) all l l′
+    → RowPut to (heldOf l from) all l l′
     → RowCopied from to up (holds more) l l′
-row-copied from to up l l′ more follow moved all read up-is all-is row =
+row-copied from to up l l′ more follow moved all up-there read up-is all-is row =
     record {
-      range-same = row .range-put;
+      held-same = row .held-put;
+      same-below = λ i x y. row .rest .kept i (omega arith);
       follow-same =
           λ q. ap (λ (s : Set). holds s q) (row .follow-put) ∙ moved-joined up follow (followOf l from) moved more all read up-is all-is q;
     }
@@ -199,13 +225,15 @@ row-copied from to up l l′ more follow moved all read up-is all-is row =
 -- a copied row stays where another is written, and may have been read later
 pub copied-row-later :
     {from to up : ℕ} {more : ℕ → Bool} {a b c d : List ℕ}
+    → from ≤ to
     → RowKept from a b
     → RowCopied from to up more b c
     → RowKept to c d
     → RowCopied from to up more a d
-copied-row-later {up = up} {more = more} read row written =
+copied-row-later {up = up} {more = more} up-there read row written =
     record {
-      range-same = written .range-kept ∙ row .range-same ∙ read .range-kept;
+      held-same = written .held-kept ∙ row .held-same ∙ read .held-kept;
+      same-below = λ i x y. written .below-kept i x (omega arith) ∙ row .same-below i x y ∙ read .below-kept i x y;
       follow-same =
           λ q.
           ap (λ (s : Set). holds s q) (written .follow-kept) ∙ row .follow-same q
@@ -238,6 +266,7 @@ module _ (from to up : ℕ) (last more : Set) where
             (λ e.
             let j = ltb-true i p e in
             copied-row-later
+            (omega arith)
             (row-same (from + i) l₀)
             (so-far .copied i j)
             (row-outside (to + i) rest (omega arith)))
@@ -252,9 +281,10 @@ module _ (from to up : ℕ) (last more : Set) where
     where
       this : RowCopied (from + p) (to + p) up (λ q. holds last p && holds more q) l₀ l₂
       this =
-          let later : RowCopied (from + p) (to + p) up (holds gained) l₀ l₂ = copied-row-later (row-outside (from + p) (so-far .rest) (omega arith)) row (row-same (to + p) l₂) in
+          let later : RowCopied (from + p) (to + p) up (holds gained) l₀ l₂ = copied-row-later (omega arith) (row-outside (from + p) (so-far .rest) (omega arith)) row (row-same (to + p) l₂) in
           record {
-            range-same = later .range-same;
+            held-same = later .held-same;
+            same-below = later .same-below;
             follow-same = λ q. later .follow-same q ∙ ap (λ (b : Bool). holdsMoved (followOf l₀ (from + p)) up q || b) (gained-is q);
           }
 

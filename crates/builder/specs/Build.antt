@@ -6,10 +6,12 @@ use Prim.Native.Nat.{ℕ, _+_, _*_, _≤_, _<_}
 use lib.ListN.{length, getD}
 use Rattle.semantics.specs.Pattern.{Pattern, word, star}
 use Rattle.semantics.specs.Table.{positions}
-use Rattle.laws.specs.PositionAutomaton.{split, lowAt, highAt, firstAt, followAt}
+use Rattle.laws.specs.PositionAutomaton.{split, classAt, firstAt, followAt}
+use Rattle.classes.specs.declared.Class.{Class}
 use Rattle.positions.specs.declared.Set.{Set}
 use Rattle.positions.specs.Positions.{holds, holdsMoved}
-use Rattle.automaton.specs.Rows.{sideIndex, rowAt, followOf, automatonAt, RowIs, Describes}
+use Rattle.automaton.specs.Rows.{sideIndex, rowAt, heldOf, followOf, automatonAt, RowIs, Describes}
+use Rattle.automaton.specs.Rows as R
 use Rattle.automaton.specs.declared.Automaton.{Automaton}
 use Rattle.automaton.specs.declared.Side.{Side}
 
@@ -53,9 +55,9 @@ pub record SideBuilt (node : ℕ) (side : Side) (start row rows : ℕ) (before a
       → (rowAt row ≤ i → i < rowAt (row + rows) → ⊥)
       → getD after i 0 ≡ getD before i 0
 
--- The automaton of a pattern with no parts.
-pub record BuiltAlone (r : Pattern) (node : ℕ) (side : Side) (row rows : ℕ) (before after : List ℕ) : Type 0 where
-  pub built : SideBuilt node side row row rows before after
+-- The automaton of a pattern with no parts, which begins at the row `start`, one of the new rows.
+pub record BuiltAlone (r : Pattern) (node : ℕ) (side : Side) (start row rows : ℕ) (before after : List ℕ) : Type 0 where
+  pub built : SideBuilt node side start row rows before after
   pub described : Counted r node side before → Describes r (automatonAt after node side) after
 
 -- That of a repeat, from that of its part.
@@ -90,9 +92,14 @@ pub record TwoPut (i a b : ℕ) (before after : List ℕ) : Type 0 where
   pub second-put : getD after (i + 1) 0 ≡ b
   pub rest : Kept i (i + 2) before after
 
+-- A class was put at i.
+pub record ClassPut (i : ℕ) (class : Class) (before after : List ℕ) : Type 0 where
+  pub class-put : R.classAt after i ≡ class
+  pub rest : Kept i (i + 4) before after
+
 -- A row was put.
-pub record RowPut (row range : ℕ) (follow : Set) (before after : List ℕ) : Type 0 where
-  pub range-put : getD after (rowAt row) 0 ≡ range
+pub record RowPut (row held : ℕ) (follow : Set) (before after : List ℕ) : Type 0 where
+  pub held-put : heldOf after row ≡ held
   pub follow-put : followOf after row ≡ follow
   pub rest : Kept (rowAt row) (rowAt (row + 1)) before after
 
@@ -103,9 +110,14 @@ pub record HeaderPut (node : ℕ) (side : Side) (start : ℕ) (empty : Bool) (fi
       ≡ record { start = start; count = getD before (countAt node side) 0; nullable = empty; first = first; last = last }
   pub rest : Kept (headerAt node side) (headerAt node side + 6) before after
 
+-- The rows below `row`, and the classes among them, are as they were.
+abbrev pub SameBelow : ℕ → List ℕ → List ℕ → Type 0
+SameBelow row before after = (i : ℕ) → 1536 ≤ i → i < rowAt row → getD after i 0 ≡ getD before i 0
+
 -- Row `to` is row `from` as it was, its positions moved up by `up`, and may be followed by those of `more` too.
 pub record RowCopied (from to up : ℕ) (more : ℕ → Bool) (before after : List ℕ) : Type 0 where
-  pub range-same : getD after (rowAt to) 0 ≡ getD before (rowAt from) 0
+  pub held-same : heldOf after to ≡ heldOf before from
+  pub same-below : SameBelow from before after
   pub follow-same : (q : ℕ) → holds (followOf after to) q ≡ (holdsMoved (followOf before from) up q || more q)
 
 -- So are `count` rows from `to` on; each that is in `last` may be followed by `more` too.
@@ -121,8 +133,7 @@ pub record Lettered (row count : ℕ) (letters before after : List ℕ) : Type 0
 -- The positions of c are those of r and then those of s. A position of r in `crossing` may be followed by the first ones of s.
 pub record TwoOf (c r s : Pattern) (crossing : ℕ → Bool) : Type 0 where
   pub count-two : positions c ≡ positions r + positions s
-  pub low-two : (p : ℕ) → lowAt c p ≡ split (positions r) (lowAt r) (lowAt s) p
-  pub high-two : (p : ℕ) → highAt c p ≡ split (positions r) (highAt r) (highAt s) p
+  pub class-two : (p : ℕ) → classAt c p ≡ split (positions r) (classAt r) (classAt s) p
   pub follow-two :
       (p q : ℕ)
       → followAt c p q

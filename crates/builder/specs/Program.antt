@@ -5,18 +5,17 @@ use mathlib.Core.List.{List}
 use Prim.Native.Nat.{ℕ, zero, suc, _+_, _*_, _≤_, _<_}
 use lib.ListN.{length}
 use Rattle.semantics.specs.Text.{Text}
-use Rattle.semantics.specs.Pattern.{Pattern, concat, alt}
+use Rattle.semantics.specs.Pattern.{Pattern, word, oneOf, concat, alt, star}
 use Rattle.semantics.specs.Lens.{Lens, copy, const, key, join, union, repeat, match, source, sheet, language}
 use Rattle.semantics.specs.Lens.{Side as SideOf}
 use Rattle.semantics.specs.Table.{nodeCount, poolLength, sizesWrong, Tree, pattern, lens, broken, treeAt, trees, positions}
 use Rattle.table.specs.declared.Kind.{Kind}
-use Rattle.table.specs.declared.Kind.the-variants.{Word, Range, PatternJoin, PatternUnion, PatternRepeat, Copy, Const, Key, LensJoin, LensUnion, LensRepeat, Match}
+use Rattle.table.specs.declared.Kind.the-variants.{Word, OneOf, PatternJoin, PatternUnion, PatternRepeat, Copy, Const, Key, LensJoin, LensUnion, LensRepeat, Match}
 use Rattle.table.specs.Rules.{AllSized}
 use Rattle.builder.specs.declared.program.Pair.{Pair}
 use Rattle.builder.specs.declared.program.Pair.the-variants.{Join, Union}
 use Rattle.builder.specs.declared.program.Parts.{Parts}
-use Rattle.builder.specs.declared.program.Parts.the-variants.{Letters, Two, Repeat, Same}
-use Rattle.builder.specs.declared.program.Parts.the-variants as P
+use Rattle.builder.specs.declared.program.Parts.the-variants.{Letters, Runs, Two, Repeat, Same}
 use Rattle.automaton.specs.declared.Side.{Side}
 use Rattle.automaton.specs.declared.Side.the-variants.{Source, Sheet}
 use Rattle.automaton.specs.Rows.{sideOf, sideIndex, rowAt, automatonAt, Describes}
@@ -25,9 +24,17 @@ use Rattle.automaton.specs.Built.{treeLanguage}
 
 -- ---- How many rows
 
--- the rows of a side: as many as it has positions. A pattern's sheet side takes none: it has those of its source side
+-- the rows of a pattern: as many as it has positions, and two more for the class of a range or a set
+unfoldable pub ownRows : Pattern → ℕ
+ownRows (word w) = positions (word w)
+ownRows (oneOf c) = 3
+ownRows (concat r s) = positions (concat r s)
+ownRows (alt r s) = positions (alt r s)
+ownRows (star r) = positions (star r)
+
+-- those of a side. A pattern's sheet side takes none: it has those of its source side
 unfoldable pub patternRows : SideOf → Pattern → ℕ
-patternRows source r = positions r
+patternRows source r = ownRows r
 patternRows sheet r = 0
 
 -- a copy, const, key or match takes none: it has those of its children
@@ -155,7 +162,7 @@ constPart Sheet a b = b
 -- what a node of that kind is made of, on a side
 abbrev pub partsOf : Kind → Side → Parts
 partsOf (Word start len) side = Letters start len
-partsOf (Range first last) side = P.Range first last
+partsOf (OneOf at runs) side = Runs at runs
 partsOf (PatternJoin a b) side = Two Join a b
 partsOf (PatternUnion a b) side = Two Union a b
 partsOf (PatternRepeat a) side = Repeat a
@@ -170,7 +177,7 @@ partsOf (Match a) side = Same a
 -- whether it is a pattern, and no lens
 abbrev pub isPattern : Kind → Bool
 isPattern (Word start len) = true
-isPattern (Range first last) = true
+isPattern (OneOf at runs) = true
 isPattern (PatternJoin a b) = true
 isPattern (PatternUnion a b) = true
 isPattern (PatternRepeat a) = true

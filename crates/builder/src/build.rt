@@ -48,7 +48,7 @@ fn put_letters(prepared: &mut [u64], row: usize, letters: &[u8])
 
 pub fn build_word(prepared: &mut [u64], node: usize, side: Side, row: usize, letters: &[u8])
     requires { ⌜ Space node row (length (now letters)) (now prepared) ⌝ }
-    ensures { λ r. ⌜ BuiltAlone (word (now (letters .entry))) node side row (length (now (letters .entry))) (now (prepared .entry)) (now (prepared .exit)) ⌝ }
+    ensures { λ r. ⌜ BuiltAlone (word (now (letters .entry))) node side row row (length (now (letters .entry))) (now (prepared .entry)) (now (prepared .exit)) ⌝ }
 {
     let count = letters.len();
     put_letters(prepared, row, letters);
@@ -63,20 +63,20 @@ pub fn build_word(prepared: &mut [u64], node: usize, side: Side, row: usize, let
     );
 }
 
-// The rows of a range or a set: its own, and two that have room for its class.
+// The rows of a range or a set: two that have room for its class, and its own.
 pub const CLASS_ROWS: usize = 3;
 
 // A range or a set, from its runs.
 pub fn build_class(prepared: &mut [u64], node: usize, side: Side, row: usize, runs: &[u8])
     requires { ⌜ Space node row 3 (now prepared) ⌝ }
-    ensures { λ r. ⌜ BuiltAlone (oneOf (runsOf (now (runs .entry)))) node side row 3 (now (prepared .entry)) (now (prepared .exit)) ⌝ }
+    ensures { λ r. ⌜ BuiltAlone (oneOf (runsOf (now (runs .entry)))) node side (row + 2) row 3 (now (prepared .entry)) (now (prepared .exit)) ⌝ }
 {
     let none = Set::empty();
-    let at = Table::ROWS + 3 * (row + 1);
+    let at = Table::ROWS + 3 * row;
     put_class(prepared, at, Class::of(runs));
-    put_row(prepared, row, at as u64, none);
+    put_row(prepared, row + 2, at as u64, none);
     let zero = single(0, 1);
-    put_header(prepared, node, side, row, false, zero, zero);
+    put_header(prepared, node, side, row + 2, false, zero, zero);
 }
 
 // The rows of both, those of the right behind those of the left. The left ones in `last` may be followed by the first ones of the right.

@@ -38,7 +38,7 @@ enum Parts {
 }
 
 // How many rows the automata of node k take. Both sides of a pattern have the same rows, so they count once. A range or a set has its class
-// behind its row. A copy, const, key or match takes none: it has those of its children.
+// in front of its row. A copy, const, key or match takes none: it has those of its children.
 fn rows_of(bytes: &[u8], prepared: &[u64], k: usize) -> usize
     requires { ⌜ AllSized (now bytes) (now prepared) ⌝ }
     requires { ⌜ k < nodeCount (now bytes) ⌝ }
