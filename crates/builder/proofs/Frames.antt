@@ -1,7 +1,7 @@
 -- What a build leaves of everything else: the other automata, and the sizes of the nodes. Assumes nothing.
 use mathlib.Core.Path.{_≡_}
 use mathlib.Core.List.{List}
-use Prim.Native.Nat.{ℕ, _+_, _*_, _≤_, _<_}
+use Prim.Native.Nat.{ℕ, _+_, _-_, _*_, _/_, _≤_, _<_}
 use native.Mathlib.Omega.{arith}
 use lib.Dec.{eqb}
 use lib.ListN.{getD}
@@ -26,10 +26,10 @@ module _
     (built : SideBuilt node side start row rows before after)
     (a-node : 16 * node + 16 ≤ 1536)
   where
-    -- an automaton stays that of its pattern, where none of its rows is a new one
+    -- an automaton stays that of its pattern, where no row up to its last is a new one
     pub describes-kept :
         {r : Pattern} {a : Automaton}
-        → ((p : ℕ) → p < a .count → row ≤ a .start + p → a .start + p < row + rows → ⊥)
+        → ((j : ℕ) → j < a .start + a .count → row ≤ j → j < row + rows → ⊥)
         → Describes r a before
         → Describes r a after
     describes-kept {a = a} apart of-r =
@@ -48,7 +48,7 @@ module _
               before
               after
               (λ i l u.
-              built .kept i (omega arith) (λ x y. apart p (omega (arith, of-r .count-is)) (omega arith) (omega arith))));
+              built .kept i (omega arith) (λ x y. apart ((i - 1536) / 3) (omega (arith, of-r .count-is)) (omega arith) (omega arith))));
         }
 
     -- the four sizes of every node stay
@@ -103,7 +103,7 @@ module _
         {r : Pattern} (k : ℕ) (other : Side)
         → 16 * k + 16 ≤ 1536
         → (k ≡ node → sideIndex other ≡ sideIndex side → ⊥)
-        → ((p : ℕ) → p < automatonAt before k other .count → row ≤ automatonAt before k other .start + p → automatonAt before k other .start + p < row + rows → ⊥)
+        → ((j : ℕ) → j < automatonAt before k other .start + automatonAt before k other .count → row ≤ j → j < row + rows → ⊥)
         → Describes r (automatonAt before k other) before
         → Describes r (automatonAt after k other) after
     other-described k other l different apart of-r = rw (automaton-kept k other l different) (describes-kept apart of-r)

@@ -1,22 +1,27 @@
 -- The automaton of a pattern from those of its parts: what its rows and its sets hold, position by position. Assumes nothing.
 use mathlib.Core.Path.{_≡_, refl, sym, ap, ap₂, _∙_}
-use mathlib.Core.Bool.{Bool, true, false, _&&_, _||_, and-true}
+use mathlib.Core.Bool.{Bool, true, false, _&&_, _||_, cond, and-true}
 use mathlib.Core.List.{List, [], _∷_}
-use mathlib.Core.Logic.{⊎-elim}
-use Prim.Native.Nat.{ℕ, _+_, _-_, _*_, _/_, _%_, _≤_, _<_}
+use mathlib.Core.Logic.{inl, inr, ⊎-elim}
+use Prim.Native.Nat.{ℕ, _+_, _-_, _*_, _≤_, _<_}
 use native.Mathlib.Omega.{arith}
+use native.Mathlib.Nat.{add-zero}
 use lib.Dec.{eqb, ltb}
 use lib.ListN.{length, getD}
 use borrow.Author.Tests.{ltb-true, ltb-false, lt-ltb, le-ltb, le-leb, lt-leb, eqb-true, eq-eqb, ne-eqb}
 use Rattle.semantics.specs.Text.{Text}
-use Rattle.semantics.specs.Pattern.{Pattern, word, range, concat, alt, star, nullable}
+use Rattle.semantics.specs.Pattern.{Class, range, inClass, Pattern, word, oneOf, concat, alt, star, nullable}
 use Rattle.semantics.specs.Table.{positions}
-use Rattle.laws.specs.Basics.{bool-cases, false-of-not-true, cond-false, and-both}
-use Rattle.laws.specs.PositionAutomaton.{split, split-left, lowAt, highAt, firstAt, lastAt, followAt, first-within, last-within, follow-within}
+use Rattle.laws.specs.Basics.{bool-cases, not-both, false-of-not-true, cond-true, cond-false, and-both}
+use Rattle.laws.specs.Classes.{one-byte, only-byte}
+use Rattle.laws.specs.PositionAutomaton.{split, split-left, classAt, standsAt, firstAt, lastAt, followAt, first-within, last-within, follow-within}
 use Rattle.positions.specs.declared.Set.{Set}
 use Rattle.positions.specs.Positions.{holds, holdsMoved, Empty, Moved}
-use Rattle.automaton.specs.Rows.{sideIndex, rowAt, lowOf, highOf, followOf, automatonAt, RowIs, Describes}
-use Rattle.builder.specs.Build.{countAt, Counted, Kept, SideBuilt, BuiltAlone, BuiltRepeat, BuiltPair, Aliased, RowPut, HeaderPut, RowCopied, Copied, Lettered, TwoOf, RowsJoined}
+use Rattle.automaton.specs.Rows.{sideIndex, rowAt, heldOf, followOf, standsIn, automatonAt, ClassBelow, RowIs, Describes}
+use Rattle.automaton.specs.Rows as R
+use Rattle.classes.specs.Classes.{holdsByte}
+use Rattle.classes.specs.declared.Class.{Class as Bits}
+use Rattle.builder.specs.Build.{countAt, Counted, Kept, SideBuilt, BuiltAlone, BuiltRepeat, BuiltPair, Aliased, ClassPut, RowPut, HeaderPut, SameBelow, RowCopied, Copied, Lettered, TwoOf, RowsJoined}
 use Rattle.automaton.specs.declared.Automaton.{Automaton}
 use Rattle.automaton.specs.declared.Side.{Side}
 use Rattle.automaton.specs.declared.Side.the-variants.{Source, Sheet}
@@ -94,44 +99,73 @@ join-halves n f g b within q =
 -- ---- The rows of two parts
 
 pub concat-two : (r s : Pattern) → TwoOf (concat r s) r s (lastAt r)
-unfolding positions lowAt highAt followAt
+unfolding positions classAt followAt
 concat-two r s =
-    record { count-two = refl; low-two = λ p. refl; high-two = λ p. refl; follow-two = λ p q. refl }
+    record { count-two = refl; class-two = λ p. refl; follow-two = λ p q. refl }
 
 pub alt-two : (r s : Pattern) → TwoOf (alt r s) r s (λ i. false)
-unfolding positions lowAt highAt followAt
+unfolding positions classAt followAt
 alt-two r s =
-    record { count-two = refl; low-two = λ p. refl; high-two = λ p. refl; follow-two = λ p q. refl }
+    record { count-two = refl; class-two = λ p. refl; follow-two = λ p q. refl }
 
--- a row that holds what position p has is its row
-row-of :
-    (r : Pattern) (start p row : ℕ) (l : List ℕ)
-    → row ≡ start + p
-    → lowOf l row ≡ lowAt r p
-    → highOf l row ≡ highAt r p
-    → ((q : ℕ) → holds (followOf l row) q ≡ followAt r p q)
-    → RowIs r start p l
-row-of r start p row l e low high follow =
+-- ---- What tells the bytes of a row
+
+-- a number that is a letter tells that letter
+letter-stands : (l : List ℕ) (row letter byte : ℕ) → letter < 256 → heldOf l row ≡ letter → standsIn l row byte ≡ eqb byte letter
+unfolding standsIn
+letter-stands l row letter byte small is = rw is (cond-true (ltb letter 256) (eqb byte letter) _ (lt-ltb letter 256 small))
+
+-- and any other the class that stands there
+class-stands : (l : List ℕ) (row held byte : ℕ) → 256 ≤ held → heldOf l row ≡ held → standsIn l row byte ≡ holdsByte (R.classAt l held) byte
+unfolding standsIn
+class-stands l row held byte large is = rw is (cond-false (ltb held 256) (eqb byte held) _ (le-ltb held 256 large))
+
+-- four numbers that are as they were are the same class
+class-same :
+    (before after : List ℕ) (i : ℕ)
+    → ((j : ℕ) → i ≤ j → j < i + 4 → getD after j 0 ≡ getD before j 0)
+    → R.classAt after i ≡ R.classAt before i
+class-same before after i same =
+    λ k.
     record {
-      low-is = rw e at low;
-      high-is = rw e at high;
-      follow-is = λ q. rw e at (follow q);
+      low = record { low = same i (omega arith) (omega arith) k; high = same (i + 1) (omega arith) (omega arith) k };
+      high = record { low = same (i + 2) (omega arith) (omega arith) k; high = same (i + 2 + 1) (omega arith) (omega arith) k };
     }
 
--- a copied row, from the row of position p of r that it was
-module _
-    (r : Pattern)
-    (from to p up : ℕ)
-    (more : ℕ → Bool)
-    (before after : List ℕ)
-    (was : RowIs r from p before)
-    (row : RowCopied (from + p) to up more before after)
-  where
-    copied-low : lowOf after to ≡ lowAt r p
-    copied-low = ap (λ (n : ℕ). n / 256) (row .range-same) ∙ was .low-is
+-- A row that is told by the number of another as it was has the bytes that the other had.
+module _ {before after : List ℕ} {from to : ℕ} (held-is : heldOf after to ≡ heldOf before from) (same : SameBelow from before after) where
+  same-bytes : ClassBelow before from → (byte : ℕ) → standsIn after to byte ≡ standsIn before from byte
+  same-bytes (inl letter) byte =
+      letter-stands after to _ byte letter held-is ∙ sym (letter-stands before from _ byte letter refl)
+  same-bytes (inr (large, below)) byte =
+      class-stands after to _ byte (omega arith) held-is
+      ∙ ap (λ (c : Bits). holdsByte c byte) (class-same before after _ (λ j x y. same j (omega arith) (omega arith)))
+      ∙ sym (class-stands before from _ byte (omega arith) refl)
 
-    copied-high : highOf after to ≡ highAt r p
-    copied-high = ap (λ (n : ℕ). n % 256) (row .range-same) ∙ was .high-is
+  -- and its class stands below it too, where it stands above the other
+  class-stays : from ≤ to → ClassBelow before from → ClassBelow after to
+  class-stays up (inl letter) = inl (omega arith)
+  class-stays up (inr (large, below)) = inr (omega arith, omega arith)
+
+-- a copied row is that of a position with the same class, where it is followed by what may follow that position
+copied-row :
+    {r : Pattern} {from p : ℕ} {before : List ℕ} (c : Pattern) (start q : ℕ) {to up : ℕ} {more : ℕ → Bool} {after : List ℕ}
+    → RowIs r from p before
+    → RowCopied (from + p) to up more before after
+    → from + p ≤ to
+    → to ≡ start + q
+    → classAt c q ≡ classAt r p
+    → ((i : ℕ) → holds (followOf after to) i ≡ followAt c q i)
+    → RowIs c start q after
+unfolding standsAt
+copied-row {r} {from} {p} c start q was row up e class follow =
+    rw
+    (← e)
+    (record {
+      bytes-are = λ byte. same-bytes (row .held-same) (row .same-below) (was .class-below) byte ∙ was .bytes-are byte ∙ ap (λ (k : Class). inClass k byte) (sym class);
+      class-below = class-stays (row .held-same) (row .same-below) up (was .class-below);
+      follow-is = follow;
+    })
 
 module _
     (row : ℕ)
@@ -167,18 +201,19 @@ module _
             let was = of-r .row-is p h in
             let it : RowCopied (left .start + p) (row + p) 0 (λ q. holds last p && holds more q) l₀ l₂ =
             copied-row-later
+            (omega (arith, of-r .count-is))
             (row-same (left .start + p) l₀)
             (one .copied p (omega (arith, of-r .count-is)))
             (row-outside (row + p) (two .rest) (omega (arith, of-r .count-is))) in
-            row-of
+            copied-row
             c
             row
             p
-            (row + p)
-            l₂
+            was
+            it
+            (omega (arith, of-r .count-is))
             refl
-            (copied-low r (left .start) (row + p) p 0 _ l₀ l₂ was it ∙ sym (both .low-two p ∙ split-left (positions r) (lowAt r) (lowAt s) p h))
-            (copied-high r (left .start) (row + p) p 0 _ l₀ l₂ was it ∙ sym (both .high-two p ∙ split-left (positions r) (highAt r) (highAt s) p h))
+            (both .class-two p ∙ split-left (positions r) (classAt r) (classAt s) p h)
             (λ q.
             it .follow-same q
             ∙ ap₂
@@ -194,18 +229,19 @@ module _
             let was = of-s .row-is i (omega (arith, both .count-two)) in
             let it : RowCopied (right .start + i) (row + left .count + i) (left .count) (λ q. holds none i && holds none q) l₀ l₂ =
             copied-row-later
+            (omega (arith, both .count-two, of-s .count-is))
             (row-outside (right .start + i) (one .rest) (omega (arith, both .count-two, of-s .count-is)))
             (two .copied i (omega (arith, both .count-two, of-s .count-is)))
             (row-same (row + left .count + i) l₂) in
-            row-of
+            copied-row
             c
             row
             p
-            (row + left .count + i)
-            l₂
+            was
+            it
+            (omega (arith, both .count-two, of-s .count-is))
             (omega (arith, of-r .count-is))
-            (copied-low s (right .start) (row + left .count + i) i (left .count) _ l₀ l₂ was it ∙ sym (both .low-two p ∙ split-right (positions r) (lowAt r) (lowAt s) p h))
-            (copied-high s (right .start) (row + left .count + i) i (left .count) _ l₀ l₂ was it ∙ sym (both .high-two p ∙ split-right (positions r) (highAt r) (highAt s) p h))
+            (both .class-two p ∙ split-right (positions r) (classAt r) (classAt s) p h)
             (λ q.
             it .follow-same q
             ∙ ap₂
@@ -244,8 +280,8 @@ module _
 pub row-is-kept : {r : Pattern} {start p : ℕ} {before after : List ℕ} → RowIs r start p before → RowKept (start + p) before after → RowIs r start p after
 row-is-kept was same =
     record {
-      low-is = ap (λ (n : ℕ). n / 256) (same .range-kept) ∙ was .low-is;
-      high-is = ap (λ (n : ℕ). n % 256) (same .range-kept) ∙ was .high-is;
+      bytes-are = λ byte. same-bytes (same .held-kept) (same .below-kept) (was .class-below) byte ∙ was .bytes-are byte;
+      class-below = class-stays (same .held-kept) (same .below-kept) (omega arith) (was .class-below);
       follow-is = λ q. ap (λ (s : Set). holds s q) (same .follow-kept) ∙ was .follow-is q;
     }
 
@@ -294,7 +330,15 @@ module _
           row-is = λ p h. row-is-kept (row-is p h) (row-outside (start + p) (header .rest) (omega arith));
         })
 
--- ---- A word, a range
+-- ---- A word, a class
+
+-- a letter tells the bytes of the class that it alone is in
+letter-class : (letter byte : ℕ) → eqb byte letter ≡ inClass (range letter letter) byte
+letter-class letter byte = go (eqb byte letter) refl
+  where
+    go : (b : Bool) → eqb byte letter ≡ b → b ≡ inClass (range letter letter) byte
+    go true e = let same : letter ≡ byte = sym (eqb-true byte letter e) in rw same at (sym (one-byte letter))
+    go false e = sym (false-of-not-true _ (λ i. not-both (eq-eqb byte letter (only-byte letter byte i)) e))
 
 -- no letters have their rows yet
 pub lettered-none : (row : ℕ) (w l : List ℕ) → Lettered row 0 w l l
@@ -302,14 +346,14 @@ lettered-none row w l = record { lettered = λ p h. absurd (omega arith); rest =
 
 -- one more has
 pub lettered-more :
-    (row p : ℕ) (w l₀ l₁ l₂ : List ℕ) (number : ℕ) (next : Set)
-    → (number / 256 ≡ getD w p 0) × (number % 256 ≡ getD w p 0)
+    (row p : ℕ) (w l₀ l₁ l₂ : List ℕ) (next : Set)
+    → getD w p 0 < 256
     → ((q : ℕ) → holds next q ≡ (eqb q (p + 1) && ltb q (length w)))
     → Lettered row p w l₀ l₁
-    → RowPut (row + p) number next l₁ l₂
+    → RowPut (row + p) (getD w p 0) next l₁ l₂
     → Lettered row (p + 1) w l₀ l₂
-unfolding lowAt highAt followAt
-lettered-more row p w l₀ l₁ l₂ number next number-is next-is so-far put =
+unfolding classAt standsAt followAt
+lettered-more row p w l₀ l₁ l₂ next small next-is so-far put =
     record {
       lettered =
           λ i k.
@@ -327,8 +371,8 @@ lettered-more row p w l₀ l₁ l₂ number next number-is next-is so-far put =
     this : RowIs (word w) row p l₂
     this =
         record {
-          low-is = ap (λ (n : ℕ). n / 256) (put .range-put) ∙ number-is .0;
-          high-is = ap (λ (n : ℕ). n % 256) (put .range-put) ∙ number-is .1;
+          bytes-are = λ byte. letter-stands l₂ (row + p) (getD w p 0) byte small (put .held-put) ∙ letter-class (getD w p 0) byte;
+          class-below = inl (omega (arith, put .held-put));
           follow-is = λ q. ap (λ (s : Set). holds s q) (put .follow-put) ∙ next-is q;
         }
 
@@ -354,7 +398,7 @@ pub word-built :
     → ((q : ℕ) → holds last q ≡ eqb (q + 1) (length w))
     → Lettered row (length w) w l₀ l₁
     → HeaderPut node side row empty first last l₁ l₂
-    → BuiltAlone (word w) node side row (length w) l₀ l₂
+    → BuiltAlone (word w) node side row row (length w) l₀ l₂
 unfolding positions firstAt lastAt
 word-built node side row w l₀ l₁ l₂ empty first last a-node empty-is first-is last-is letters header =
     record {
@@ -368,32 +412,44 @@ word-built node side row w l₀ l₁ l₂ empty first last a-node empty-is first
           (letters .lettered);
     }
 
-pub range-built :
-    (node : ℕ) (side : Side) (row low high number : ℕ) (l₀ l₁ l₂ : List ℕ) (none zero : Set)
+-- a class is put, then the row that refers to it, then the header
+pub class-built :
+    (node : ℕ) (side : Side) (row : ℕ) (c : Class) (class : Bits) (l₀ l₁ l₂ l₃ : List ℕ) (none zero : Set)
     → 16 * node + 16 ≤ 1536
-    → (number / 256 ≡ low) × (number % 256 ≡ high)
+    → ((byte : ℕ) → holdsByte class byte ≡ inClass c byte)
     → Empty none
     → ((q : ℕ) → holds zero q ≡ (eqb q 0 && ltb q 1))
-    → RowPut row number none l₀ l₁
-    → HeaderPut node side row false zero zero l₁ l₂
-    → BuiltAlone (range low high) node side row 1 l₀ l₂
-unfolding positions nullable firstAt lastAt lowAt highAt followAt
-range-built node side row low high number l₀ l₁ l₂ none zero a-node number-is none-is zero-is put header =
+    → ClassPut (rowAt row) class l₀ l₁
+    → RowPut (row + 2) (rowAt row) none l₁ l₂
+    → HeaderPut node side (row + 2) false zero zero l₂ l₃
+    → BuiltAlone (oneOf c) node side (row + 2) row 3 l₀ l₃
+unfolding positions nullable firstAt lastAt classAt standsAt followAt
+class-built node side row c class l₀ l₁ l₂ l₃ none zero a-node class-is none-is zero-is class-put put header =
     record {
-      built = header-built node side row row 1 false zero zero l₀ l₁ l₂ a-node (put .rest) header;
+      built = header-built node side (row + 2) row 3 false zero zero l₀ l₂ l₃ a-node rows header;
       described =
           λ count.
-          header-described node side row row 1 false zero zero l₀ l₁ l₂ a-node (put .rest) header (range low high) count
+          header-described node side (row + 2) row 3 false zero zero l₀ l₂ l₃ a-node rows header (oneOf c) count
           refl
           zero-at
           zero-at
           (λ p h.
-          row-of (range low high) row p row l₁ (omega arith)
-          (ap (λ (n : ℕ). n / 256) (put .range-put) ∙ number-is .0)
-          (ap (λ (n : ℕ). n % 256) (put .range-put) ∙ number-is .1)
-          (λ q. ap (λ (s : Set). holds s q) (put .follow-put) ∙ none-is q));
+          let first : p ≡ 0 = omega arith in
+          rw
+          (first, add-zero (row + 2))
+          (record {
+            bytes-are = λ byte. class-stands l₂ (row + 2) (rowAt row) byte (omega arith) (put .held-put) ∙ ap (λ (k : Bits). holdsByte k byte) class-there ∙ class-is byte;
+            class-below = inr (omega (arith, put .held-put), omega (arith, put .held-put));
+            follow-is = λ q. ap (λ (s : Set). holds s q) (put .follow-put) ∙ none-is q;
+          }));
     }
   where
+    rows : Kept (rowAt row) (rowAt (row + 3)) l₀ l₂
+    rows = kept-both (rowAt row) (rowAt (row + 3)) (class-put .rest) (put .rest) (omega arith) (omega arith) (omega arith) (omega arith)
+
+    class-there : R.classAt l₂ (rowAt row) ≡ class
+    class-there = class-same l₁ l₂ (rowAt row) (λ j x y. put .rest .kept j (omega arith)) ∙ class-put .class-put
+
     zero-at : (q : ℕ) → holds zero q ≡ eqb q 0
     zero-at q = zero-is q ∙ at-zero 1 q ∙ and-true (eqb q 0)
 
@@ -403,11 +459,12 @@ pub star-built :
     (node : ℕ) (side : Side) (row : ℕ) (part : Automaton) (l₀ l₁ l₂ : List ℕ)
     → 16 * node + 16 ≤ 1536
     → part .count ≤ 128
+    → part .start + part .count ≤ row
     → Copied (part .start) row (part .count) 0 (part .last) (part .first) l₀ l₁
     → HeaderPut node side row true (part .first) (part .last) l₁ l₂
     → BuiltRepeat node side row part l₀ l₂
-unfolding positions nullable firstAt lastAt lowAt highAt followAt
-star-built node side row part l₀ l₁ l₂ a-node few rows header =
+unfolding positions nullable firstAt lastAt classAt followAt
+star-built node side row part l₀ l₁ l₂ a-node few below rows header =
     record {
       built = header-built node side row row (part .count) true (part .first) (part .last) l₀ l₁ l₂ a-node (rows .rest) header;
       described =
@@ -435,15 +492,15 @@ star-built node side row part l₀ l₁ l₂ a-node few rows header =
           (λ p h.
           let was = of-r .row-is p h in
           let it = rows .copied p (omega (arith, of-r .count-is)) in
-          row-of
+          copied-row
           (star r)
           row
           p
-          (row + p)
-          l₁
+          was
+          it
+          (omega (arith, of-r .count-is))
           refl
-          (copied-low r (part .start) (row + p) p 0 _ l₀ l₁ was it)
-          (copied-high r (part .start) (row + p) p 0 _ l₀ l₁ was it)
+          refl
           (λ q.
           it .follow-same q
           ∙ ap₂

@@ -2,6 +2,7 @@
 use mathlib.Core.Path.{_≡_, refl, sym, ap, subst, _∙_}
 use mathlib.Core.Bool.{true, false, _||_, true≢false}
 use mathlib.Core.List.{List}
+use mathlib.Core.Logic.{inl, inr}
 use Prim.Native.Nat.{ℕ, zero, suc, _+_, _-_, _*_, _≤_, _<_}
 use native.Mathlib.Nat.{add-zero, add-suc}
 use native.Mathlib.Numerals.{add-one}
@@ -11,13 +12,13 @@ use lib.ListN.{length, take, drop}
 use lib.Seq.{drop-drop}
 use borrow.Author.Tests.{ltb-false}
 use Rattle.semantics.specs.Text.{Text}
-use Rattle.semantics.specs.Pattern.{Pattern, word, range, star}
+use Rattle.semantics.specs.Pattern.{Class, Pattern, word, oneOf, concat, alt, star}
 use Rattle.semantics.specs.Lens.{copy, const, key, join, union, repeat, match, source, sheet, language, constLanguage}
 use Rattle.semantics.specs.Lens.{Side as SideOf}
-use Rattle.semantics.specs.Table.{nodeCount, poolLength, pool, Tree, pattern, lens, broken, treeAt, trees, treeSize, treePositions, positions, overLimit}
+use Rattle.semantics.specs.Table.{nodeCount, poolLength, pool, Tree, pattern, lens, broken, treeAt, trees, runsOf, treeSize, treePositions, positions, overLimit}
 use Rattle.laws.specs.Basics.{or-neither}
 use Rattle.table.specs.declared.Kind.{Kind}
-use Rattle.table.specs.declared.Kind.the-variants.{Word, Range, PatternJoin, PatternUnion, PatternRepeat, Copy, Const, Key, LensJoin, LensUnion, LensRepeat, Match}
+use Rattle.table.specs.declared.Kind.the-variants.{Word, OneOf, PatternJoin, PatternUnion, PatternRepeat, Copy, Const, Key, LensJoin, LensUnion, LensRepeat, Match}
 use Rattle.table.specs.Prepared.{Shows}
 use Rattle.table.specs.declared.Node.{Node}
 use Rattle.table.specs.Rules.{AllSized, NodeRead}
@@ -26,14 +27,13 @@ use Rattle.builder.specs.declared.program.Pair.{Pair}
 use Rattle.builder.specs.declared.program.Pair.the-variants.{Join, Union}
 use Rattle.automaton.specs.declared.Automaton.{Automaton}
 use Rattle.builder.specs.declared.program.Parts.{Parts}
-use Rattle.builder.specs.declared.program.Parts.the-variants.{Letters, Two, Repeat, Same}
-use Rattle.builder.specs.declared.program.Parts.the-variants as P
+use Rattle.builder.specs.declared.program.Parts.the-variants.{Letters, Runs, Two, Repeat, Same}
 use Rattle.automaton.specs.declared.Side.{Side}
 use Rattle.automaton.specs.declared.Side.the-variants.{Source, Sheet}
-use Rattle.automaton.specs.Rows.{sideOf, sideIndex, rowAt, automatonAt, Describes}
+use Rattle.automaton.specs.Rows.{sideOf, sideIndex, rowAt, automatonAt, ClassBelow, RowRoom, Describes}
 use Rattle.builder.specs.Build.{Space, Counted, SideBuilt, BuiltAlone, BuiltPair}
 use Rattle.automaton.specs.Built.{treeLanguage, Built}
-use Rattle.builder.specs.Program.{patternRows, lensRows, sideRows, rowsTaken, rowsBelow, rowsNeeded, rowsBefore, languageAt, nextNode, nextSide, turnOf, Standing, BuiltUpTo, Turn, Part, pairOf, PairReady, PairMade, RepeatReady, RepeatMade, AliasReady, AliasMade, constPart, partsOf, isPattern, OwnSide}
+use Rattle.builder.specs.Program.{ownRows, patternRows, lensRows, sideRows, rowsTaken, rowsBelow, rowsNeeded, rowsBefore, languageAt, nextNode, nextSide, turnOf, Standing, BuiltUpTo, Turn, Part, pairOf, PairReady, PairMade, RepeatReady, RepeatMade, AliasReady, AliasMade, constPart, partsOf, isPattern, OwnSide}
 use Rattle.builder.proofs.Parts.{below-or-not, side-small}
 use Rattle.builder.proofs.Frames.{size-kept, automaton-kept, other-described}
 
@@ -58,19 +58,28 @@ few-positions side t e =
     go source x y = x
     go sheet x y = y
 
--- a side takes no more rows than it has positions
-taken-few : (side : SideOf) (t : Tree) → sideRows side t ≤ treePositions side t
+-- a pattern takes at most 128 rows of its own, where it has no more positions
+own-few : (r : Pattern) → positions r ≤ 128 → ownRows r ≤ 128
+unfolding ownRows
+own-few (word w) h = h
+own-few (oneOf c) h = omega arith
+own-few (concat r s) h = h
+own-few (alt r s) h = h
+own-few (star r) h = h
+
+-- and so does a side
+taken-few : (side : SideOf) (t : Tree) → treePositions side t ≤ 128 → sideRows side t ≤ 128
 unfolding sideRows patternRows lensRows treePositions
-taken-few source (pattern r) = omega arith
-taken-few sheet (pattern r) = omega arith
-taken-few side (lens (copy r)) = omega arith
-taken-few side (lens (const r w d)) = omega arith
-taken-few side (lens (key r)) = omega arith
-taken-few side (lens (join l m)) = omega arith
-taken-few side (lens (union l m)) = omega arith
-taken-few side (lens (repeat l)) = omega arith
-taken-few side (lens (match n l)) = omega arith
-taken-few side broken = omega arith
+taken-few source (pattern r) h = own-few r h
+taken-few sheet (pattern r) h = omega arith
+taken-few side (lens (copy r)) h = omega arith
+taken-few side (lens (const r w d)) h = omega arith
+taken-few side (lens (key r)) h = omega arith
+taken-few side (lens (join l m)) h = omega arith
+taken-few side (lens (union l m)) h = omega arith
+taken-few side (lens (repeat l)) h = omega arith
+taken-few side (lens (match n l)) h = omega arith
+taken-few side broken h = omega arith
 
 module _ {bytes : Text} {prepared : List ℕ} (all : AllSized bytes prepared) (k : ℕ) (inside : k < nodeCount bytes) where
   -- it is one of the 96 nodes
@@ -96,11 +105,8 @@ module _ {bytes : Text} {prepared : List ℕ} (all : AllSized bytes prepared) (k
   -- it has at most 128 rows on a side, and 256 positions on both
   few-taken : (side : Side) → rowsTaken bytes k side ≤ 128
   few-taken side =
-      omega (
-        arith,
-        taken-few (sideOf side) (treeAt (trees bytes) k),
-        few-positions (sideOf side) (treeAt (trees bytes) k) (all .sized .each k inside .within),
-      )
+      let t = treeAt (trees bytes) k in
+      taken-few (sideOf side) t (few-positions (sideOf side) t (all .sized .each k inside .within))
 
   pub few-both : {r : Node} → NodeRead bytes k r → r .source + r .sheet ≤ 256
   few-both read =
@@ -158,7 +164,7 @@ rows-one-more bytes k = rw (add-one k) refl
 -- the rows that a node of that kind takes, from the positions of its source side and those of both
 abbrev pub kindRows : Kind → ℕ → ℕ → ℕ
 kindRows (Word start len) once both = once
-kindRows (Range first last) once both = once
+kindRows (OneOf at runs) once both = 3
 kindRows (PatternJoin a b) once both = once
 kindRows (PatternUnion a b) once both = once
 kindRows (PatternRepeat a) once both = once
@@ -177,9 +183,9 @@ module _ (bytes : Text) (k : ℕ) where
       kindRows κ (treePositions source t) (treePositions source t + treePositions sheet t) ≡ rowsTaken bytes k Source + rowsTaken bytes k Sheet
 
   kind-takes : (κ : Kind) → Shows bytes k κ → KindTakes κ
-  unfolding Shows sideRows patternRows lensRows treePositions sideOf
+  unfolding Shows sideRows patternRows ownRows lensRows treePositions sideOf
   kind-takes (Word start len) s = rw (s .tree-is) (omega arith)
-  kind-takes (Range first last) s = rw s (omega arith)
+  kind-takes (OneOf at runs) s = rw (s .tree-is) (omega arith)
   kind-takes (PatternJoin a b) s = rw (s .tree-is) (omega arith)
   kind-takes (PatternUnion a b) s = rw (s .tree-is) (omega arith)
   kind-takes (PatternRepeat a) s = rw (s .tree-is) (omega arith)
@@ -297,7 +303,7 @@ module _ {bytes : Text} {k : ℕ} {side : Side} {row : ℕ} {before : List ℕ} 
                 other
                 there
                 different
-                (λ p h x y. apart (automatonAt before a other .start + p) (omega (arith, was .below .below)) x y)
+                (λ j h x y. apart j (omega (arith, was .below .below)) x y)
                 (was .described);
             below = record { below = rw (automaton-kept built here a other there different) (omega (arith, was .below .below)) };
           }
@@ -321,10 +327,11 @@ pub record LettersShape (bytes : Text) (k : ℕ) (side : Side) (start len : ℕ)
   pub language-is : languageAt bytes k side ≡ word (take len (drop start (pool bytes)))
   pub takes : rowsTaken bytes k side ≡ positions (languageAt bytes k side)
 
--- it is a range
-pub record RangeShape (bytes : Text) (k : ℕ) (side : Side) (first last : ℕ) : Type 0 where
-  pub language-is : languageAt bytes k side ≡ range first last
-  pub takes : rowsTaken bytes k side ≡ positions (languageAt bytes k side)
+-- it is a range or a set
+pub record RunsShape (bytes : Text) (k : ℕ) (side : Side) (at runs : ℕ) : Type 0 where
+  pub inside : at + 2 * runs ≤ length bytes
+  pub language-is : languageAt bytes k side ≡ oneOf (runsOf (take (2 * runs) (drop at bytes)))
+  pub takes : rowsTaken bytes k side ≡ 3
 
 -- it is made of the same side of two lower nodes
 pub record PairShape (bytes : Text) (k : ℕ) (side : Side) (pair : Pair) (a b : ℕ) : Type 0 where
@@ -368,19 +375,20 @@ module _ {bytes : Text} {k : ℕ} {side : Side} {row : ℕ} {before : List ℕ} 
   counted-as : {r : Pattern} → languageAt bytes k side ≡ r → Counted r k side before
   counted-as e = rw e at (counted (turn .up-to .sized) k (turn .inside) side)
 
-  -- a word or a range
-  module _ {r : Pattern} (e : languageAt bytes k side ≡ r) (takes : rowsTaken bytes k side ≡ positions (languageAt bytes k side)) (rows : ℕ) (count : rows ≡ positions r) where
-    taken-alone : rows ≡ rowsTaken bytes k side
-    taken-alone = count ∙ ap positions (sym e) ∙ sym takes
-
+  -- a word, a range or a set
+  module _ {r : Pattern} (e : languageAt bytes k side ≡ r) (rows : ℕ) (takes : rows ≡ rowsTaken bytes k side) where
     pub alone-ready : Space k row rows before
-    alone-ready = space turn rows taken-alone
+    alone-ready = space turn rows takes
 
-    pub alone-next : {after : List ℕ} → BuiltAlone r k side row rows before after → BuiltUpTo bytes (nextNode k side) (nextSide side) (row + rows) after
-    alone-next made =
+    pub alone-next :
+        {start : ℕ} {after : List ℕ}
+        → start + positions r ≤ row + rows
+        → BuiltAlone r k side start row rows before after
+        → BuiltUpTo bytes (nextNode k side) (nextSide side) (row + rows) after
+    alone-next covers made =
         advance turn (row + rows) (made .built) (λ p x y z. omega arith) (rw e (made .described (counted-as e)))
         (omega (arith, ap positions e))
-        (omega (arith, taken-alone))
+        (omega (arith, takes))
 
   -- two parts
   module _ {pair : Pair} {a b : ℕ} (shape : PairShape bytes k side pair a b) where
@@ -454,7 +462,7 @@ module _ {bytes : Text} {k : ℕ} {side : Side} {row : ℕ} {before : List ℕ} 
 
 abbrev pub Shape : Text → ℕ → Side → Parts → Type 0
 Shape bytes k side (Letters start len) = LettersShape bytes k side start len
-Shape bytes k side (P.Range first last) = RangeShape bytes k side first last
+Shape bytes k side (Runs at runs) = RunsShape bytes k side at runs
 Shape bytes k side (Two pair a b) = PairShape bytes k side pair a b
 Shape bytes k side (Repeat a) = RepeatShape bytes k side a
 Shape bytes k side (Same a) = SameShape bytes k side a side
@@ -466,18 +474,23 @@ module _ (bytes : Text) (k : ℕ) where
   const-shape a b c Sheet s = record { earlier = omega (arith, s .sheet-lower); language-is = rw (s .tree-is, s .at-sheet) refl; takes-none = rw (s .tree-is) refl }
 
   module _ (side : Side) where
-    -- the source side of a pattern takes its positions
-    pattern-takes : {r : Pattern} → treeAt (trees bytes) k ≡ pattern r → side ≡ Source → rowsTaken bytes k side ≡ positions (languageAt bytes k side)
-    unfolding treeLanguage sideOf sideRows patternRows
-    pattern-takes e f = rw (f, e) refl
+    -- the source side of a pattern takes its own rows
+    own-taken : {r : Pattern} → treeAt (trees bytes) k ≡ pattern r → side ≡ Source → rowsTaken bytes k side ≡ ownRows r
+    unfolding sideOf sideRows patternRows
+    own-taken e f = rw (f, e) refl
+
+    -- they are its positions, if it is no range and no set
+    pattern-takes : {r : Pattern} → treeAt (trees bytes) k ≡ pattern r → side ≡ Source → ownRows r ≡ positions r → rowsTaken bytes k side ≡ positions (languageAt bytes k side)
+    unfolding treeLanguage sideOf
+    pattern-takes e f own = own-taken e f ∙ own ∙ rw (f, e) refl
 
     shape-of : (κ : Kind) → Shows bytes k κ → OwnSide κ side → Shape bytes k side (partsOf κ side)
-    unfolding Shows treeLanguage language pairOf sideRows lensRows
-    shape-of (Word start len) s o = record { inside = s .inside; language-is = rw (s .tree-is) refl; takes = pattern-takes (s .tree-is) (o .own refl) }
-    shape-of (Range first last) s o = record { language-is = rw s refl; takes = pattern-takes s (o .own refl) }
-    shape-of (PatternJoin a b) s o = record { left-lower = s .left-lower; right-lower = s .right-lower; language-is = rw (s .tree-is, s .at-left, s .at-right) refl; takes = pattern-takes (s .tree-is) (o .own refl) }
-    shape-of (PatternUnion a b) s o = record { left-lower = s .left-lower; right-lower = s .right-lower; language-is = rw (s .tree-is, s .at-left, s .at-right) refl; takes = pattern-takes (s .tree-is) (o .own refl) }
-    shape-of (PatternRepeat a) s o = record { lower = s .lower; language-is = rw (s .tree-is, s .at-child) refl; takes = pattern-takes (s .tree-is) (o .own refl) }
+    unfolding Shows treeLanguage language pairOf sideRows ownRows lensRows
+    shape-of (Word start len) s o = record { inside = s .inside; language-is = rw (s .tree-is) refl; takes = pattern-takes (s .tree-is) (o .own refl) refl }
+    shape-of (OneOf at runs) s o = record { inside = s .inside; language-is = rw (s .tree-is) refl; takes = own-taken (s .tree-is) (o .own refl) }
+    shape-of (PatternJoin a b) s o = record { left-lower = s .left-lower; right-lower = s .right-lower; language-is = rw (s .tree-is, s .at-left, s .at-right) refl; takes = pattern-takes (s .tree-is) (o .own refl) refl }
+    shape-of (PatternUnion a b) s o = record { left-lower = s .left-lower; right-lower = s .right-lower; language-is = rw (s .tree-is, s .at-left, s .at-right) refl; takes = pattern-takes (s .tree-is) (o .own refl) refl }
+    shape-of (PatternRepeat a) s o = record { lower = s .lower; language-is = rw (s .tree-is, s .at-child) refl; takes = pattern-takes (s .tree-is) (o .own refl) refl }
     shape-of (Copy a) s o = record { earlier = omega (arith, s .lower); language-is = rw (s .tree-is, s .at-child) refl; takes-none = rw (s .tree-is) refl }
     shape-of (Const a b c) s o = const-shape a b c side s
     shape-of (Key a) s o = record { earlier = omega (arith, s .lower); language-is = rw (s .tree-is, s .at-child) refl; takes-none = rw (s .tree-is) refl }
@@ -497,7 +510,7 @@ module _ (bytes : Text) (k : ℕ) where
   pub pattern-shape : (κ : Kind) → Shows bytes k κ → isPattern κ ≡ true → SameShape bytes k Sheet k Source
   unfolding Shows
   pattern-shape (Word start len) s e = one-language (s .tree-is)
-  pattern-shape (Range first last) s e = one-language s
+  pattern-shape (OneOf at runs) s e = one-language (s .tree-is)
   pattern-shape (PatternJoin a b) s e = one-language (s .tree-is)
   pattern-shape (PatternUnion a b) s e = one-language (s .tree-is)
   pattern-shape (PatternRepeat a) s e = one-language (s .tree-is)
@@ -515,6 +528,11 @@ pub built-begins : {bytes : Text} {prepared : List ℕ} → AllSized bytes prepa
 unfolding rowsBefore rowsBelow
 built-begins all room = record { sized = all; room = room; rows-are = refl; each = λ a other h. absurd (omega arith) }
 
+-- a row that stands in the prepared program has its class there too
+row-room : {prepared : List ℕ} {row : ℕ} → rowAt (row + 1) ≤ length prepared → ClassBelow prepared row → RowRoom prepared row
+row-room inside (inl letter) = record { inside = inside; class-inside = omega arith }
+row-room inside (inr (large, below)) = record { inside = inside; class-inside = omega arith }
+
 pub built-ends : {bytes : Text} {n row : ℕ} {prepared : List ℕ} → n ≡ nodeCount bytes → BuiltUpTo bytes n Source row prepared → Built bytes prepared
 unfolding rowsBefore rowsNeeded
 built-ends {bytes} {n} {row} all-nodes up =
@@ -529,11 +547,15 @@ built-ends {bytes} {n} {row} all-nodes up =
                 record {
                   few = omega (arith, it .described .count-is, few-rows (up .sized) k h side);
                   inside = omega (arith, it .below .below, up .rows-are, up .room, ap (rowsBelow bytes) all-nodes);
+                  rows = λ p l.
+                      row-room
+                      (omega (arith, it .below .below, up .rows-are, up .room, ap (rowsBelow bytes) all-nodes))
+                      (it .described .row-is p (omega (arith, it .described .count-is)) .class-below);
                 };
           };
     }
 
--- ---- Words and ranges
+-- ---- Words and classes
 
 -- the letters of a word, as they are taken from the table
 pub letters-part :
@@ -549,6 +571,6 @@ pub word-count : (w : Text) → length w ≡ positions (word w)
 unfolding positions
 word-count w = refl
 
-pub range-count : (first last : ℕ) → 1 ≡ positions (range first last)
+pub class-count : (c : Class) → 1 ≡ positions (oneOf c)
 unfolding positions
-range-count first last = refl
+class-count c = refl
