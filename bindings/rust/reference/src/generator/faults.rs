@@ -4,6 +4,7 @@
 use super::draft::{Draft, NodeNumber};
 use super::programs::default_of;
 use super::random::Random;
+use super::sets::{bad_set, clashing_sets};
 use crate::answer::*;
 use crate::program::Program;
 use crate::table::{kind, MAX_NODES, MAX_POOL};
@@ -76,10 +77,13 @@ fn too_long_pool(random: &mut Random) -> Vec<u8> {
 
 /// Plants a fault; the number comes out in most draws, not in all.
 fn plant(random: &mut Random, number: u8, draft: &mut Draft) {
+    let is_of_sets = random.once_in(4);
     match number {
+        BAD_OPERAND if is_of_sets => bad_set(random, draft),
+        SOURCE_JOIN_AMBIGUOUS..=SHEET_REPEAT_AMBIGUOUS if is_of_sets => clashing_sets(random, draft, number),
         UNKNOWN_KIND => {
             let node = random.below(draft.len());
-            draft.kinds[node] = *random.pick(&[5, 6, 15, 23, 24, 255]);
+            draft.kinds[node] = *random.pick(&[6, 7, 15, 23, 24, 255]);
         }
         BAD_OPERAND => bad_operand(random, draft),
         MATCH_IN_MATCH => match_in_match(random, draft),
