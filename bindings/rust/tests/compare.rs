@@ -17,10 +17,10 @@ const PROGRAMS: usize = 800;
 /// Programs for each clause of demand 3.
 const CLAUSE_PROGRAMS: usize = 300;
 
-/// How many accepted programs and how many calls of each kind there must be with
+/// How many programs and how many calls of each kind there must be with
 /// [`PROGRAMS`] for each seed: about half of what there is. Longer comparisons
 /// must have more in proportion.
-const LEAST: [(Kind, usize, usize); 62] = [
+const LEAST: [(Kind, usize, usize); 78] = [
     (Kind::UnionsTwoDeep, 150, 1000),
     (Kind::UnionsThreeDeep, 100, 680),
     (Kind::UnionsOnTheLeft, 65, 440),
@@ -32,7 +32,7 @@ const LEAST: [(Kind, usize, usize); 62] = [
     (Kind::EmptySheetLeaf, 860, 5700),
     (Kind::Deep20, 130, 880),
     (Kind::Deep60, 25, 170),
-    (Kind::DeepOnTheLeft20, 45, 300),
+    (Kind::DeepOnTheLeft20, 35, 220),
     (Kind::DeepOnTheRight20, 70, 480),
     (Kind::SheetOfBothArms, 140, 650),
     (Kind::OldRightArmLikeLeft, 130, 350),
@@ -44,15 +44,31 @@ const LEAST: [(Kind, usize, usize); 62] = [
     (Kind::LongEntry, 170, 650),
     (Kind::LongEntryOfEight, 80, 110),
     (Kind::LongEntryOfNineOrMore, 120, 240),
-    (Kind::HugeEntry, 11, 13),
+    (Kind::HugeEntry, 9, 10),
     (Kind::LongKey, 30, 65),
     (Kind::LongEntryFound, 120, 380),
     (Kind::JoinOfMatches, 290, 1700),
     (Kind::JoinOfOneChild, 280, 1600),
     (Kind::UnionOfMatches, 170, 1100),
     (Kind::RepeatOfAMatch, 540, 3600),
-    (Kind::RepeatOfMatchOrRemark, 35, 250),
+    (Kind::RepeatOfMatchOrRemark, 25, 170),
     (Kind::RepeatOfTwoMatches, 170, 920),
+    (Kind::Sets, 180, 1270),
+    (Kind::SetOfOnePair, 10, 70),
+    (Kind::SetOf32Pairs, 20, 150),
+    (Kind::SetOutOfOrder, 150, 1080),
+    (Kind::SetOverlapping, 100, 720),
+    (Kind::SetOfEveryByte, 5, 40),
+    (Kind::SetAtThePoolsEnd, 95, 690),
+    (Kind::SetAt448, 7, 45),
+    (Kind::ManySetsOfOnePart, 5, 35),
+    (Kind::HullsMeetOnly, 85, 620),
+    (Kind::SetOfNoneOrTooMany, 13, 52),
+    (Kind::SetOutsideThePool, 7, 28),
+    (Kind::SetReversed, 4, 16),
+    (Kind::SetReversedLater, 7, 28),
+    (Kind::SetForAWord, 4, 16),
+    (Kind::SetsAndAClash, 54, 216),
     (Kind::EmptyMatches30, 100, 340),
     (Kind::EmptyMatches100, 20, 70),
     (Kind::EmptyMatchesWithOld, 90, 180),
@@ -70,8 +86,8 @@ const LEAST: [(Kind, usize, usize); 62] = [
     (Kind::FoundOfRightArm, 200, 640),
     (Kind::EqualKeys, 520, 1300),
     (Kind::KeysApartAtTheEnd, 40, 120),
-    (Kind::LongKeys, 20, 40),
-    (Kind::LongKeysFound, 20, 30),
+    (Kind::LongKeys, 15, 25),
+    (Kind::LongKeysFound, 15, 20),
     (Kind::KeyAt4095To4097, 15, 25),
     (Kind::EntryMade, 740, 1400),
     (Kind::EntryDropped, 680, 1450),

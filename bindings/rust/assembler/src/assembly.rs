@@ -55,7 +55,7 @@
 use std::collections::HashMap;
 
 use crate::costs::{too_many, Line, MOST_COUNTED};
-use crate::draft::{Draft, Node, Role, MAX_PAIRS};
+use crate::draft::{Draft, Node, Role};
 use crate::kinds::{is_kind_word, is_lens, kind_words, Kind, Shape};
 use crate::kinds::{COPY, JOIN, LENS_JOIN, LENS_REPEAT, LENS_UNION, MATCH, RANGE, REPEAT, UNION};
 use crate::line::{Placed, Token};
@@ -65,7 +65,7 @@ use crate::statements::statements;
 use crate::syntax::{statement, Expression, Form, Operand, Part, Primary, Statement, Suffix, Times};
 use crate::words::{times_of, words};
 
-pub use crate::draft::{MAX_NODES, MAX_POOL};
+pub use crate::draft::{MAX_NODES, MAX_PAIRS, MAX_POOL};
 
 /// Where a node comes from. A node that serves several times has the first
 /// place.

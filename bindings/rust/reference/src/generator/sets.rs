@@ -26,12 +26,16 @@ pub fn pairs(random: &mut Random) -> Vec<Pair> {
         1 => MAX_PAIRS,
         _ => random.between(2, 6),
     };
+    so_many_pairs(random, count)
+}
+
+fn so_many_pairs(random: &mut Random, count: usize) -> Vec<Pair> {
     let mut pairs: Vec<Pair> = (0..count).map(|_| pair(random)).collect();
     if random.once_in(4) {
         let (from, to) = (random.below(count), random.below(count));
         pairs[to] = pairs[from];
     }
-    if random.once_in(12) {
+    if random.once_in(6) {
         pairs[random.below(count)] = (0, 255);
     }
     pairs
@@ -117,14 +121,29 @@ pub fn clash(draft: &mut Draft, number: u8, [one, other]: [NodeNumber; 2]) -> No
     }
 }
 
+/// The numbers for which [`plant_sets`] has a fault, each as often as it is drawn.
+pub(super) const SET_REFUSALS: [u8; 10] = {
+    let [join, sheet_join, union, repeat, sheet_repeat] = CLASHES;
+    let three = BAD_OPERAND;
+    [three, three, three, three, three, join, sheet_join, union, repeat, sheet_repeat]
+};
+
+/// Plants a fault of sets; the number comes out in most draws, not in all.
+pub(super) fn plant_sets(random: &mut Random, number: u8, draft: &mut Draft) {
+    match number {
+        BAD_OPERAND => bad_set(random, draft),
+        _ => clashing_sets(random, draft, number),
+    }
+}
+
 /// Two sets that share a byte, and above them what the number forbids.
-pub(super) fn clashing_sets(random: &mut Random, draft: &mut Draft, number: u8) {
+fn clashing_sets(random: &mut Random, draft: &mut Draft, number: u8) {
     let sets = meeting(random).iter().map(|pairs| draft.set(pairs)).collect::<Vec<_>>();
     clash(draft, number, [sets[0], sets[1]]);
 }
 
 /// A set whose operands break a rule, or one where only a word may stand.
-pub(super) fn bad_set(random: &mut Random, draft: &mut Draft) {
+fn bad_set(random: &mut Random, draft: &mut Draft) {
     let mut pairs = pairs(random);
     let reversed: Pair = (b'b', b'a');
     match random.below(8) {
@@ -170,10 +189,10 @@ fn outside_pool(random: &mut Random, draft: &mut Draft) {
 pub fn sets(random: &mut Random) -> Draft {
     loop {
         let mut draft = Draft::new();
-        match random.below(6) {
+        match random.below(7) {
             0 | 1 => entries(random, &mut draft),
             2 | 3 => side_by_side(random, &mut draft),
-            4 => at_the_pools_end(random, &mut draft),
+            4 | 5 => at_the_pools_end(random, &mut draft),
             _ => over_one_part(random, &mut draft),
         }
         if Program::read(&draft.table()).is_ok() {
@@ -205,7 +224,7 @@ fn side_by_side(random: &mut Random, draft: &mut Draft) {
 
 /// The last bytes of the pool are a set's, also those of the longest pool.
 fn at_the_pools_end(random: &mut Random, draft: &mut Draft) {
-    let pairs = pairs(random);
+    let pairs = if random.once_in(2) { so_many_pairs(random, MAX_PAIRS) } else { pairs(random) };
     let free = MAX_POOL - 2 * pairs.len();
     let before = if random.once_in(2) { free } else { random.below(free) };
     draft.pool = (0..before).map(|_| random.byte()).collect();
@@ -220,7 +239,7 @@ fn at_the_pools_end(random: &mut Random, draft: &mut Draft) {
 fn over_one_part(random: &mut Random, draft: &mut Draft) {
     let pairs = pairs(random);
     let first = draft.set(&pairs);
-    let others: Vec<NodeNumber> = (0..random.between(1, MAX_NODES / 2 - 3)).map(|_| draft.set(&pairs)).collect();
+    let others: Vec<NodeNumber> = (0..random.between(20, MAX_NODES / 2 - 3)).map(|_| draft.set(&pairs)).collect();
     debug_assert!(others.iter().all(|&set| draft.kinds[usize::from(set)] == kind::SET));
     let any = others.into_iter().fold(first, |any, set| draft.pattern_union(any, set));
     let key = draft.key(any);
