@@ -126,7 +126,7 @@ impl<'a> Parts<'a> {
             return raw("an unknown kind");
         };
         if matches!(form.shape, Shape::Word | Shape::Set) {
-            return self.in_pool(form.shape, [a, b, c]).unwrap_or_else(|why| raw(why));
+            return self.in_pool(form.shape, [a, b, c]).unwrap_or_else(raw);
         }
         if form.shape == Shape::Range {
             let range = format!("range {} {}", quote_byte(a), quote_byte(b));

@@ -84,7 +84,7 @@ fn sets_that_meet() {
     let arms = |other: &str| format!("first = copy [az]\nsecond = copy {other}\nletter = lens union first second\n");
     check(&arms("[mz]"), &["refused 9 ", "p.lens:3:10: 'letter', in the source: \"z\" is of 'first' and of 'second'"]);
     let folder = Folder::new();
-    folder.write("p.lens", &arms("[m]"));
+    folder.write("p.lens", arms("[m]"));
     folder.gives("noontrough check p.lens", "ok 5 2 2\n");
 }
 
