@@ -219,7 +219,11 @@ impl<'a> Layout<'a> {
 
     /// The node of a known kind, or nothing if an operand breaks a rule.
     fn node(&self, kind: u8, number: usize, below: &[Node]) -> Option<Node> {
-        let [a, b, c] = self.record(number);
+        let record = self.record(number);
+        if record[used_operands(kind)..].iter().any(|&unused| unused != 0) {
+            return None;
+        }
+        let [a, b, c] = record;
         // Only nodes below this one are in `below`, so an operand that is not
         // lower finds nothing.
         let child = |operand: u8, fits: fn(&Node) -> bool| {
@@ -228,51 +232,20 @@ impl<'a> Layout<'a> {
         let pattern = |operand| child(operand, |node| !node.is_lens());
         let lens = |operand| child(operand, Node::is_lens);
         let word = |operand| child(operand, |node| matches!(node, Node::Word(_)));
-        let unused = |operands: &[u8]| operands.iter().all(|&byte| byte == 0).then_some(());
         let node = match kind {
-            kind::WORD => Node::Word(self.word([a, b, c])?),
-            kind::RANGE => {
-                unused(&[c])?;
-                class_of(vec![(a, b)])?
-            }
-            kind::PATTERN_JOIN => {
-                unused(&[c])?;
-                Node::PatternJoin(pattern(a)?, pattern(b)?)
-            }
-            kind::PATTERN_UNION => {
-                unused(&[c])?;
-                Node::PatternUnion(pattern(a)?, pattern(b)?)
-            }
-            kind::PATTERN_REPEAT => {
-                unused(&[b, c])?;
-                Node::PatternRepeat(pattern(a)?)
-            }
-            kind::SET => class_of(self.pairs([a, b, c])?)?,
-            kind::COPY => {
-                unused(&[b, c])?;
-                Node::Copy(pattern(a)?)
-            }
+            kind::WORD => Node::Word(self.word(record)?),
+            kind::RANGE => class_of(vec![(a, b)])?,
+            kind::PATTERN_JOIN => Node::PatternJoin(pattern(a)?, pattern(b)?),
+            kind::PATTERN_UNION => Node::PatternUnion(pattern(a)?, pattern(b)?),
+            kind::PATTERN_REPEAT => Node::PatternRepeat(pattern(a)?),
+            kind::SET => class_of(self.pairs(record)?)?,
+            kind::COPY => Node::Copy(pattern(a)?),
             kind::CONST => Node::Const { pattern: pattern(a)?, sheet: word(b)?, default: word(c)? },
-            kind::KEY => {
-                unused(&[b, c])?;
-                Node::Key(pattern(a)?)
-            }
-            kind::LENS_JOIN => {
-                unused(&[c])?;
-                Node::LensJoin(lens(a)?, lens(b)?)
-            }
-            kind::LENS_UNION => {
-                unused(&[c])?;
-                Node::LensUnion(lens(a)?, lens(b)?)
-            }
-            kind::LENS_REPEAT => {
-                unused(&[b, c])?;
-                Node::LensRepeat(lens(a)?)
-            }
-            kind::MATCH => {
-                unused(&[b, c])?;
-                Node::Match(lens(a)?)
-            }
+            kind::KEY => Node::Key(pattern(a)?),
+            kind::LENS_JOIN => Node::LensJoin(lens(a)?, lens(b)?),
+            kind::LENS_UNION => Node::LensUnion(lens(a)?, lens(b)?),
+            kind::LENS_REPEAT => Node::LensRepeat(lens(a)?),
+            kind::MATCH => Node::Match(lens(a)?),
             _ => unreachable!("unknown kinds were refused before"),
         };
         Some(node)
@@ -305,6 +278,15 @@ impl<'a> Layout<'a> {
     fn part(&self, high: u8, low: u8, length: usize) -> Option<&'a [u8]> {
         let start = usize::from(high) * 256 + usize::from(low);
         self.pool.get(start..start + length)
+    }
+}
+
+/// How many of a node's three operands its kind uses; the others are 0.
+fn used_operands(kind: u8) -> usize {
+    match kind {
+        kind::PATTERN_REPEAT | kind::COPY | kind::KEY | kind::LENS_REPEAT | kind::MATCH => 1,
+        kind::RANGE | kind::PATTERN_JOIN | kind::PATTERN_UNION | kind::LENS_JOIN | kind::LENS_UNION => 2,
+        _ => 3,
     }
 }
 

@@ -36,7 +36,7 @@ pub struct Case {
 /// long old entries, with many empty matches or with keys that are much alike
 /// bring their own texts.
 pub fn program_cases(random: &mut Random) -> Vec<Case> {
-    let table = match random.below(29) {
+    let table = match random.below(30) {
         0..=2 => return long_entry_cases(random),
         3..=4 => return many_empty_cases(random),
         5 => return like_key_cases(random),
@@ -48,7 +48,7 @@ pub fn program_cases(random: &mut Random) -> Vec<Case> {
             let table = accepted(random).table();
             mutated(random, &table)
         }
-        12 => refused_for_sets(random, &mut accepted),
+        12..=13 => refused_for_sets(random, &mut accepted),
         _ => accepted(random).table(),
     };
     cases_of(random, table)

@@ -146,7 +146,7 @@ fn clashing_sets(random: &mut Random, draft: &mut Draft, number: u8) {
 fn bad_set(random: &mut Random, draft: &mut Draft) {
     let mut pairs = pairs(random);
     let reversed: Pair = (b'b', b'a');
-    match random.below(8) {
+    match random.below(10) {
         0 => {
             let start = random.below(draft.pool.len() + 1);
             draft.set_at(start, 0);
@@ -156,20 +156,21 @@ fn bad_set(random: &mut Random, draft: &mut Draft) {
             draft.pool.extend([b'a', b'a'].repeat(MAX_PAIRS + 1));
             draft.set_at(start, MAX_PAIRS + 1);
         }
-        2 => outside_pool(random, draft),
-        3 => {
+        2 | 3 => outside_pool(random, draft),
+        4 => {
             pairs[0] = reversed;
             draft.set(&pairs);
         }
-        4 => {
-            let last = pairs.len() - 1;
-            pairs[last] = reversed;
+        5 | 6 => {
+            pairs.truncate(MAX_PAIRS - 1);
+            let later = random.between(1, pairs.len());
+            pairs.insert(later, reversed);
             draft.set(&pairs);
         }
-        5 => drop(draft.set_at(usize::from(u16::MAX), 1)),
+        7 => drop(draft.set_at(usize::from(u16::MAX), 1)),
         operand => {
             let (word, set) = (draft.word(b"a"), draft.set(&[(b'a', b'a')]));
-            let [sheet, default] = if operand == 6 { [set, word] } else { [word, set] };
+            let [sheet, default] = if operand == 8 { [set, word] } else { [word, set] };
             draft.constant(word, sheet, default);
         }
     }
