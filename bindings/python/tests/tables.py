@@ -56,6 +56,12 @@ class Draft:
     def repeat(self, a: int) -> int:
         return self.add(4, a)
 
+    def set(self, *pairs: bytes) -> int:
+        """Each pair is a first and a last byte."""
+        start = len(self.pool)
+        self.pool += b"".join(pairs)
+        return self.add(5, *divmod(start, 256), len(pairs))
+
     def some(self, a: int) -> int:
         """One text of a pattern or more: two nodes."""
         return self.join(a, self.repeat(a))

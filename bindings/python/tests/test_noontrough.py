@@ -143,6 +143,26 @@ class Cases(Calls):
         self.assertEqual(create(draft.table(), b"\x00"), b"\x00")
 
 
+    def test_accented_capitals(self) -> None:
+        """Of document 02: the multiplication sign, 0xD7, breaks their run."""
+        for pairs in (b"\xc0\xd6", b"\xd8\xde"), (b"\xd8\xde", b"\xc0\xd0", b"\xc8\xd6", b"\xda\xda"):
+            draft = Draft()
+            name, digit = draft.some(draft.set(*pairs)), draft.range(b"0", b"9")
+            label, nothing, nought = draft.key(name), draft.word(b""), draft.word(b"0")
+            remark = draft.const(draft.repeat(digit), nothing, nought)
+            line = draft.lens_join(label, draft.lens_join(remark, draft.copy_word(b";")))
+            draft.lens_repeat(draft.match(line))
+            table = draft.table()
+            with self.subTest(pairs=pairs):
+                self.assertEqual(check(table), 15)
+                self.assertEqual(get(table, b"\xc0\xd61;\xd8\xde22;"), b"\xc0\xd6;\xd8\xde;")
+                self.assertEqual(put(table, b"\xde;\xc0;", b"\xc01;\xde22;"), b"\xde22;\xc01;")
+                self.assertEqual(create(table, b"\xca\xda;"), b"\xca\xda0;")
+                for byte in b"\xbf", b"\xd7", b"\xdf":
+                    self.assert_refused(13, 0, get, table, byte + b"1;")
+                    self.assert_refused(14, 0, create, table, byte + b";")
+
+
 class Tallies(Calls):
     """What became of the entries in a put: the case of document 02, and by hand."""
 
@@ -270,6 +290,21 @@ class Refusals(Calls):
         draft = Draft()
         draft.copy(draft.range(b"Z", b"A"))
         self.assert_program_refused(3, 0, draft)
+
+    def test_3_pairs_of_a_set(self) -> None:
+        reversed_later, too_many, outside = Draft(), Draft(), Draft()
+        reversed_later.copy(reversed_later.set(b"az", b"ba"))
+        too_many.copy(too_many.set(*[b"az"] * 33))
+        outside.pool = b"aza"
+        outside.copy(outside.add(5, 0, 0, 2))
+        for draft in reversed_later, too_many, outside:
+            self.assert_program_refused(3, 0, draft)
+
+    def test_3_a_set_is_no_word(self) -> None:
+        draft = Draft()
+        nought, nothing = draft.set(b"00"), draft.word(b"")
+        draft.const(nought, nothing, nought)
+        self.assert_program_refused(3, 2, draft)
 
     def test_3_child_of_the_wrong_sort(self) -> None:
         draft = Draft()

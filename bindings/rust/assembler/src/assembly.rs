@@ -7,9 +7,12 @@
 //!
 //! What a line makes beside it, in this order:
 //!
-//! - The operands, from left to right: a text in quotes is a word node, a set in
-//!   brackets one range or a union of several, an expression in parentheses a
-//!   node of its kind.
+//! - The operands, from left to right: a text in quotes is a word node, an
+//!   expression in parentheses a node of its kind. A set in brackets is a range if
+//!   it is one, and else a set of the fewest pairs, lowest first. A set node has at
+//!   most 32 pairs; more are a union of several such nodes.
+//!   `set [xa-c]` in place of `[xa-c]` takes the pairs as they are written, here
+//!   x to x and then a to c.
 //! - `join` and `union` with more than two operands: `join a b c` is a joined
 //!   with the join of b and c, which gets its node first. The unions of a set
 //!   are nested in the same way.
@@ -44,10 +47,10 @@
 //! copy, const and key, and for what is written right under a match: two matches
 //! with one child share their entries, which must be asked for by a name.
 //!
-//! A word's text is looked for in the pool as it stands so far. The first place
-//! that holds it is taken; if there is none, the text goes to the pool's end.
-//! `pool "…"` lines above the first node fill the pool beforehand, and
-//! `word "…" at 5` names the place.
+//! A word's text, or the bytes of a set's pairs, are looked for in the pool as it
+//! stands so far. The first place that holds them is taken; if there is none, they
+//! go to the pool's end. `pool "…"` lines above the first node fill the pool
+//! beforehand, and `word "…" at 5` and `set […] at 5` name the place.
 
 use std::collections::HashMap;
 
@@ -57,11 +60,12 @@ use crate::kinds::{is_kind_word, is_lens, kind_words, Kind, Shape};
 use crate::kinds::{COPY, JOIN, LENS_JOIN, LENS_REPEAT, LENS_UNION, MATCH, RANGE, REPEAT, UNION};
 use crate::line::{Placed, Token};
 use crate::place::{Mistake, Place};
+use crate::sets::{pool_bytes, Pair};
 use crate::statements::statements;
 use crate::syntax::{statement, Expression, Form, Operand, Part, Primary, Statement, Suffix, Times};
 use crate::words::{times_of, words};
 
-pub use crate::draft::{MAX_NODES, MAX_POOL};
+pub use crate::draft::{MAX_NODES, MAX_PAIRS, MAX_POOL};
 
 /// Where a node comes from. A node that serves several times has the first
 /// place.
@@ -190,10 +194,10 @@ impl Definition<'_> {
         self.tokens[token].place
     }
 
-    /// Where the first text of a part stands.
+    /// Where the first text or set of a part stands.
     fn text_place(&self, part: Part) -> Place {
         let mut tokens = self.tokens[part.first..=part.last].iter();
-        let text = tokens.find(|placed| matches!(placed.token, Token::Text(_)));
+        let text = tokens.find(|placed| matches!(placed.token, Token::Text(_) | Token::Set(_)));
         text.map_or_else(|| self.place(part.first), |placed| placed.place)
     }
 
@@ -201,11 +205,14 @@ impl Definition<'_> {
         let part = expression.part;
         match &expression.form {
             Form::Word(text, None) => self.text(text, part, role),
-            Form::Word(text, Some(start)) if self.assembly.draft.pool_holds(*start, text) => {
+            Form::Word(text, Some(start)) => {
+                self.require_in_pool(*start, text, "this text", part)?;
                 self.word(text, *start, part, role)
             }
-            Form::Word(_, Some(start)) => {
-                Err(self.place(part.last).mistake(format!("the pool does not hold this text at {start}")))
+            Form::Set(set, None) => self.pairs(&set.pairs, part, role),
+            Form::Set(set, Some(start)) => {
+                self.require_in_pool(*start, &pool_bytes(&set.pairs), "these pairs", part)?;
+                self.set(set.pairs.len(), *start, part, role)
             }
             Form::Bytes(kind, operands) => self.add(*kind, operands.map(usize::from), part, role),
             Form::Of(kind, operands) => self.of_kind(kind, operands, part, role),
@@ -259,14 +266,19 @@ impl Definition<'_> {
             Primary::Name(name) => self.named(name, part, role),
             Primary::Text(text) => self.text(text, part, role),
             Primary::Group(expression) => self.expression(expression, role),
-            Primary::Set(ranges) => {
-                let below = if ranges.len() == 1 { role } else { Role::Beside };
-                let bytes = ranges.iter().map(|&(first, last)| [first.into(), last.into(), 0]);
-                let children: Vec<usize> =
-                    bytes.map(|ends| self.add(RANGE, ends, part, below)).collect::<Result<_, _>>()?;
-                self.row(UNION, &children, |_| part, role)
-            }
+            Primary::Set(set) => self.ranges(&set.ranges, part, role),
         }
+    }
+
+    /// One byte of these ranges.
+    fn ranges(&mut self, ranges: &[Pair], part: Part, role: Role) -> Result<usize, Mistake> {
+        if let [(first, last)] = ranges[..] {
+            return self.add(RANGE, [first.into(), last.into(), 0], part, role);
+        }
+        let below = if ranges.len() <= MAX_PAIRS { role } else { Role::Beside };
+        let sets = ranges.chunks(MAX_PAIRS).map(|pairs| self.pairs(pairs, part, below));
+        let children: Vec<usize> = sets.collect::<Result<_, _>>()?;
+        self.row(UNION, &children, |_| part, role)
     }
 
     fn named(&mut self, name: &str, part: Part, role: Role) -> Result<usize, Mistake> {
@@ -352,9 +364,32 @@ impl Definition<'_> {
         if let Some(node) = self.assembly.draft.shared_word(role, text) {
             return Ok(node);
         }
-        let place = self.text_place(part);
-        let start = self.assembly.draft.place(text).map_err(|message| place.mistake(message))?;
+        let start = self.pool_place(text, part)?;
         self.word(text, start, part, role)
+    }
+
+    /// A set of these pairs, in this order.
+    fn pairs(&mut self, pairs: &[Pair], part: Part, role: Role) -> Result<usize, Mistake> {
+        let start = self.pool_place(&pool_bytes(pairs), part)?;
+        self.set(pairs.len(), start, part, role)
+    }
+
+    fn set(&mut self, pairs: usize, start: usize, part: Part, role: Role) -> Result<usize, Mistake> {
+        let node = Draft::set(start, pairs).map_err(|message| self.text_place(part).mistake(message))?;
+        self.add(node.kind, node.operands, part, role)
+    }
+
+    /// Where the pool holds these bytes, which are added if they are not there.
+    fn pool_place(&mut self, bytes: &[u8], part: Part) -> Result<usize, Mistake> {
+        let place = self.text_place(part);
+        self.assembly.draft.place(bytes).map_err(|message| place.mistake(message))
+    }
+
+    fn require_in_pool(&self, start: usize, bytes: &[u8], called: &str, part: Part) -> Result<(), Mistake> {
+        if self.assembly.draft.pool_holds(start, bytes) {
+            return Ok(());
+        }
+        Err(self.place(part.last).mistake(format!("the pool does not hold {called} at {start}")))
     }
 
     fn word(&mut self, text: &[u8], start: usize, part: Part, role: Role) -> Result<usize, Mistake> {

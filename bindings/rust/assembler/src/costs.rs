@@ -6,7 +6,7 @@
 use crate::assembly::Assembled;
 use crate::display::Parts;
 use crate::draft::MAX_NODES;
-use crate::kinds::{by_byte, CONST, RANGE, WORD};
+use crate::kinds::{by_byte, CONST, RANGE, SET, WORD};
 
 pub const MAX_SIZE: usize = 512;
 pub const MAX_POSITIONS: usize = 128;
@@ -140,7 +140,7 @@ impl<'a> Bill<'a> {
         let mut bill = Bill { parts, assembled, measure, costs: Vec::new() };
         for node in 0..parts.kinds.len() {
             let own = match (parts.kinds[node], measure) {
-                (_, Measure::Size) | (RANGE, _) => 1,
+                (_, Measure::Size) | (RANGE | SET, _) => 1,
                 (WORD, _) => usize::from(parts.operands[3 * node + 2]),
                 _ => 0,
             };

@@ -1,16 +1,18 @@
 //! From the table's bytes to text.
 //!
-//! Node 5 is called `n5`. The pool and the places of words are printed only if
-//! assembling would not find them by itself. A node that is not of its kind's
-//! form (an unknown kind, a child that is not lower, a word outside the pool, an
-//! unused operand that is not 0) is printed as `raw` with its four bytes, so
-//! that every table whose sizes are right comes back byte for byte.
+//! Node 5 is called `n5`. The pool and the places of words and sets are printed only
+//! if assembling would not find them by itself. The pairs of a set are shown as they
+//! lie in the pool. A node that is not of its kind's form (an unknown kind, a child
+//! that is not lower, a word outside the pool, a set with a reversed pair, an unused
+//! operand that is not 0) is printed as `raw` with its four bytes, so that every
+//! table whose sizes are right comes back byte for byte.
 
 use std::fmt;
 
 use crate::draft::{MAX_NODES, MAX_POOL};
 use crate::kinds::{by_byte, Shape};
 use crate::line::{quote_byte, quote_text};
+use crate::sets::{quote_set, Pair};
 
 const POOL_BYTES_A_LINE: usize = 48;
 
@@ -28,10 +30,10 @@ impl fmt::Display for WrongSizes {
 pub fn show(table: &[u8]) -> Result<String, WrongSizes> {
     let parts = Parts::of(table).map_err(WrongSizes)?;
     let nodes: Vec<Shown> = (0..parts.kinds.len()).map(|number| parts.node(number)).collect();
-    let words_suffice = parts.pool_of_words(&nodes).is_some_and(|pool| pool == parts.pool);
+    let nodes_suffice = parts.pool_of_nodes(&nodes).is_some_and(|pool| pool == parts.pool);
 
     let mut text = format!("# nodes: {}, pool bytes: {}\n", parts.kinds.len(), parts.pool.len());
-    if !words_suffice {
+    if !nodes_suffice {
         for part in parts.pool.chunks(POOL_BYTES_A_LINE) {
             text += &format!("pool {}\n", quote_text(part));
         }
@@ -40,11 +42,12 @@ pub fn show(table: &[u8]) -> Result<String, WrongSizes> {
     for (number, node) in nodes.iter().enumerate() {
         let name = format!("n{number}");
         let definition = match node {
-            Shown::Word { start, text } if words_suffice || first_place(parts.pool, text) == Some(*start) => {
-                format!("word {}", quote_text(text))
+            Shown::InPool { start, bytes, definition }
+                if !nodes_suffice && first_place(parts.pool, bytes) != Some(*start) =>
+            {
+                format!("{definition} at {start}")
             }
-            Shown::Word { start, text } => format!("word {} at {start}", quote_text(text)),
-            Shown::Other(definition) => definition.clone(),
+            Shown::InPool { definition, .. } | Shown::Other(definition) => definition.clone(),
         };
         text += &format!("{name:width$} = {definition}\n");
     }
@@ -52,7 +55,12 @@ pub fn show(table: &[u8]) -> Result<String, WrongSizes> {
 }
 
 enum Shown<'a> {
-    Word { start: usize, text: &'a [u8] },
+    /// A word or a set, and its part of the pool.
+    InPool {
+        start: usize,
+        bytes: &'a [u8],
+        definition: String,
+    },
     Other(String),
 }
 
@@ -72,8 +80,17 @@ impl<'a> Parts<'a> {
 
     /// The text of a word with these operands, if it lies in the pool.
     pub fn word(&self, [high, low, length]: [u8; 3]) -> Option<&'a [u8]> {
-        let start = usize::from(high) * 256 + usize::from(low);
-        self.pool.get(start..start + usize::from(length))
+        self.pool.get(start_of(high, low)..)?.get(..usize::from(length))
+    }
+
+    /// The pairs of a set with these operands, if they lie in the pool.
+    pub fn pairs(&self, operands: [u8; 3]) -> Option<Vec<Pair>> {
+        let bytes = self.pairs_in_pool(operands)?;
+        Some(bytes.chunks(2).map(|ends| (ends[0], ends[1])).collect())
+    }
+
+    fn pairs_in_pool(&self, [high, low, count]: [u8; 3]) -> Option<&'a [u8]> {
+        self.pool.get(start_of(high, low)..)?.get(..2 * usize::from(count))
     }
 
     /// Or a sentence that says which size is wrong.
@@ -108,10 +125,8 @@ impl<'a> Parts<'a> {
         let Some(form) = by_byte(kind) else {
             return raw("an unknown kind");
         };
-        if form.shape == Shape::Word {
-            let start = usize::from(a) * 256 + usize::from(b);
-            let part = self.word([a, b, c]);
-            return part.map_or_else(|| raw("a word outside the pool"), |text| Shown::Word { start, text });
+        if matches!(form.shape, Shape::Word | Shape::Set) {
+            return self.in_pool(form.shape, [a, b, c]).unwrap_or_else(raw);
         }
         if form.shape == Shape::Range {
             let range = format!("range {} {}", quote_byte(a), quote_byte(b));
@@ -128,14 +143,31 @@ impl<'a> Parts<'a> {
         Shown::Other(format!("{}{names}", form.words))
     }
 
-    /// The pool that the words alone would make, if each came to its own place.
-    fn pool_of_words(&self, nodes: &[Shown]) -> Option<Vec<u8>> {
+    /// A word or a set, or why it can't be shown as one.
+    fn in_pool(&self, shape: Shape, operands: [u8; 3]) -> Result<Shown<'a>, &'static str> {
+        let start = start_of(operands[0], operands[1]);
+        if shape == Shape::Word {
+            let bytes = self.word(operands).ok_or("a word outside the pool")?;
+            return Ok(Shown::InPool { start, bytes, definition: format!("word {}", quote_text(bytes)) });
+        }
+        let (bytes, pairs) = self.pairs_in_pool(operands).zip(self.pairs(operands)).ok_or("a set outside the pool")?;
+        if pairs.is_empty() {
+            return Err("a set of no pairs");
+        }
+        if pairs.iter().any(|(first, last)| first > last) {
+            return Err("a set with a reversed pair");
+        }
+        Ok(Shown::InPool { start, bytes, definition: format!("set {}", quote_set(&pairs)) })
+    }
+
+    /// The pool that words and sets alone would make, if each came to its own place.
+    fn pool_of_nodes(&self, nodes: &[Shown]) -> Option<Vec<u8>> {
         let mut pool = Vec::new();
         for node in nodes {
-            if let Shown::Word { start, text } = node {
-                let place = first_place(&pool, text).unwrap_or_else(|| {
-                    pool.extend(*text);
-                    pool.len() - text.len()
+            if let Shown::InPool { start, bytes, .. } = node {
+                let place = first_place(&pool, bytes).unwrap_or_else(|| {
+                    pool.extend(*bytes);
+                    pool.len() - bytes.len()
                 });
                 if place != *start {
                     return None;
@@ -144,6 +176,10 @@ impl<'a> Parts<'a> {
         }
         Some(pool)
     }
+}
+
+fn start_of(high: u8, low: u8) -> usize {
+    usize::from(high) * 256 + usize::from(low)
 }
 
 /// Where a pool first holds a text.

@@ -2,10 +2,11 @@
 
 use std::collections::HashMap;
 
-use crate::kinds::{KEY, WORD};
+use crate::kinds::{KEY, SET, WORD};
 
 pub const MAX_NODES: usize = 96;
 pub const MAX_POOL: usize = 512;
+pub const MAX_PAIRS: usize = 32;
 
 /// A node's kind and operands. Numbers of nodes are wider here than a byte, so
 /// that a program with too many nodes can be counted to its end.
@@ -91,6 +92,14 @@ impl Draft {
             return Err("a word has at most 64 bytes".to_string());
         }
         Ok(Node { kind: WORD, operands: [start / 256, start % 256, text.len()] })
+    }
+
+    /// The node of a set with so many pairs that lie at a place of the pool.
+    pub fn set(start: usize, pairs: usize) -> Result<Node, String> {
+        if pairs > usize::from(u8::MAX) {
+            return Err(format!("a set has at most {MAX_PAIRS} pairs"));
+        }
+        Ok(Node { kind: SET, operands: [start / 256, start % 256, pairs] })
     }
 
     pub fn pool_holds(&self, start: usize, text: &[u8]) -> bool {

@@ -8,6 +8,8 @@ pub enum Shape {
     Word,
     /// A first and a last byte.
     Range,
+    /// Pairs of a first and a last byte, which go into the pool.
+    Set,
     /// So many child nodes.
     Children(usize),
     /// Two child nodes; in the text also more, which are nested from the right.
@@ -18,7 +20,7 @@ impl Shape {
     /// How many operands of a node are child nodes.
     pub fn children(self) -> usize {
         match self {
-            Shape::Word | Shape::Range => 0,
+            Shape::Word | Shape::Range | Shape::Set => 0,
             Shape::Children(count) => count,
             Shape::Row => 2,
         }
@@ -49,6 +51,7 @@ pub const RANGE: u8 = 1;
 pub const JOIN: u8 = 2;
 pub const UNION: u8 = 3;
 pub const REPEAT: u8 = 4;
+pub const SET: u8 = 5;
 pub const COPY: u8 = 16;
 pub const CONST: u8 = 17;
 pub const KEY: u8 = 18;
@@ -57,12 +60,13 @@ pub const LENS_UNION: u8 = 20;
 pub const LENS_REPEAT: u8 = 21;
 pub const MATCH: u8 = 22;
 
-pub const KINDS: [Kind; 12] = [
+pub const KINDS: [Kind; 13] = [
     kind(WORD, "word", Shape::Word, "a text in quotes"),
     kind(RANGE, "range", Shape::Range, "a first and a last byte, such as 'A' 'Z' or 65 90"),
     kind(JOIN, "join", Shape::Row, "two or more patterns"),
     kind(UNION, "union", Shape::Row, "two or more patterns"),
     kind(REPEAT, "repeat", Shape::Children(1), "one pattern"),
+    kind(SET, "set", Shape::Set, "bytes and ranges of bytes in brackets, such as [A-Za-z]"),
     kind(COPY, "copy", Shape::Children(1), "one pattern"),
     kind(CONST, "const", Shape::Children(3), "a pattern, a word for the sheet and a word for the default"),
     kind(KEY, "key", Shape::Children(1), "one pattern"),
@@ -89,7 +93,7 @@ impl Kind {
     /// How many of the three operands are used.
     pub fn operands(&self) -> usize {
         match self.shape {
-            Shape::Word => 3,
+            Shape::Word | Shape::Set => 3,
             Shape::Range => 2,
             Shape::Children(_) | Shape::Row => self.shape.children(),
         }

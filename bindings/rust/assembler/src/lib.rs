@@ -39,7 +39,7 @@
 //!
 //! ```text
 //! line       := name '=' expression | pool "text"
-//! expression := kind operand*            word, range, join, union, repeat, copy, const, key,
+//! expression := kind operand*            word, range, join, union, repeat, set, copy, const, key,
 //!                                        lens join, lens union, lens repeat, match, raw
 //!             | operand
 //! operand    := primary suffix*
@@ -69,7 +69,7 @@
 //! | [`place`] | lines and columns, and mistakes there |
 //! | [`kinds`] | the kinds of nodes, their words and their operands |
 //! | [`mod@line`] | the tokens of one line; quoting and escapes |
-//! | `sets` | sets of bytes in brackets |
+//! | [`sets`] | sets of bytes in brackets |
 //! | `statements` | the lines of a definition, together |
 //! | `syntax` | from tokens to a small tree |
 //! | [`assembly`] | from the tree to nodes |
@@ -85,7 +85,7 @@ mod draft;
 pub mod kinds;
 pub mod line;
 pub mod place;
-mod sets;
+pub mod sets;
 mod statements;
 mod syntax;
 mod words;

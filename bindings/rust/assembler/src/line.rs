@@ -6,7 +6,7 @@
 //! as `sets.rs` tells. A `#` outside quotes and brackets begins a comment.
 
 use crate::place::{Mistake, Place};
-use crate::sets;
+use crate::sets::{self, Set};
 
 #[derive(Clone, Debug, PartialEq, Eq)]
 pub enum Token {
@@ -17,8 +17,8 @@ pub enum Token {
     Text(Vec<u8>),
     /// In single quotes.
     Byte(u8),
-    /// In brackets: first and last bytes, lowest first, with gaps between.
-    Set(Vec<(u8, u8)>),
+    /// In brackets.
+    Set(Set),
     Equals,
     /// One of `( ) * + ? { } ,`.
     Mark(u8),

@@ -9,14 +9,56 @@
 use crate::line::{quote_byte, Scanner};
 use crate::place::Mistake;
 
-/// The ranges of a set, the least number of them, lowest first. The opening
-/// bracket was read.
-pub(crate) fn set(scanner: &mut Scanner) -> Result<Vec<(u8, u8)>, Mistake> {
+/// A first and a last byte, both included.
+pub type Pair = (u8, u8);
+
+/// What stands in brackets.
+#[derive(Clone, Debug, PartialEq, Eq)]
+pub struct Set {
+    /// The members as they are written. All other bytes have no such pairs; they
+    /// have their ranges here.
+    pub pairs: Vec<Pair>,
+    /// The fewest ranges that hold the same bytes, lowest first.
+    pub ranges: Vec<Pair>,
+}
+
+/// The bytes of pairs, as they lie in the pool.
+pub fn pool_bytes(pairs: &[Pair]) -> Vec<u8> {
+    pairs.iter().flat_map(|&(first, last)| [first, last]).collect()
+}
+
+/// The pairs in brackets, in printable ASCII. None of them is reversed.
+pub fn quote_set(pairs: &[Pair]) -> String {
+    let members = pairs.iter().map(|&(first, last)| {
+        let [first_byte, last_byte] = [first, last].map(quote_member);
+        if first == last {
+            first_byte
+        } else {
+            format!("{first_byte}-{last_byte}")
+        }
+    });
+    format!("[{}]", members.collect::<String>())
+}
+
+fn quote_member(byte: u8) -> String {
+    match byte {
+        b']' | b'[' | b'-' | b'^' => format!("\\{}", char::from(byte)),
+        // As in single quotes, and without them.
+        _ => {
+            let quoted = quote_byte(byte);
+            quoted[1..quoted.len() - 1].to_string()
+        }
+    }
+}
+
+/// The set whose opening bracket was read.
+pub(crate) fn set(scanner: &mut Scanner) -> Result<Set, Mistake> {
     let opened = scanner.at - 1;
     let are_others = scanner.rest().starts_with(b"^");
     scanner.at += usize::from(are_others);
     let beginning = scanner.at;
     let mut held = [are_others; 256];
+    let mut pairs = Vec::new();
     loop {
         match scanner.rest() {
             [] => return Err(scanner.wrong(opened, "the closing bracket of this set is missing")),
@@ -24,6 +66,7 @@ pub(crate) fn set(scanner: &mut Scanner) -> Result<Vec<(u8, u8)>, Mistake> {
             _ => {
                 let (first, last) = member(scanner, beginning)?;
                 held[usize::from(first)..=usize::from(last)].fill(!are_others);
+                pairs.push((first, last));
             }
         }
     }
@@ -36,11 +79,11 @@ pub(crate) fn set(scanner: &mut Scanner) -> Result<Vec<(u8, u8)>, Mistake> {
     if ranges.is_empty() {
         return Err(scanner.wrong(opened, "the set is empty, since it takes out every byte"));
     }
-    Ok(ranges)
+    Ok(Set { pairs: if are_others { ranges.clone() } else { pairs }, ranges })
 }
 
 /// A byte or a range of bytes, as its first and its last one.
-fn member(scanner: &mut Scanner, beginning: usize) -> Result<(u8, u8), Mistake> {
+fn member(scanner: &mut Scanner, beginning: usize) -> Result<Pair, Mistake> {
     let start = scanner.at;
     let stands_between = |rest: &[u8]| matches!(rest, [b'-', behind, ..] if *behind != b']');
     if start != beginning && stands_between(scanner.rest()) {
@@ -75,8 +118,8 @@ fn byte(scanner: &mut Scanner) -> Result<u8, Mistake> {
     }
 }
 
-fn ranges(held: &[bool; 256]) -> Vec<(u8, u8)> {
-    let mut found: Vec<(u8, u8)> = Vec::new();
+fn ranges(held: &[bool; 256]) -> Vec<Pair> {
+    let mut found: Vec<Pair> = Vec::new();
     for byte in (0..=255).filter(|&byte| held[usize::from(byte)]) {
         match found.last_mut() {
             // The last one is lower than this byte, so it has a next one.

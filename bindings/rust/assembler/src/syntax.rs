@@ -3,8 +3,8 @@
 //!
 //! A name at the beginning of an expression is a kind if it is a kind's word,
 //! `lens` or `raw`; everywhere else names are those of nodes. The kinds `word`,
-//! `range` and `raw` have operands of their own: a text (and `at` with a number),
-//! two bytes, four bytes.
+//! `set`, `range` and `raw` have operands of their own: a text or a set (and `at`
+//! with a number), two bytes, four bytes.
 //!
 //! Nothing is known of nodes here: whether a name stands for one, and whether it
 //! is a pattern or a lens, is for [`crate::assembly`] to say.
@@ -13,6 +13,7 @@ use crate::costs::MAX_POSITIONS;
 use crate::kinds::{by_words, kind_words, Kind, Shape};
 use crate::line::{quote_byte, Placed, Token};
 use crate::place::{Mistake, Place};
+use crate::sets::Set;
 
 /// More of the same could not be within the limit of positions anyway.
 const MOST_TIMES: usize = MAX_POSITIONS;
@@ -42,6 +43,8 @@ pub struct Expression<'a> {
 pub enum Form<'a> {
     /// A text, and the place in the pool if one is named.
     Word(&'a [u8], Option<usize>),
+    /// A set with its pairs as they are written, and their place likewise.
+    Set(&'a Set, Option<usize>),
     /// A kind byte, and operands that are bytes too.
     Bytes(u8, [u8; 3]),
     /// As many operands as the kind takes.
@@ -62,7 +65,7 @@ pub struct Operand<'a> {
 pub enum Primary<'a> {
     Name(&'a str),
     Text(&'a [u8]),
-    Set(&'a [(u8, u8)]),
+    Set(&'a Set),
     Group(Box<Expression<'a>>),
 }
 
@@ -166,7 +169,7 @@ impl<'a> Parser<'a> {
         self.next += 1;
         let takes = format!("'{}' takes {}", kind.words, kind.takes);
         match kind.shape {
-            Shape::Word => self.word(&takes),
+            Shape::Word | Shape::Set => self.in_pool(kind, &takes),
             Shape::Range => {
                 let ends = self.bytes(2, first, &takes)?;
                 Ok(Form::Bytes(kind.byte, [ends[0], ends[1], 0]))
@@ -195,18 +198,26 @@ impl<'a> Parser<'a> {
         Err(self.place(wrong).mistake(takes))
     }
 
-    fn word(&mut self, takes: &str) -> Result<Form<'a>, Mistake> {
+    /// A text or a set, and perhaps its place in the pool.
+    fn in_pool(&mut self, kind: &Kind, takes: &str) -> Result<Form<'a>, Mistake> {
         let first = self.next - 1;
+        let is_leaf: fn(&Token) -> bool = match kind.shape {
+            Shape::Set => |token| matches!(token, Token::Set(_)),
+            _ => |token| matches!(token, Token::Text(_)),
+        };
         let fits: [fn(&Token) -> bool; 3] = [
-            |token| matches!(token, Token::Text(_)),
+            is_leaf,
             |token| matches!(token, Token::Name(at) if at == "at"),
             |token| matches!(token, Token::Number(_)),
         ];
-        match self.plain(&fits)[..] {
-            [Token::Text(text)] if self.expression_ends() => Ok(Form::Word(text, None)),
-            [Token::Text(text), _, Token::Number(start)] if self.expression_ends() => {
-                Ok(Form::Word(text, Some(*start)))
-            }
+        let (leaf, start) = match self.plain(&fits)[..] {
+            [leaf] if self.expression_ends() => (leaf, None),
+            [leaf, _, Token::Number(start)] if self.expression_ends() => (leaf, Some(*start)),
+            _ => return Err(self.misfit(first, takes)),
+        };
+        match leaf {
+            Token::Text(text) => Ok(Form::Word(text, start)),
+            Token::Set(set) => Ok(Form::Set(set, start)),
             _ => Err(self.misfit(first, takes)),
         }
     }
@@ -275,7 +286,7 @@ impl<'a> Parser<'a> {
         match &placed.token {
             Token::Name(name) => Ok(Primary::Name(name)),
             Token::Text(text) => Ok(Primary::Text(text)),
-            Token::Set(ranges) => Ok(Primary::Set(ranges)),
+            Token::Set(set) => Ok(Primary::Set(set)),
             Token::Mark(b'(') => {
                 let expression = self.expression()?;
                 self.next += 1; // An expression ends before a closing parenthesis.

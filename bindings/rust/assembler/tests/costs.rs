@@ -121,9 +121,16 @@ fn suffixes_are_told_by_their_operand() {
         );
     }
     is_too_large(
-        "text = copy [A-Za-z0-9]{50}",
-        "'[A-Za-z0-9]{50}' has 150 positions in the source and 150 in the sheet, and 128 are the most: \
-            50 times '[A-Za-z0-9]' (line 1), 3 each",
+        "text = copy [A-Za-z0-9]{12}{11}",
+        "'[A-Za-z0-9]{12}{11}' has 132 positions in the source and 132 in the sheet, and 128 are the most: \
+            11 times '[A-Za-z0-9]{12}' (line 1), 12 each",
+    );
+    // A set of 33 ranges is two nodes, and each has a position.
+    let every_other: String = (0..33).map(|number| format!("\\x{:02X}", 2 * number)).collect();
+    is_too_large(
+        &format!("set33 = [{every_other}]\ntext = copy set33{{8}}{{9}}"),
+        "'set33{8}{9}' has 144 positions in the source and 144 in the sheet, and 128 are the most: \
+            9 times 'set33{8}' (line 2), 16 each",
     );
     is_too_large(
         &format!("{LONG}part = lens join (copy long) (copy \";\")\nparts = part{{1,2}}"),

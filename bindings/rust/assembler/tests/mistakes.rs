@@ -107,6 +107,14 @@ fn operands() {
     fails("a = range 1 256", 1, 13, "'range' takes a first and a last byte");
     fails("a = range 1 2 3", 1, 15, "'range' takes a first and a last byte");
     fails("a = copy (range 'a' (b))", 1, 21, "'range' takes a first and a last byte");
+    fails("a = set", 1, 5, "'set' takes bytes and ranges of bytes in brackets, such as [A-Za-z]");
+    fails("a = set \"az\"", 1, 9, "'set' takes bytes and ranges of bytes in brackets");
+    fails("a = set 'a' 'z'", 1, 9, "'set' takes bytes and ranges of bytes in brackets");
+    fails("a = set [az] [bc]", 1, 14, "'set' takes bytes and ranges of bytes in brackets");
+    fails("a = set [az]*", 1, 13, "'set' takes bytes and ranges of bytes in brackets");
+    fails("a = set [az] at", 1, 5, "'set' takes bytes and ranges of bytes in brackets");
+    fails("pool \"abc\"\na = set [b-c] at 0", 2, 18, "the pool does not hold these pairs at 0");
+    fails("a = copy set [az]", 1, 10, "'set' begins an expression of its own, which stands in parentheses here");
     fails("a = join \"x\"", 1, 5, "'join' takes two or more patterns");
     fails("a = copy (union \"x\")", 1, 11, "'union' takes two or more patterns");
     fails("a = lens join (copy \"x\")", 1, 5, "'lens join' takes two or more lenses");
@@ -198,14 +206,19 @@ fn tables_that_would_be_too_large() {
     fails(&format!("{pool}{pool}pool \"y\""), 3, 6, "more than 512 bytes");
     fails(&format!("a = word \"{}\"", "x".repeat(256)), 1, 10, "at most 64 bytes");
     fails(&format!("{pool}a = word \"{}\" at 0", "x".repeat(256)), 2, 10, "at most 64 bytes");
+    fails(&format!("{pool}{pool}a = copy [yz0]"), 3, 10, "more than 512 bytes");
+    fails(&format!("a = set [{}]", "x".repeat(256)), 1, 9, "a set has at most 32 pairs");
+    fails(&format!("a = set [{}]", "x".repeat(257)), 1, 9, "more than 512 bytes");
 }
 
-/// Lens and pattern mixed up, ends of a range reversed, a word that is too
-/// long: the engine says so, with 3.
+/// Lens and pattern mixed up, ends of a range reversed, a word or a set that is too
+/// long, a set for a word: the engine says so, with 3.
 #[test]
 fn what_the_engine_refuses_is_assembled() {
     let long = format!("a = word \"{}\"\nb = copy a", "x".repeat(65));
-    for text in ["a = range 'Z' 'A'", "a = copy \"x\"\nb = copy a", "a = word \"x\"", &long] {
+    let many = format!("a = set [{}]\nb = copy a", "x".repeat(33));
+    let no_word = "a = const \"x\" \"\" (set [x])";
+    for text in ["a = range 'Z' 'A'", "a = copy \"x\"\nb = copy a", "a = word \"x\"", &long, &many, no_word] {
         let table = assemble(text.as_bytes()).expect("it has bytes").table;
         assert_eq!(Reference.check(&table).map_err(|refusal| refusal.number), Err(3), "{text}");
     }

@@ -8,6 +8,7 @@ use noontrough_assembler::{assemble, show, too_large};
 use noontrough_reference::generator::faults::{mutated, refused, PROGRAM_REFUSALS};
 use noontrough_reference::generator::programs::accepted;
 use noontrough_reference::generator::random::Random;
+use noontrough_reference::generator::sets::sets;
 use noontrough_reference::Program;
 
 fn comes_back(table: &[u8]) {
@@ -31,7 +32,7 @@ fn any_table(random: &mut Random) -> Vec<u8> {
         _ => random.between(0, 40),
     };
     let mut table = vec![count as u8, (pool / 256) as u8, (pool % 256) as u8];
-    let kinds = [0, 0, 1, 2, 3, 4, 5, 16, 17, 18, 19, 20, 21, 22, 23, 255];
+    let kinds = [0, 0, 1, 2, 3, 4, 5, 5, 6, 16, 17, 18, 19, 20, 21, 22, 23, 255];
     table.extend((0..count).map(|_| *random.pick(&kinds)));
     let largest = *random.pick(&[1, 3, 24, 256]);
     table.extend((0..3 * count).map(|_| random.below(largest) as u8));
@@ -77,6 +78,56 @@ fn programs_refused_with_each_number() {
                 comes_back(&table);
             }
         }
+    }
+}
+
+#[test]
+fn programs_of_sets_and_changed_ones() {
+    let mut random = Random::new(9);
+    for _ in 0..300 {
+        let table = sets(&mut random).table();
+        comes_back(&table);
+        for _ in 0..5 {
+            let changed = mutated(&mut random, &table);
+            if sizes_are_right(&changed) {
+                comes_back(&changed);
+            }
+        }
+    }
+}
+
+/// Pairs in the order of the pool: in any order, overlapping, equal, single bytes; and
+/// what has no brackets.
+#[test]
+fn sets_as_they_are_shown() {
+    let shown = |pool: &[u8], record: [u8; 3]| {
+        let table = [&[1, 0, pool.len() as u8, 5][..], &record, pool].concat();
+        comes_back(&table);
+        show(&table).expect("the sizes are right").lines().last().map(str::to_string)
+    };
+    let is = |line: &str| Some(format!("n0 = {line}"));
+    assert_eq!(shown(b"\xD8\xDE\xC0\xD6", [0, 0, 2]), is("set [\\xD8-\\xDE\\xC0-\\xD6]"));
+    assert_eq!(shown(b"xzayaaaa", [0, 0, 4]), is("set [x-za-yaa]"));
+    assert_eq!(shown(b"--]][[^^\\\\''##  ", [0, 0, 8]), is("set [\\-\\]\\[\\^\\\\\\'# ]"));
+    assert_eq!(shown(b"xxaz", [0, 2, 1]), is("set [a-z]"), "behind a pool line");
+    assert_eq!(shown(b"azaz", [0, 2, 1]), is("set [a-z] at 2"));
+    assert_eq!(shown(b"azza", [0, 0, 2]), is("raw 5 0 0 2  # a set with a reversed pair"));
+    assert_eq!(shown(b"azza", [0, 0, 0]), is("raw 5 0 0 0  # a set of no pairs"));
+    assert_eq!(shown(b"azza", [0, 1, 2]), is("raw 5 0 1 2  # a set outside the pool"));
+    assert_eq!(shown(b"", [255, 255, 255]), is("raw 5 255 255 255  # a set outside the pool"));
+    assert_eq!(shown(&b"a".repeat(66), [0, 0, 33]), is(&format!("set [{}]", "a".repeat(33))));
+}
+
+#[test]
+fn every_byte_in_brackets() {
+    let singles = (0..=255u8).flat_map(|byte| [byte, byte]);
+    let ranges = (0..=255u8).flat_map(|byte| [byte, 255]);
+    for pool in [singles.collect::<Vec<u8>>(), ranges.collect()] {
+        let mut table = vec![8, 2, 0];
+        table.extend([5; 8]);
+        table.extend((0..8u8).flat_map(|set| [set / 4, set % 4 * 64, 32]));
+        table.extend(pool);
+        comes_back(&table);
     }
 }
 
@@ -163,7 +214,7 @@ fn garbled_short_forms() {
 #[test]
 fn tokens_at_random() {
     let tokens = "a|b| = |\n|(|)|(|)|*|+|?|{|}|{2}|{1,3}|{2,}|{0}|,|1|200|\"x\"|\"\"|'x'|[a-z]|[^x]|[|]|#| |\
-        join |lens |copy |match |key |const |raw |word |range |pool |at |\nc = |\nd = copy |\ne = lens join ";
+        join |lens |copy |match |key |const |raw |word |range |set |pool |at |\nc = |\nd = copy |\ne = lens join ";
     let tokens: Vec<&str> = tokens.split('|').collect();
     let mut random = Random::new(7);
     let mut made = 0;

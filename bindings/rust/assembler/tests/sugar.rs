@@ -100,6 +100,7 @@ fn names_that_are_kinds() {
         "a = word \"x\"\nb = copy a\nc = lens join b b",
     );
     same("key = word \"x\"\na = join key* key", "k = word \"x\"\nr = repeat k\na = join r k");
+    same("set = set [xz]\na = join set* set", "s = [xz]\nr = repeat s\na = join r s");
 }
 
 #[test]
@@ -152,28 +153,72 @@ fn entries_in_short_forms_do_what_they_say() {
     assert_eq!(get(&at_least_one, b"", BUFFER).map_err(|refusal| refusal.number), Err(13));
 }
 
-/// The union of a set is made of the fewest ranges.
+/// One range is a range. Several are one set, of the fewest pairs.
 #[test]
 fn sets() {
-    same(
-        "a = [A-Za-z0-9._]",
-        "a = union (range '.' '.') (range '0' '9') (range 'A' 'Z') (range '_' '_') (range 'a' 'z')",
-    );
+    same("a = [A-Za-z0-9._]", "a = set [.0-9A-Z_a-z]");
     same("a = [a-cd-fb]", "a = range 'a' 'f'");
-    same("a = [-a]", "a = union (range '-' '-') (range 'a' 'a')");
+    same("a = [-a]", "a = set [\\-a]");
     same("a = [a-]", "a = [-a]");
     same("a = [a\\-]", "a = [-a]");
     same("a = [+--]", "a = range '+' '-'");
     same("a = [--/]", "a = range '-' '/'");
     same("a = [-]", "a = range '-' '-'");
-    same("a = [^-]", "a = union (range 0 ',') (range '.' 255)");
-    same("a = [^a-z]", "a = union (range 0 '`') (range '{' 255)");
-    same("a = [a^]", "a = union (range '^' '^') (range 'a' 'a')");
+    same("a = [^-]", "a = set [\\x00-,.-\\xFF]");
+    same("a = [^a-z]", "a = set [\\x00-`{-\\xFF]");
+    same("a = [a^]", "a = set [\\^a]");
     same("a = [\\^a]", "a = [a^]");
-    same("a = [ #\"'[(]", "a = union (range ' ' ' ') (range '\"' '#') (range '\\'' '(') (range '[' '[')");
+    same("a = [ #\"'[(]", "a = set [ \"-#'-([]");
     same("a = [\\]\\[\\-\\^\\\\\\n\\r\\t\\\"\\'\\x80]", "a = [\\t-\\n\\r\"'\\-\\[-\\^\\x80]");
     same("a = [\\x00-\\xFF]", "a = range 0 255");
     same("a = [\t]", "a = range 9 9");
+}
+
+/// A set by its table, byte for byte: the sugar has the fewest pairs, lowest first, and
+/// the kind has them as they are written.
+#[test]
+fn tables_of_sets() {
+    let with_pool =
+        |pool: &[u8]| [&[2, 0, pool.len() as u8, 5, 16, 0, 0, pool.len() as u8 / 2, 0, 0, 0], pool].concat();
+    let sugar = table("a = copy [\\xD8-\\xDE\\xC0-\\xD6\\xC8]");
+    assert_eq!(sugar, with_pool(&[0xC0, 0xD6, 0xD8, 0xDE]));
+    let written = |set: &str| table(&format!("s = set {set}\na = copy s"));
+    assert_eq!(written("[\\xD8-\\xDE\\xC0-\\xD6]"), with_pool(&[0xD8, 0xDE, 0xC0, 0xD6]));
+    assert_eq!(written("[a-fc-zbb]"), with_pool(b"afczbbbb"), "overlapping and equal pairs stay");
+    assert_eq!(written("[a-ab-b]"), with_pool(b"aabb"), "single bytes stay");
+    assert_eq!(written("[a-z]"), with_pool(b"az"), "one pair is a set too");
+    assert_eq!(written("[^b-\\xFF]"), with_pool(b"\x00a"), "of all others the ranges");
+    assert_eq!(table("a = copy (set [zx])"), with_pool(b"zzxx"));
+}
+
+/// The pool holds the bytes of equal sets once, and finds them in words.
+#[test]
+fn pool_parts_of_sets() {
+    assert_eq!(table("a = copy [A-Za-z]\nb = key [a-zA-Z]"), table("s = set [A-Za-z]\na = copy s\nb = key s"));
+    let pool = |text: &str| {
+        let table = table(text);
+        table[3 + 4 * usize::from(table[0])..].to_vec()
+    };
+    assert_eq!(pool("s = [A-Za-z]\nt = [A-Za-z]\na = copy (join s t)"), b"AZaz");
+    assert_eq!(pool("w = word \"xAZaz\"\na = copy (join w [A-Za-z])"), b"xAZaz");
+    assert_eq!(pool("s = [A-Za-z]\na = copy (join s \"Za\")"), b"AZaz");
+    same("pool \"azbdaz\"\ns = set [a-z] at 4\na = copy s", "pool \"azbdaz\"\ns = raw 5 0 4 1\na = copy s");
+}
+
+/// More than 32 ranges are several sets.
+#[test]
+fn sets_of_many_ranges() {
+    let every_other = |count: usize| (0..count).map(|number| format!("\\x{:02X}", 2 * number)).collect::<String>();
+    let nodes = |count: usize| table(&format!("a = copy [{}]", every_other(count)))[0];
+    assert_eq!((nodes(1), nodes(2), nodes(32)), (2, 2, 2));
+    assert_eq!((nodes(33), nodes(64), nodes(65), nodes(128)), (4, 4, 6, 8));
+    let (first, rest) = (every_other(32), "\\x40");
+    same(&format!("a = [{}]", every_other(33)), &format!("s = set [{first}]\nt = set [{rest}]\na = union s t"));
+    let many = table(&format!("a = copy [{}]", every_other(128)));
+    assert!(Reference.check(&many).is_ok());
+    assert!(taken(&many).iter().enumerate().all(|(byte, &is_taken)| is_taken == (byte % 2 == 0)));
+    // A set that is written as one is one.
+    assert_eq!(table(&format!("s = set [{}]\na = copy s", every_other(33)))[0], 2);
 }
 
 /// Members at random: a set takes a byte if and only if one of them has it.
@@ -231,7 +276,8 @@ fn patterns_copies_consts_and_keys_are_shared() {
     // Texts, sets and what suffixes make.
     assert_eq!(count("a = [a-z]+\nb = copy [a-z]+"), 5, "the range and the repeat of a serve b, and a itself does not");
     assert_eq!(count("a = [a-z]+\nb = copy [a-z]*"), 4);
-    assert_eq!(count("a = [a-z]*\nb = copy [0-9a-z]"), 5, "a range of a set is the range above");
+    assert_eq!(count("a = [a-z]*\nb = copy [0-9a-z]"), 4, "a set is one node");
+    assert_eq!(count("a = [0-9a-z]*\nb = copy [a-z0-9]"), 3, "and it is shared");
     assert_eq!(count("a = \"x\"?\nb = copy (join \"x\"? \"x\"{0,2})"), 8);
     // Inner nodes of rows.
     assert_eq!(count("a = join \"x\" \"y\" \"z\"\nb = join \"w\" \"y\" \"z\""), 7);
@@ -330,7 +376,9 @@ fn origins_of_short_forms() {
     come_from("a = [a-z]{2,4}", &options.map(|words| (1, 5, words)));
     come_from("a = (copy [a-z])*", &[(1, 11, "[a-z]"), (1, 6, "copy [a-z]"), (1, 5, "a")]);
     come_from("a = ((copy \"x\"))", &[(1, 12, "\"x\""), (1, 7, "a")]);
-    come_from("a = [ab0]", &[(1, 5, "[ab0]"), (1, 5, "[ab0]"), (1, 5, "a")]);
+    come_from("a = [ab0]", &[(1, 5, "a")]);
+    come_from("a = copy [ab0]", &[(1, 10, "[ab0]"), (1, 5, "a")]);
+    come_from("a = copy (set [b0])", &[(1, 11, "set [b0]"), (1, 5, "a")]);
     come_from(
         "a = (copy \"x\") {0,1}",
         &[(1, 11, "\"x\""), (1, 6, "copy \"x\""), (1, 5, "\"\""), (1, 5, "copy \"\""), (1, 5, "a")],

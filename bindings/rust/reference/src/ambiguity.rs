@@ -94,7 +94,7 @@ impl<'a> Pairs<'a> {
     fn one_byte_on(&self, left: usize, right: usize) -> Option<(usize, usize)> {
         let left = self.left.states[left].reading?;
         let right = self.right.states[right].reading?;
-        left.meets(&right).then_some((left.to, right.to))
+        left.class.meets(&right.class).then_some((left.to, right.to))
     }
 
     fn after_one_byte(&self) -> impl Iterator<Item = (usize, usize)> + '_ {

@@ -8,31 +8,14 @@
 
 use std::cell::OnceCell;
 
+use crate::class::Class;
 use crate::table::{Node, Side, Table};
 
-/// A move that reads one byte between `first` and `last`, both included.
+/// A move that reads one byte of a class.
 #[derive(Clone, Copy, Debug)]
 pub struct Reading {
-    pub first: u8,
-    pub last: u8,
+    pub class: Class,
     pub to: usize,
-}
-
-impl Reading {
-    pub fn takes(&self, byte: u8) -> bool {
-        self.first <= byte && byte <= self.last
-    }
-
-    /// The first and the last byte that both moves take, if they share any.
-    pub fn shared(&self, other: &Reading) -> Option<(u8, u8)> {
-        let (first, last) = (self.first.max(other.first), self.last.min(other.last));
-        (first <= last).then_some((first, last))
-    }
-
-    /// Whether some byte is taken by both moves.
-    pub fn meets(&self, other: &Reading) -> bool {
-        self.shared(other).is_some()
-    }
 }
 
 #[derive(Clone, Debug, Default)]
@@ -157,7 +140,7 @@ impl Builder<'_> {
     fn add(&mut self, node: usize) -> (usize, usize) {
         match (&self.table.nodes[node], self.side) {
             (Node::Word(text), _) => self.word(text),
-            (&Node::Range { first, last }, _) => self.chain([(first, last)].into_iter()),
+            (&Node::Class(class), _) => self.chain([class].into_iter()),
             (&Node::PatternJoin(a, b) | &Node::LensJoin(a, b), _) => self.join(a, b),
             (&Node::PatternUnion(a, b) | &Node::LensUnion(a, b), _) => self.union(a, b),
             (&Node::PatternRepeat(a) | &Node::LensRepeat(a), _) => self.repeat(a),
@@ -177,15 +160,15 @@ impl Builder<'_> {
     }
 
     fn word(&mut self, text: &[u8]) -> (usize, usize) {
-        self.chain(text.iter().map(|&byte| (byte, byte)))
+        self.chain(text.iter().map(|&byte| Class::of_byte(byte)))
     }
 
-    fn chain(&mut self, classes: impl Iterator<Item = (u8, u8)>) -> (usize, usize) {
+    fn chain(&mut self, classes: impl Iterator<Item = Class>) -> (usize, usize) {
         let start = self.state();
         let mut end = start;
-        for (first, last) in classes {
+        for class in classes {
             let to = self.state();
-            self.states[end].reading = Some(Reading { first, last, to });
+            self.states[end].reading = Some(Reading { class, to });
             end = to;
         }
         (start, end)
@@ -265,7 +248,7 @@ impl<'a> Run<'a> {
         }
         for index in 0..self.before.len() {
             if let Some(reading) = &self.states[self.before[index]].reading {
-                if reading.takes(byte) {
+                if reading.class.has(byte) {
                     self.enter(reading.to);
                 }
             }
@@ -279,7 +262,7 @@ impl<'a> Run<'a> {
     }
 
     fn count_readers(&self, byte: u8) -> usize {
-        self.readings().filter(|reading| reading.takes(byte)).count()
+        self.readings().filter(|reading| reading.class.has(byte)).count()
     }
 
     pub(crate) fn is_at(&self, state: usize) -> bool {

@@ -13,6 +13,7 @@ use std::ops::Range;
 
 use crate::answer::*;
 use crate::automaton::{Automaton, State};
+use crate::class::Class;
 use crate::program::Program;
 use crate::table::{Node, Side};
 
@@ -128,8 +129,7 @@ struct Place {
 
 /// A move by a byte that both runs can read.
 struct ByteMove {
-    first: u8,
-    last: u8,
+    bytes: Class,
     to: Place,
 }
 
@@ -226,15 +226,16 @@ impl<'a> Search<'a> {
         let stage = &self.stages[place.stage];
         let early = stage.early.states[place.early].reading?;
         let late = stage.late.states[place.late].reading?;
-        let (first, last) = early.shared(&late)?;
-        Some(ByteMove { first, last, to: Place { stage: stage.after_byte, early: early.to, late: late.to } })
+        let bytes = early.class.shared(&late.class);
+        let to = Place { stage: stage.after_byte, early: early.to, late: late.to };
+        (!bytes.is_empty()).then_some(ByteMove { bytes, to })
     }
 
     fn byte_moves_into(&self, place: Place) -> impl Iterator<Item = Place> + '_ {
         let stage = &self.stages[place.stage];
         let early = stage.early.turned()[place.early].reading;
         let late = stage.late.turned()[place.late].reading;
-        let both = early.zip(late).filter(|(early, late)| early.meets(late));
+        let both = early.zip(late).filter(|(early, late)| early.class.meets(&late.class));
         let stages = (0..self.stages.len()).filter(move |&from| self.stages[from].after_byte == place.stage);
         both.into_iter().flat_map(move |(early, late)| {
             stages.clone().map(move |stage| Place { stage, early: early.to, late: late.to })
@@ -278,8 +279,9 @@ impl<'a> Search<'a> {
             follow(&mut places, |place| self.free_moves(place), enter);
             let moves = places.iter().filter_map(|&place| self.byte_move(place));
             let moves: Vec<ByteMove> = moves.filter(|step| far[self.number(step.to)] == left - 1).collect();
-            let byte = moves.iter().map(|step| step.first).min().expect("some byte leads nearer to the end");
-            places = moves.iter().filter(|step| (step.first..=step.last).contains(&byte)).map(|step| step.to).collect();
+            let lowest = moves.iter().filter_map(|step| step.bytes.lowest()).min();
+            let byte = lowest.expect("some byte leads nearer to the end");
+            places = moves.iter().filter(|step| step.bytes.has(byte)).map(|step| step.to).collect();
             text.push(byte);
         }
         text

@@ -12,6 +12,7 @@
 //! | Module | Holds |
 //! |---|---|
 //! | [`answer`] | what a call answers, and the numbers of the refusals |
+//! | [`class`] | sets of bytes: what may stand at a position |
 //! | [`table`] | bytes to nodes, the limits, the first round (1 to 5) |
 //! | [`automaton`] | one automaton for each node and side; belonging to a language |
 //! | [`ambiguity`] | two cuts of one text, and texts of two languages |
@@ -33,6 +34,7 @@ pub mod automaton;
 pub mod calls;
 pub mod census;
 pub mod clash;
+pub mod class;
 pub mod demand3;
 pub mod generator;
 pub mod lens;

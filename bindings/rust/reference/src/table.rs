@@ -7,10 +7,12 @@
 //! numbers, so all that is known of a child is at hand when its parent is read.
 
 use crate::answer::*;
+use crate::class::{Class, Pair};
 
 pub const MAX_NODES: usize = 96;
 pub const MAX_POOL: usize = 512;
 pub const MAX_WORD: usize = 64;
+pub const MAX_PAIRS: usize = 32;
 pub const MAX_SIZE: usize = 512;
 pub const MAX_POSITIONS: usize = 128;
 
@@ -30,11 +32,8 @@ pub const SIDES: [Side; 2] = [Side::Source, Side::Sheet];
 #[derive(Clone, Debug, PartialEq, Eq)]
 pub enum Node {
     Word(Vec<u8>),
-    /// Both ends belong to the range.
-    Range {
-        first: u8,
-        last: u8,
-    },
+    /// One byte of this class: a range or a set.
+    Class(Class),
     PatternJoin(usize, usize),
     PatternUnion(usize, usize),
     PatternRepeat(usize),
@@ -51,13 +50,14 @@ pub enum Node {
     Match(usize),
 }
 
-/// The kind bytes, in the order of the cases of [`Node`].
+/// The kind bytes.
 pub mod kind {
     pub const WORD: u8 = 0;
     pub const RANGE: u8 = 1;
     pub const PATTERN_JOIN: u8 = 2;
     pub const PATTERN_UNION: u8 = 3;
     pub const PATTERN_REPEAT: u8 = 4;
+    pub const SET: u8 = 5;
     pub const COPY: u8 = 16;
     pub const CONST: u8 = 17;
     pub const KEY: u8 = 18;
@@ -66,12 +66,13 @@ pub mod kind {
     pub const LENS_REPEAT: u8 = 21;
     pub const MATCH: u8 = 22;
 
-    pub const ALL: [u8; 12] = [
+    pub const ALL: [u8; 13] = [
         WORD,
         RANGE,
         PATTERN_JOIN,
         PATTERN_UNION,
         PATTERN_REPEAT,
+        SET,
         COPY,
         CONST,
         KEY,
@@ -86,7 +87,7 @@ impl Node {
     pub fn is_lens(&self) -> bool {
         use Node::*;
         match self {
-            Word(_) | Range { .. } | PatternJoin(..) | PatternUnion(..) | PatternRepeat(_) => false,
+            Word(_) | Class(_) | PatternJoin(..) | PatternUnion(..) | PatternRepeat(_) => false,
             Copy(_) | Const { .. } | Key(_) | LensJoin(..) | LensUnion(..) | LensRepeat(_) | Match(_) => true,
         }
     }
@@ -95,7 +96,7 @@ impl Node {
     pub fn children(&self) -> Vec<usize> {
         use Node::*;
         match *self {
-            Word(_) | Range { .. } => vec![],
+            Word(_) | Class(_) => vec![],
             PatternRepeat(a) | Copy(a) | Key(a) | LensRepeat(a) | Match(a) => vec![a],
             PatternJoin(a, b) | PatternUnion(a, b) | LensJoin(a, b) | LensUnion(a, b) => vec![a, b],
             Const { pattern, sheet, default } => vec![pattern, sheet, default],
@@ -147,7 +148,7 @@ impl Table {
         let total = |part: fn(&Measure) -> usize| below.iter().map(part).sum::<usize>();
         let (source_positions, sheet_positions) = match node {
             Node::Word(text) => (text.len(), text.len()),
-            Node::Range { .. } => (1, 1),
+            Node::Class(_) => (1, 1),
             // The default counts on neither side.
             Node::Const { .. } => (below[0].source_positions, below[1].sheet_positions),
             _ => (total(|m| m.source_positions), total(|m| m.sheet_positions)),
@@ -181,14 +182,14 @@ impl Table {
 }
 
 /// The three arrays of a table whose sizes are right.
-struct Layout<'a> {
-    kinds: &'a [u8],
+pub(crate) struct Layout<'a> {
+    pub(crate) kinds: &'a [u8],
     operands: &'a [u8],
-    pool: &'a [u8],
+    pub(crate) pool: &'a [u8],
 }
 
 impl<'a> Layout<'a> {
-    fn of(bytes: &'a [u8]) -> Option<Layout<'a>> {
+    pub(crate) fn of(bytes: &'a [u8]) -> Option<Layout<'a>> {
         if bytes.len() < HEADER {
             return None;
         }
@@ -218,8 +219,11 @@ impl<'a> Layout<'a> {
 
     /// The node of a known kind, or nothing if an operand breaks a rule.
     fn node(&self, kind: u8, number: usize, below: &[Node]) -> Option<Node> {
-        let record = &self.operands[3 * number..3 * number + 3];
-        let (a, b, c) = (record[0], record[1], record[2]);
+        let record = self.record(number);
+        if record[used_operands(kind)..].iter().any(|&unused| unused != 0) {
+            return None;
+        }
+        let [a, b, c] = record;
         // Only nodes below this one are in `below`, so an operand that is not
         // lower finds nothing.
         let child = |operand: u8, fits: fn(&Node) -> bool| {
@@ -228,61 +232,65 @@ impl<'a> Layout<'a> {
         let pattern = |operand| child(operand, |node| !node.is_lens());
         let lens = |operand| child(operand, Node::is_lens);
         let word = |operand| child(operand, |node| matches!(node, Node::Word(_)));
-        let unused = |operands: &[u8]| operands.iter().all(|&byte| byte == 0).then_some(());
         let node = match kind {
-            kind::WORD => Node::Word(self.word(a, b, c)?),
-            kind::RANGE => {
-                unused(&[c])?;
-                (a <= b).then_some(Node::Range { first: a, last: b })?
-            }
-            kind::PATTERN_JOIN => {
-                unused(&[c])?;
-                Node::PatternJoin(pattern(a)?, pattern(b)?)
-            }
-            kind::PATTERN_UNION => {
-                unused(&[c])?;
-                Node::PatternUnion(pattern(a)?, pattern(b)?)
-            }
-            kind::PATTERN_REPEAT => {
-                unused(&[b, c])?;
-                Node::PatternRepeat(pattern(a)?)
-            }
-            kind::COPY => {
-                unused(&[b, c])?;
-                Node::Copy(pattern(a)?)
-            }
+            kind::WORD => Node::Word(self.word(record)?),
+            kind::RANGE => class_of(vec![(a, b)])?,
+            kind::PATTERN_JOIN => Node::PatternJoin(pattern(a)?, pattern(b)?),
+            kind::PATTERN_UNION => Node::PatternUnion(pattern(a)?, pattern(b)?),
+            kind::PATTERN_REPEAT => Node::PatternRepeat(pattern(a)?),
+            kind::SET => class_of(self.pairs(record)?)?,
+            kind::COPY => Node::Copy(pattern(a)?),
             kind::CONST => Node::Const { pattern: pattern(a)?, sheet: word(b)?, default: word(c)? },
-            kind::KEY => {
-                unused(&[b, c])?;
-                Node::Key(pattern(a)?)
-            }
-            kind::LENS_JOIN => {
-                unused(&[c])?;
-                Node::LensJoin(lens(a)?, lens(b)?)
-            }
-            kind::LENS_UNION => {
-                unused(&[c])?;
-                Node::LensUnion(lens(a)?, lens(b)?)
-            }
-            kind::LENS_REPEAT => {
-                unused(&[b, c])?;
-                Node::LensRepeat(lens(a)?)
-            }
-            kind::MATCH => {
-                unused(&[b, c])?;
-                Node::Match(lens(a)?)
-            }
+            kind::KEY => Node::Key(pattern(a)?),
+            kind::LENS_JOIN => Node::LensJoin(lens(a)?, lens(b)?),
+            kind::LENS_UNION => Node::LensUnion(lens(a)?, lens(b)?),
+            kind::LENS_REPEAT => Node::LensRepeat(lens(a)?),
+            kind::MATCH => Node::Match(lens(a)?),
             _ => unreachable!("unknown kinds were refused before"),
         };
         Some(node)
     }
 
-    fn word(&self, high: u8, low: u8, length: u8) -> Option<Vec<u8>> {
-        let start = usize::from(high) * 256 + usize::from(low);
+    /// The three operand bytes of a node.
+    pub(crate) fn record(&self, number: usize) -> [u8; 3] {
+        std::array::from_fn(|operand| self.operands[3 * number + operand])
+    }
+
+    fn word(&self, [high, low, length]: [u8; 3]) -> Option<Vec<u8>> {
         let length = usize::from(length);
         if length > MAX_WORD {
             return None;
         }
-        self.pool.get(start..start + length).map(<[u8]>::to_vec)
+        self.part(high, low, length).map(<[u8]>::to_vec)
     }
+
+    /// The pairs of a set with these operands, if there are as many as allowed and
+    /// all of them lie in the pool. One may still be reversed.
+    pub(crate) fn pairs(&self, [high, low, count]: [u8; 3]) -> Option<Vec<Pair>> {
+        let count = usize::from(count);
+        if !(1..=MAX_PAIRS).contains(&count) {
+            return None;
+        }
+        let part = self.part(high, low, 2 * count)?;
+        Some(part.chunks(2).map(|ends| (ends[0], ends[1])).collect())
+    }
+
+    fn part(&self, high: u8, low: u8, length: usize) -> Option<&'a [u8]> {
+        let start = usize::from(high) * 256 + usize::from(low);
+        self.pool.get(start..start + length)
+    }
+}
+
+/// How many of a node's three operands its kind uses; the others are 0.
+fn used_operands(kind: u8) -> usize {
+    match kind {
+        kind::PATTERN_REPEAT | kind::COPY | kind::KEY | kind::LENS_REPEAT | kind::MATCH => 1,
+        kind::RANGE | kind::PATTERN_JOIN | kind::PATTERN_UNION | kind::LENS_JOIN | kind::LENS_UNION => 2,
+        _ => 3,
+    }
+}
+
+/// The class of some pairs, if none of them is reversed.
+fn class_of(pairs: Vec<Pair>) -> Option<Node> {
+    pairs.iter().all(|(first, last)| first <= last).then(|| Node::Class(Class::of_pairs(pairs)))
 }

@@ -23,7 +23,7 @@ fn short_texts(table: &Table, node: usize, side: Side) -> Option<Language> {
     let of = |node| short_texts(table, node, side);
     match table.nodes[node] {
         Node::Word(ref text) => listed([text.clone()]),
-        Node::Range { first, last } => listed((first..=last).map(|byte| vec![byte])),
+        Node::Class(class) => listed(class.bytes().map(|byte| vec![byte])),
         Node::PatternJoin(a, b) | Node::LensJoin(a, b) => joined(&of(a)?, &of(b)?),
         Node::PatternUnion(a, b) | Node::LensUnion(a, b) => listed(of(a)?.into_iter().chain(of(b)?)),
         Node::PatternRepeat(a) | Node::LensRepeat(a) => repeated(&of(a)?),

@@ -7,7 +7,7 @@ use noontrough_reference::census::{Census, Kind};
 use noontrough_reference::generator::cases::{Call, Case};
 use noontrough_reference::generator::draft::Draft;
 use noontrough_reference::trial::run;
-use noontrough_reference::Reference;
+use noontrough_reference::{Calls, Reference};
 
 /// The kinds of one put and its program, save those of its tally.
 fn kinds(table: &[u8], sheet: &[u8], source: &[u8]) -> Vec<Kind> {
@@ -292,4 +292,92 @@ fn long_entries() {
     assert_eq!(met(b"A", &long("A")[..64]), [], "a sheet of 4,033 bytes");
     assert_eq!(met(b"B", &long("ABCDEFGH")), [Kind::LongEntry, Kind::LongEntryOfEight]);
     assert_eq!(met(b"B", &long("ABCDEFGHI")), [Kind::LongEntry, Kind::LongEntryOfNineOrMore]);
+}
+
+/// The kinds of a copy of a set with so many pairs, at this place of the pool.
+fn kinds_of_sets(pool: &[u8], start: usize, count: usize) -> Vec<Kind> {
+    let mut draft = Draft { pool: pool.to_vec(), ..Draft::new() };
+    let set = draft.set_at(start, count);
+    draft.copy(set);
+    kinds(&draft.table(), b"a", b"a")
+}
+
+#[test]
+fn sets() {
+    assert_eq!(kinds_of_sets(b"az\0", 0, 1), [Kind::Sets, Kind::SetOfOnePair]);
+    assert_eq!(kinds_of_sets(b"az", 0, 1), [Kind::Sets, Kind::SetOfOnePair, Kind::SetAtThePoolsEnd]);
+    assert_eq!(kinds_of_sets(b"abxz\0", 0, 2), [Kind::Sets]);
+    assert_eq!(kinds_of_sets(b"xzab\0", 0, 2), [Kind::Sets, Kind::SetOutOfOrder]);
+    assert_eq!(kinds_of_sets(b"abbc\0", 0, 2), [Kind::Sets, Kind::SetOverlapping]);
+    assert_eq!(kinds_of_sets(b"\0\xFF\0", 0, 1), [Kind::Sets, Kind::SetOfOnePair, Kind::SetOfEveryByte]);
+    let full = b"ab".repeat(256);
+    let at_448 = [Kind::Sets, Kind::SetOf32Pairs, Kind::SetOverlapping, Kind::SetAtThePoolsEnd, Kind::SetAt448];
+    assert_eq!(kinds_of_sets(&full, 448, 32), at_448);
+    assert_eq!(kinds_of_sets(&full, 446, 32), at_448[..3]);
+}
+
+#[test]
+fn several_sets() {
+    let of_two = |one: &[(u8, u8)], other: &[(u8, u8)]| {
+        let mut draft = Draft::new();
+        let either = [draft.set(one), draft.set(other)];
+        draft.word(b"\0");
+        let either = draft.pattern_union(either[0], either[1]);
+        draft.copy(either);
+        kinds(&draft.table(), b"a", b"a").contains(&Kind::HullsMeetOnly)
+    };
+    assert!(of_two(&[(b'a', b'a'), (b'z', b'z')], &[(b'm', b'm')]));
+    assert!(!of_two(&[(b'a', b'a'), (b'z', b'z')], &[(b'm', b'm'), (b'z', b'z')]), "these share a byte");
+    assert!(!of_two(&[(b'a', b'a'), (b'c', b'c')], &[(b'm', b'm')]), "these are far apart");
+
+    for (count, found) in [(29, false), (30, true)] {
+        let mut draft = Draft::new();
+        let sets: Vec<_> = (0..count).map(|_| draft.set(&[(b'a', b'b')])).collect();
+        let any = sets.into_iter().reduce(|any, set| draft.pattern_union(any, set)).expect("not none");
+        draft.copy(any);
+        assert_eq!(kinds(&draft.table(), b"a", b"a").contains(&Kind::ManySetsOfOnePart), found);
+    }
+}
+
+/// The kinds of a program that is refused.
+fn refused_kinds(draft: &Draft) -> Vec<Kind> {
+    let case = Case { call: Call::Check, table: draft.table(), sheet: Vec::new(), source: Vec::new(), lent: 0 };
+    let answer = Reference.check(&case.table);
+    assert!(answer.is_err());
+    let mut census = Census::default();
+    census.note(&[(case, answer)]);
+    Kind::ALL.into_iter().filter(|&kind| census.programs(kind) == 1).collect()
+}
+
+#[test]
+fn sets_that_are_refused() {
+    let of = |pool: &[u8], start: usize, count: usize| {
+        let mut draft = Draft { pool: pool.to_vec(), ..Draft::new() };
+        draft.set_at(start, count);
+        draft.copy_word(b"");
+        refused_kinds(&draft)
+    };
+    assert_eq!(of(b"azaz", 0, 0), [Kind::SetOfNoneOrTooMany]);
+    assert_eq!(of(&b"az".repeat(33), 0, 33), [Kind::SetOfNoneOrTooMany]);
+    assert_eq!(of(b"azaz", 1, 2), [Kind::SetOutsideThePool]);
+    assert_eq!(of(b"zaaz", 0, 2), [Kind::SetReversed]);
+    assert_eq!(of(b"azza", 0, 2), [Kind::SetReversedLater]);
+
+    let mut draft = Draft::new();
+    let nodes = [draft.word(b"a"), draft.set(&[(b'a', b'a')])];
+    let mut sheet = draft.clone();
+    sheet.constant(nodes[0], nodes[1], nodes[0]);
+    assert_eq!(refused_kinds(&sheet), [Kind::SetForAWord]);
+    draft.constant(nodes[0], nodes[0], nodes[1]);
+    assert_eq!(refused_kinds(&draft), [Kind::SetForAWord]);
+
+    let mut draft = Draft::new();
+    let set = draft.set(&[(b'a', b'b')]);
+    let copy = draft.copy(set);
+    draft.lens_union(copy, copy);
+    assert_eq!(refused_kinds(&draft), [Kind::SetsAndAClash]);
+    let mut draft = Draft::new();
+    let copy = draft.copy_word(b"a");
+    draft.lens_union(copy, copy);
+    assert_eq!(refused_kinds(&draft), []);
 }

@@ -34,7 +34,7 @@ impl Languages<'_> {
     fn fits(&self, node: usize, text: &[u8]) -> bool {
         match self.table.nodes[node] {
             Node::Word(ref word) => word == text,
-            Node::Range { first, last } => text.len() == 1 && (first..=last).contains(&text[0]),
+            Node::Class(class) => text.len() == 1 && class.has(text[0]),
             Node::PatternJoin(a, b) | Node::LensJoin(a, b) => (0..=text.len()).any(|end| self.is_cut(a, b, text, end)),
             Node::PatternUnion(a, b) | Node::LensUnion(a, b) => self.fits(a, text) || self.fits(b, text),
             Node::PatternRepeat(a) | Node::LensRepeat(a) => {
@@ -85,12 +85,11 @@ impl Languages<'_> {
         }
     }
 
-    /// The bytes that some word or range below the node takes, each as a first
-    /// and a last one.
+    /// The bytes that some position below the node takes, as runs of bytes.
     fn classes(&self, node: usize) -> Vec<(u8, u8)> {
         match self.table.nodes[node] {
             Node::Word(ref word) => word.iter().map(|&byte| (byte, byte)).collect(),
-            Node::Range { first, last } => vec![(first, last)],
+            Node::Class(class) => class.runs(),
             Node::Const { .. } => self.classes(self.shown(node)),
             ref other => other.children().into_iter().flat_map(|child| self.classes(child)).collect(),
         }

@@ -150,7 +150,7 @@ fn the_first_round_comes_before_the_root_and_the_root_before_the_second_round() 
     let copy = draft.copy(many);
     let join = draft.lens_join(copy, copy);
     let mut unknown = draft.clone();
-    unknown.add(5, [0, 0, 0]);
+    unknown.add(6, [0, 0, 0]);
     assert_eq!(check(&unknown.table()), refuses(2, 4));
     draft.word(b"a");
     assert_eq!(check(&draft.table()), refuses(3, 4));
@@ -181,7 +181,8 @@ fn the_readings_of_the_first_round() {
     assert_eq!(table_with(0, [0, 3, 0]), refuses(3, 4), "an empty word behind the pool's end");
     assert_eq!(table_with(0, [0, 2, 0]), Ok(6));
     assert_eq!(table_with(0, [0, 0, 65]), refuses(3, 4));
-    assert_eq!(table_with(5, [0, 0, 0]), refuses(2, 4));
+    assert_eq!(table_with(5, [0, 0, 1]), Ok(6), "the pool's two bytes as a pair");
+    assert_eq!(table_with(6, [0, 0, 0]), refuses(2, 4));
     assert_eq!(table_with(15, [0, 0, 0]), refuses(2, 4));
     assert_eq!(table_with(23, [1, 0, 0]), refuses(2, 4));
     for kind in [2, 3] {

@@ -40,7 +40,7 @@ impl Languages<'_> {
         };
         match self.table.nodes[node] {
             Node::Word(ref text) => text.is_empty(),
-            Node::Range { .. } => false,
+            Node::Class(_) => false,
             Node::PatternJoin(a, b) | Node::LensJoin(a, b) => of(a) && of(b),
             Node::PatternUnion(a, b) | Node::LensUnion(a, b) => of(a) || of(b),
             Node::PatternRepeat(_) | Node::LensRepeat(_) => true,
@@ -58,7 +58,7 @@ impl Languages<'_> {
         };
         match self.table.nodes[node] {
             Node::Word(ref text) => after_word(text, byte),
-            Node::Range { first, last } => (first..=last).contains(&byte).then(Row::new).into_iter().collect(),
+            Node::Class(class) => class.has(byte).then(Row::new).into_iter().collect(),
             Node::PatternJoin(a, b) | Node::LensJoin(a, b) => self.after_row(&[Piece::Node(a), Piece::Node(b)], byte),
             Node::PatternUnion(a, b) | Node::LensUnion(a, b) => [of(a), of(b)].concat(),
             Node::PatternRepeat(a) | Node::LensRepeat(a) => followed_by(of(a), &[Piece::Node(node)]),

@@ -1,5 +1,6 @@
 //! A program from a file, as a table or as text.
 
+use noontrough_assembler::sets::Pair;
 use noontrough_assembler::{assemble, show, Assembled, Parts};
 
 use crate::failure::Failure;
@@ -69,5 +70,12 @@ impl Program {
         let parts = Parts::of(&self.table).ok()?;
         let (_, operands) = parts.record(node)?;
         parts.word(operands)
+    }
+
+    /// The pairs of a set node, if they lie in the pool.
+    pub fn pairs(&self, node: usize) -> Option<Vec<Pair>> {
+        let parts = Parts::of(&self.table).ok()?;
+        let (_, operands) = parts.record(node)?;
+        parts.pairs(operands)
     }
 }

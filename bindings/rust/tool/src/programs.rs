@@ -1,6 +1,7 @@
 //! Where in a program a refusal from 2 to 11 comes from, and what shows it.
 
-use noontrough_assembler::kinds::{by_byte, is_lens, Kind, Sort, MATCH, RANGE, WORD};
+use noontrough_assembler::assembly::MAX_PAIRS;
+use noontrough_assembler::kinds::{by_byte, is_lens, Kind, Sort, MATCH, RANGE, SET, WORD};
 use noontrough_assembler::line::quote_byte;
 use noontrough_assembler::too_large;
 use noontrough_reference::clash::{clash, parts_from, Clash};
@@ -44,15 +45,30 @@ fn wrong_operand(program: &Program, node: usize) -> Option<String> {
     Some(format!("{}: {wrong}", program.name_of(node)))
 }
 
-/// What can be wrong with a word or a range.
+/// What can be wrong with a word, a range or a set.
 fn wrong_leaf(program: &Program, node: usize, kind: u8, [a, b, c]: [usize; 3]) -> Option<String> {
-    let byte = |value: usize| quote_byte(value as u8);
     match kind {
         WORD if c > MAX_WORD => Some(format!("a word of {c} bytes, and {MAX_WORD} are the most")),
         WORD if program.word(node).is_none() => Some("a word that lies outside the pool".to_string()),
-        RANGE if a > b => Some(format!("{} comes behind {}, so no byte lies between", byte(a), byte(b))),
+        RANGE if a > b => Some(reversed(a as u8, b as u8)),
+        SET if c == 0 || c > MAX_PAIRS => Some(format!("a set of {c} pairs, and 1 to {MAX_PAIRS} are possible")),
+        SET => wrong_pairs(program, node),
         _ => None,
     }
+}
+
+/// What can be wrong with the pairs of a set.
+fn wrong_pairs(program: &Program, node: usize) -> Option<String> {
+    let Some(pairs) = program.pairs(node) else {
+        return Some("a set whose pairs leave the pool".to_string());
+    };
+    let place = pairs.iter().position(|(first, last)| first > last)?;
+    let (first, last) = pairs[place];
+    Some(format!("pair {} of the set is reversed: {}", place + 1, reversed(first, last)))
+}
+
+fn reversed(first: u8, last: u8) -> String {
+    format!("{} comes behind {}, so no byte lies between", quote_byte(first), quote_byte(last))
 }
 
 fn wrong_child(program: &Program, node: usize, kind: &Kind, sort: Sort, child: usize) -> Option<String> {

@@ -51,6 +51,64 @@ fn operands_that_break_a_rule() {
 }
 
 #[test]
+fn sets_that_break_a_rule() {
+    let set = |pool: &str, operands: &str, said: &str| {
+        let program = format!("pool \"{pool}\"\nodd = raw 5 {operands}\ntext = copy odd\n");
+        check(
+            &program,
+            &["refused 3 0: An operand of this node breaks a rule", &format!("p.lens:2:7: 'odd': {said}\n")],
+        );
+    };
+    set("azaz", "0 0 0", "a set of 0 pairs, and 1 to 32 are possible");
+    set(&"az".repeat(33), "0 0 33", "a set of 33 pairs, and 1 to 32 are possible");
+    set("azaz", "0 1 2", "a set whose pairs leave the pool");
+    set("azaz", "0 2 2", "a set whose pairs leave the pool");
+    set("azaz", "1 0 1", "a set whose pairs leave the pool");
+    set("zaaz", "0 0 2", "pair 1 of the set is reversed: 'z' comes behind 'a', so no byte lies between");
+    set("azxzcb", "0 0 3", "pair 3 of the set is reversed: 'c' comes behind 'b', so no byte lies between");
+    check(
+        &format!("odd = set [{}]\ntext = copy odd\n", "x".repeat(40)),
+        &["p.lens:1:7: 'odd': a set of 40 pairs, and 1 to 32 are possible"],
+    );
+    check(
+        "one = set [0]\nremark = const [0-9] \"\" one\n",
+        &["refused 3 3", "p.lens:2:10: 'remark': 'one' is a pattern, and 'const' takes a word there"],
+    );
+    check("text = copy [a-z]\nother = [acz]\n", &["refused 3 2", "this is a pattern and no lens"]);
+    check("odd = raw 6 0 0 1\ntext = copy \"x\"\n", &["refused 2 0", "'odd' is of kind 6"]);
+}
+
+/// `m` lies between `a` and `z`, and only the bytes count.
+#[test]
+fn sets_that_meet() {
+    let arms = |other: &str| format!("first = copy [az]\nsecond = copy {other}\nletter = lens union first second\n");
+    check(&arms("[mz]"), &["refused 9 ", "p.lens:3:10: 'letter', in the source: \"z\" is of 'first' and of 'second'"]);
+    let folder = Folder::new();
+    folder.write("p.lens", arms("[m]"));
+    folder.gives("noontrough check p.lens", "ok 5 2 2\n");
+}
+
+/// The sign between the accented capitals is none of them.
+#[test]
+fn texts_of_sets() {
+    let folder = Folder::new();
+    folder.write("p.lens", "name = key [\\xD8-\\xDE\\xC0-\\xD6]+\nlines = (match (lens join name (copy \";\")))*\n");
+    folder.gives("noontrough check p.lens", "ok 9 3 3\n");
+    folder.write("source", b"\xC0\xD8;\xD6\xD7;");
+    let place =
+        "source:1:5: '\\xC0\\xD8;\\xD6\\xD7;' cannot go on here; ';', '\\xC0' to '\\xD6' or '\\xD8' to '\\xDE' could";
+    folder.fails("noontrough get p.lens source", 1, &["refused 13 0", place]);
+    folder.gives(
+        "noontrough where p.lens 0",
+        "p.lens:1:12: node 0 is '[\\xD8-\\xDE\\xC0-\\xD6]', which 'name' makes beside its own\n",
+    );
+    folder.gives("noontrough assemble p.lens -o p.table", "");
+    folder.gives("noontrough show p.table > shown.lens", "");
+    folder.gives("sed -n 2p shown.lens", "n0 = set [\\xC0-\\xD6\\xD8-\\xDE]\n");
+    folder.gives("noontrough assemble shown.lens -o again.table && cmp p.table again.table", "");
+}
+
+#[test]
 fn kinds_matches_and_defaults() {
     check("odd = raw 99 0 0 0\ntext = copy \"x\"\n", &["refused 2 0", "p.lens:1:7: 'odd' is of kind 99"]);
     let matches = "inner = match (key [A-Z])\nline = lens join inner (copy \";\")\nouter = match line\n";

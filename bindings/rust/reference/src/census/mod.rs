@@ -13,6 +13,7 @@ use crate::program::Program;
 use crate::table::{Node, Side, SIDES};
 
 mod puts;
+mod sets;
 
 #[derive(Clone, Copy, Debug, PartialEq, Eq, PartialOrd, Ord)]
 pub enum Kind {
@@ -47,6 +48,32 @@ pub enum Kind {
     RepeatOfMatchOrRemark,
     /// A repeat of a join whose halves both hold a match.
     RepeatOfTwoMatches,
+    /// A node of kind 5; with one pair, with as many as there can be.
+    Sets,
+    SetOfOnePair,
+    SetOf32Pairs,
+    /// A pair is lower than the one before it, two share a byte, one has all bytes.
+    SetOutOfOrder,
+    SetOverlapping,
+    SetOfEveryByte,
+    /// The last pair is at the pool's end; 32 of them are at that of the longest.
+    SetAtThePoolsEnd,
+    SetAt448,
+    /// At least 30 nodes of kind 5 have one pool part.
+    ManySetsOfOnePart,
+    /// Two classes share no byte, though they do from their lowest to their highest.
+    HullsMeetOnly,
+
+    // Programs refused for a set, and all calls of such programs.
+    /// With 3: no pair or more than 32, a part that leaves the pool, the first pair
+    /// reversed, a later one, a set as a const's word.
+    SetOfNoneOrTooMany,
+    SetOutsideThePool,
+    SetReversed,
+    SetReversedLater,
+    SetForAWord,
+    /// With 7 to 11, and a node of kind 5 is below the node.
+    SetsAndAClash,
 
     // Calls with legal texts only.
     /// Both arms of a union could read a part of the sheet.
@@ -131,7 +158,7 @@ pub enum Kind {
 }
 
 impl Kind {
-    pub const ALL: [Kind; 62] = [
+    pub const ALL: [Kind; 78] = [
         Kind::UnionsTwoDeep,
         Kind::UnionsThreeDeep,
         Kind::UnionsOnTheLeft,
@@ -151,6 +178,22 @@ impl Kind {
         Kind::RepeatOfAMatch,
         Kind::RepeatOfMatchOrRemark,
         Kind::RepeatOfTwoMatches,
+        Kind::Sets,
+        Kind::SetOfOnePair,
+        Kind::SetOf32Pairs,
+        Kind::SetOutOfOrder,
+        Kind::SetOverlapping,
+        Kind::SetOfEveryByte,
+        Kind::SetAtThePoolsEnd,
+        Kind::SetAt448,
+        Kind::ManySetsOfOnePart,
+        Kind::HullsMeetOnly,
+        Kind::SetOfNoneOrTooMany,
+        Kind::SetOutsideThePool,
+        Kind::SetReversed,
+        Kind::SetReversedLater,
+        Kind::SetForAWord,
+        Kind::SetsAndAClash,
         Kind::SheetOfBothArms,
         Kind::OldRightArmLikeLeft,
         Kind::DeepShortText,
@@ -202,8 +245,8 @@ impl Kind {
     }
 }
 
-/// How many accepted programs and how many calls were of each kind. A program
-/// is of a kind of calls if one of its calls is.
+/// How many programs and how many calls were of each kind. A program is of a kind of
+/// calls if one of its calls is.
 #[derive(Clone, Debug, Default)]
 pub struct Census {
     programs: BTreeMap<Kind, usize>,
@@ -228,8 +271,13 @@ impl Census {
 
     /// Notes the calls of one program with their answers.
     pub fn note(&mut self, calls: &[(Case, Answer)]) {
-        let Some(program) = calls.first().and_then(|(case, _)| Program::read(&case.table).ok()) else { return };
-        let facts = Facts::of(&program);
+        let Some((first, _)) = calls.first() else { return };
+        let program = match Program::read(&first.table) {
+            Ok(program) => program,
+            Err(refusal) => return self.note_refused(&sets::refusal_kinds(&first.table, refusal), calls.len()),
+        };
+        let mut facts = Facts::of(&program);
+        facts.kinds.extend(sets::program_kinds(&first.table, &program, &reached(&program)));
         let mut met = facts.kinds.clone();
         for (case, answer) in calls.iter().filter(|(case, answer)| has_legal_texts(case, answer)) {
             let mut of_call = call_kinds(&program, &facts, case);
@@ -244,6 +292,13 @@ impl Census {
         met.dedup();
         for kind in met {
             *self.programs.entry(kind).or_default() += 1;
+        }
+    }
+
+    fn note_refused(&mut self, kinds: &[Kind], calls: usize) {
+        for &kind in kinds {
+            *self.programs.entry(kind).or_default() += 1;
+            *self.calls.entry(kind).or_default() += calls;
         }
     }
 }

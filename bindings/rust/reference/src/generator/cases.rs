@@ -1,7 +1,7 @@
 //! Random calls: a program, its texts, and the length of the lent buffer.
 
 use super::draft::Draft;
-use super::faults::{mutated, refused, PROGRAM_REFUSALS};
+use super::faults::{mutated, refused, refused_for_sets, PROGRAM_REFUSALS};
 use super::keys::like_key_cases;
 use super::long_entries::long_entry_cases;
 use super::many_empty::many_empty_cases;
@@ -36,7 +36,7 @@ pub struct Case {
 /// long old entries, with many empty matches or with keys that are much alike
 /// bring their own texts.
 pub fn program_cases(random: &mut Random) -> Vec<Case> {
-    let table = match random.below(28) {
+    let table = match random.below(30) {
         0..=2 => return long_entry_cases(random),
         3..=4 => return many_empty_cases(random),
         5 => return like_key_cases(random),
@@ -48,6 +48,7 @@ pub fn program_cases(random: &mut Random) -> Vec<Case> {
             let table = accepted(random).table();
             mutated(random, &table)
         }
+        12..=13 => refused_for_sets(random, &mut accepted),
         _ => accepted(random).table(),
     };
     cases_of(random, table)

@@ -3,6 +3,7 @@
 //! A draft writes what it is told and tests nothing, so that wrong tables can
 //! be written too.
 
+use crate::class::Pair;
 use crate::table::{kind, MAX_POOL};
 
 /// A node number as it stands in an operand.
@@ -53,17 +54,35 @@ impl Draft {
     /// A word whose text is put into the pool, or found there if it stands in
     /// it already. A text that no longer fits the pool becomes the empty word.
     pub fn word(&mut self, text: &[u8]) -> NodeNumber {
+        let (start, length) = self.place(text).map_or((0, 0), |start| (start, text.len()));
+        self.add(kind::WORD, [(start / 256) as u8, (start % 256) as u8, length as u8])
+    }
+
+    /// Where a text stands in the pool, if it is there or still fits.
+    fn place(&mut self, text: &[u8]) -> Option<usize> {
         let found = (0..self.pool.len()).find(|&start| self.pool[start..].starts_with(text));
         let fits = self.pool.len() + text.len() <= MAX_POOL;
-        let (start, length) = match found {
-            Some(start) => (start, text.len()),
-            None if fits => {
+        found.or_else(|| {
+            fits.then(|| {
                 self.pool.extend_from_slice(text);
-                (self.pool.len() - text.len(), text.len())
-            }
-            None => (0, 0),
-        };
-        self.add(kind::WORD, [(start / 256) as u8, (start % 256) as u8, length as u8])
+                self.pool.len() - text.len()
+            })
+        })
+    }
+
+    /// A set whose pairs are put into the pool or found there, as a word's text is.
+    /// If they no longer fit the pool, the first pair becomes a range.
+    pub fn set(&mut self, pairs: &[Pair]) -> NodeNumber {
+        let text: Vec<u8> = pairs.iter().flat_map(|&(first, last)| [first, last]).collect();
+        match self.place(&text) {
+            Some(start) => self.set_at(start, pairs.len()),
+            None => self.range(pairs[0].0, pairs[0].1),
+        }
+    }
+
+    /// A set of so many pairs that begin at this place of the pool.
+    pub fn set_at(&mut self, start: usize, count: usize) -> NodeNumber {
+        self.add(kind::SET, [(start / 256) as u8, (start % 256) as u8, count as u8])
     }
 
     pub fn range(&mut self, first: u8, last: u8) -> NodeNumber {
@@ -142,7 +161,7 @@ impl Draft {
     }
 
     pub fn is_pattern(&self, node: NodeNumber) -> bool {
-        self.kinds[usize::from(node)] <= kind::PATTERN_REPEAT
+        self.kinds[usize::from(node)] <= kind::SET
     }
 
     pub fn patterns(&self) -> Vec<NodeNumber> {

@@ -4,6 +4,7 @@
 use super::draft::{Draft, NodeNumber};
 use super::programs::default_of;
 use super::random::Random;
+use super::sets::{plant_sets, SET_REFUSALS};
 use crate::answer::*;
 use crate::program::Program;
 use crate::table::{kind, MAX_NODES, MAX_POOL};
@@ -13,6 +14,21 @@ pub const PROGRAM_REFUSALS: std::ops::RangeInclusive<u8> = 1..=11;
 
 /// A table refused with this number. `accepted` draws the program underneath.
 pub fn refused(random: &mut Random, number: u8, accepted: &mut dyn FnMut(&mut Random) -> Draft) -> Vec<u8> {
+    refused_by(random, number, accepted, plant)
+}
+
+/// A table that is refused for its sets, with 3 or 7 to 11.
+pub fn refused_for_sets(random: &mut Random, accepted: &mut dyn FnMut(&mut Random) -> Draft) -> Vec<u8> {
+    let number = *random.pick(&SET_REFUSALS);
+    refused_by(random, number, accepted, plant_sets)
+}
+
+fn refused_by(
+    random: &mut Random,
+    number: u8,
+    accepted: &mut dyn FnMut(&mut Random) -> Draft,
+    plant: fn(&mut Random, u8, &mut Draft),
+) -> Vec<u8> {
     loop {
         let mut draft = accepted(random);
         let table = if number == SIZES_WRONG {
@@ -76,10 +92,13 @@ fn too_long_pool(random: &mut Random) -> Vec<u8> {
 
 /// Plants a fault; the number comes out in most draws, not in all.
 fn plant(random: &mut Random, number: u8, draft: &mut Draft) {
+    if SET_REFUSALS.contains(&number) && random.once_in(4) {
+        return plant_sets(random, number, draft);
+    }
     match number {
         UNKNOWN_KIND => {
             let node = random.below(draft.len());
-            draft.kinds[node] = *random.pick(&[5, 6, 15, 23, 24, 255]);
+            draft.kinds[node] = *random.pick(&[6, 7, 15, 23, 24, 255]);
         }
         BAD_OPERAND => bad_operand(random, draft),
         MATCH_IN_MATCH => match_in_match(random, draft),

@@ -6,6 +6,7 @@
 //! | [`draft`] | nothing: it writes tables node by node |
 //! | [`programs`] | accepted programs of varied shape |
 //! | [`unions`] | nested unions whose sheets overlap |
+//! | [`sets`] | classes that are not one run, and programs around them |
 //! | [`counted_arms`] | unions whose arms read one sheet as different entries |
 //! | [`empties`] | programs with empty leaves |
 //! | [`depths`] | programs nested deep, and texts in which the way is not forced |
@@ -29,6 +30,7 @@ pub mod long_entries;
 pub mod many_empty;
 pub mod programs;
 pub mod random;
+pub mod sets;
 pub mod several_matches;
 pub mod small;
 pub mod texts;

@@ -4,14 +4,15 @@
 //! nodes that still check (odd shapes, sharing, unreached nodes), records with
 //! fields and separators (what a publishing house would write), small programs
 //! around a union, and programs that go up to the limits. Nested unions, arms
-//! with different entries, empty leaves, deep nesting and several matches have
-//! modules of their own.
+//! with different entries, empty leaves, deep nesting, several matches and sets
+//! have modules of their own.
 
 use super::counted_arms::counted_arms;
 use super::depths::{deep, loose};
 use super::draft::{Draft, NodeNumber};
 use super::empties::empty_leaves;
 use super::random::Random;
+use super::sets::{pairs, sets};
 use super::several_matches::several_matches;
 use super::texts::draw;
 use super::unions::overlapping_unions;
@@ -34,7 +35,7 @@ impl Room {
 
 /// An accepted program of any sort.
 pub fn accepted(random: &mut Random) -> Draft {
-    match random.below(19) {
+    match random.below(21) {
         0..=3 => grown(random, Room::USUAL),
         4..=6 => records(random),
         7 => two_kinds(random),
@@ -44,6 +45,7 @@ pub fn accepted(random: &mut Random) -> Draft {
         13..=14 => deep(random),
         15..=16 => several_matches(random),
         17 => counted_arms(random),
+        18..=19 => sets(random),
         _ => loose(random),
     }
 }
@@ -220,9 +222,10 @@ fn propose(random: &mut Random, draft: &mut Draft, alphabet: &Alphabet) -> NodeN
 
 fn leaf(random: &mut Random, draft: &mut Draft, alphabet: &Alphabet) -> NodeNumber {
     let (one, other) = (alphabet.byte(random), alphabet.byte(random));
-    match random.below(6) {
+    match random.below(7) {
         0 => draft.range(one.min(other), one.max(other)),
         1 => draft.range(0, 255),
+        2 => draft.set(&[(one, one), (other, other)]),
         _ => draft.word(&alphabet.text(random, 3)),
     }
 }
@@ -313,7 +316,11 @@ fn fields(random: &mut Random, draft: &mut Draft) -> NodeNumber {
 
 fn field(random: &mut Random, draft: &mut Draft) -> NodeNumber {
     let (first, last) = *random.pick(&[(b'A', b'Z'), (b'0', b'9'), (b'a', b'c'), (0xC0, 0xFF), (b'A', b'A')]);
-    let class = draft.range(first, last);
+    let class = match random.below(8) {
+        0 => draft.set(&[(0xD8, 0xDE), (b'A', b'Z'), (0xC0, 0xD6)]),
+        1 => draft.set(&pairs(random)),
+        _ => draft.range(first, last),
+    };
     let pattern = if random.once_in(2) { draft.pattern_repeat(class) } else { draft.pattern_some(class) };
     match random.below(4) {
         0 | 1 => draft.key(pattern),

@@ -2,6 +2,7 @@
 
 use super::random::Random;
 use crate::automaton::{Automaton, Reading, State};
+use crate::class::Class;
 use crate::program::Program;
 use crate::table::{Node, Side, Table};
 
@@ -27,7 +28,7 @@ impl Walk<'_> {
     fn go(&mut self, node: usize, text: &mut Vec<u8>) {
         match self.table.nodes[node] {
             Node::Word(ref word) => text.extend_from_slice(word),
-            Node::Range { first, last } => text.push(byte_between(self.random, first, last)),
+            Node::Class(class) => text.push(byte_of(self.random, class)),
             Node::PatternJoin(a, b) | Node::LensJoin(a, b) => {
                 self.go(a, text);
                 self.go(b, text);
@@ -50,8 +51,10 @@ impl Walk<'_> {
     }
 }
 
-/// The ends of a range are where mistakes are, so they come up often.
-fn byte_between(random: &mut Random, first: u8, last: u8) -> u8 {
+/// The ends of a run are where mistakes are, so they come up often. No node has an
+/// empty class.
+fn byte_of(random: &mut Random, class: Class) -> u8 {
+    let (first, last) = *random.pick(&class.runs());
     match random.below(3) {
         0 => first,
         1 => last,
@@ -76,8 +79,8 @@ pub fn draw_of_length(random: &mut Random, automaton: &Automaton, length: usize)
         let reading = reading.filter(|reading| left > 0 && can_end[left - 1][reading.to]);
         let free: Vec<usize> = free.iter().copied().filter(|&to| can_end[left][to]).collect();
         match reading {
-            Some(Reading { first, last, to }) if free.is_empty() => {
-                text.push(byte_between(random, first, last));
+            Some(Reading { class, to }) if free.is_empty() => {
+                text.push(byte_of(random, class));
                 state = to;
             }
             _ => state = *random.pick(&free),
