@@ -108,6 +108,17 @@ bit-beyond : (w n j : ℕ) → n < 2 ^ w → w ≤ j → bit j n ≡ false
 unfolding bit
 bit-beyond w n j h l = rw (div-eq-of-lt (lt-of-lt-of-le h (pow-mono l)))
 
+-- One less than a power of two has every bit below the exponent.
+bit-ones : (w j : ℕ) → j < w → bit j (2 ^ w - 1) ≡ true
+bit-ones zero j h = absurd (omega arith)
+bit-ones (suc w) zero h =
+    let some : 2 ^ 0 ≤ 2 ^ w = pow-mono {i = 0} {j = w} (omega arith) in
+    bit-first (2 ^ suc w - 1) ∙ eq-eqb ((2 ^ suc w - 1) % 2) 1 (omega (arith, some, pow-suc 2 w))
+bit-ones (suc w) (suc j) h =
+    let some : 2 ^ 0 ≤ 2 ^ w = pow-mono {i = 0} {j = w} (omega arith) in
+    let half : (2 ^ suc w - 1) / 2 ≡ 2 ^ w - 1 = omega (arith, some, pow-suc 2 w) in
+    bit-suc j (2 ^ suc w - 1) ∙ ap (bit j) half ∙ bit-ones w j (omega arith)
+
 -- A place below w at which n has a bit.
 abbrev SomeBit : ℕ → ℕ → Type 0
 SomeBit w n = (j : ℕ) × (j < w) × (bit j n ≡ true)
@@ -323,6 +334,24 @@ module _ (s : Set) (n : ℕ) where
       go k m false e =
           let u = leb-false n (q - 64) e in
           ap₂ _||_ (bit-under (s .high) n (q - 64) u) (sym (holds-low s (q - n) (omega arith))) ∙ moved-some s n q m (omega arith)
+
+-- ---- Every position, and those from one on
+
+-- The set of all ones holds every position.
+pub holds-full : (q : ℕ) → holds (record { low = 18446744073709551615; high = 18446744073709551615 }) q ≡ ltb q 128
+holds-full q =
+    holds-by (record { low = 18446744073709551615; high = 18446744073709551615 }) q
+    (λ h. bit-ones 64 q h ∙ sym (lt-ltb q 128 (omega arith)))
+    (λ h l. bit-ones 64 (q - 64) (omega arith) ∙ sym (lt-ltb q 128 l))
+    (λ h. le-ltb q 128 h)
+
+-- Moved up by p, it holds those from p on.
+pub full-moved : (s : Set) (p q : ℕ) → ((j : ℕ) → holds s j ≡ ltb j 128) → holdsMoved s p q ≡ (ltb q 128 && leb p q)
+full-moved s p q full = rw (full (q - p)) (go (ltb q 128) refl)
+  where
+    go : (b : Bool) → ltb q 128 ≡ b → (b && (leb p q && ltb (q - p) 128)) ≡ (b && leb p q)
+    go true e = let h = ltb-true q 128 e in rw (lt-ltb (q - p) 128 (omega arith)) (and-comm (leb p q) true)
+    go false e = refl
 
 -- ---- No position, or some
 
