@@ -1,58 +1,63 @@
+-- `automaton::share` meets its contract: a letter is asked of the other position, two classes are compared. Assumes nothing.
+use Rattle.automaton.proofs.Standing.{share-first, share-second, share-classes}
 use borrow.Author.Needs.{needs}
-use mathlib.Core.Path.{ap₂}
-use lib.Dec.{leb}
-use Rattle.automaton.specs.Rows.{shareIn}
+use mathlib.Core.Path.{_∙_}
 use Rattle.automaton.proofs.share.Statement.{statement}
 use Rattle.automaton.proofs.share.Tie as tie
-use Rattle.automaton.proofs.share.Reads as reads
-use Rattle.automaton.proofs.share.Lts as lts
-use Rattle.automaton.proofs.larger.Reads as larger-reads
-use Rattle.automaton.proofs.smaller.Reads as smaller-reads
 
--- src/lib.rt:83:29
 mul-a : tie.Need-mul-a
 mul-a c = search needs
 
--- src/lib.rt:83:22
 add-a : tie.Need-add-a
 add-a c = search needs
 
--- src/lib.rt:83:13
 mul-a-2 : tie.Need-mul-a-2
 mul-a-2 c = search needs
 
--- src/lib.rt:83:13
 shared-slice-read-a : tie.Need-shared-slice-read-a
 shared-slice-read-a c = search needs
 
--- src/lib.rt:84:29
 mul-b : tie.Need-mul-b
 mul-b c = search needs
 
--- src/lib.rt:84:22
 add-b : tie.Need-add-b
 add-b c = search needs
 
--- src/lib.rt:84:13
 mul-b-2 : tie.Need-mul-b-2
 mul-b-2 c = search needs
 
--- src/lib.rt:84:13
 shared-slice-read-b : tie.Need-shared-slice-read-b
 shared-slice-read-b c = search needs
 
--- src/lib.rt:85:5
-larger-requires : tie.Need-larger-requires
-larger-requires c κs = search needs
+cast-stands : tie.Need-cast-stands
+cast-stands c = search needs
 
--- src/lib.rt:85:33
-smaller-requires : tie.Need-smaller-requires
-smaller-requires c κs = search needs
+stands-requires : tie.Need-stands-requires
+stands-requires c κs = search needs
 
--- src/lib.rt:78:1
 returns : tie.Need-returns
-unfolding shareIn
-returns c = ap₂ leb (c .before .larger .ensures) (c .smaller .ensures)
+returns c = c .stands .ensures ∙ share-first (c .before .before .before .before .before .args .prepared .now) (c .before .before .before .before .before .args .row) (c .before .before .before .before .before .args .other) (c .before .if1 .taken)
+
+cast-stands-2 : tie.Need-cast-stands-2
+cast-stands-2 c = search needs
+
+stands-requires-2 : tie.Need-stands-requires-2
+stands-requires-2 c κs = search needs
+
+returns-2 : tie.Need-returns-2
+returns-2 c = c .stands2 .ensures ∙ share-second (c .before .before .before .before .before .before .args .prepared .now) (c .before .before .before .before .before .before .args .row) (c .before .before .before .before .before .before .args .other) (c .before .if2 .taken)
+
+class-at-requires : tie.Need-class-at-requires
+class-at-requires c κs = search needs
+
+class-at-requires-2 : tie.Need-class-at-requires-2
+class-at-requires-2 c κs = search needs
+
+meets-requires : tie.Need-meets-requires
+meets-requires c κs = search needs
+
+returns-3 : tie.Need-returns-3
+returns-3 c = share-classes (c .before .before .before .before .before .before .before .before .args .prepared .now) (c .before .before .before .before .before .before .before .before .args .row) (c .before .before .before .before .before .before .before .before .args .other) (c .before .before .before .before .if1 .left) (c .before .before .before .if2 .left) (c .before .before .class-at .ensures) (c .before .class-at2 .ensures) (c .meets .result) (c .meets .ensures)
 
 pub share-spec : {M : Type 1} → statement M
 share-spec =
@@ -66,6 +71,13 @@ share-spec =
     add-b
     mul-b-2
     shared-slice-read-b
-    larger-requires
-    smaller-requires
-    returns)
+    cast-stands
+    stands-requires
+    returns
+    cast-stands-2
+    stands-requires-2
+    returns-2
+    class-at-requires
+    class-at-requires-2
+    meets-requires
+    returns-3)

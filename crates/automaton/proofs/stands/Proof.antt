@@ -1,43 +1,59 @@
--- `automaton::stands` meets its contract: the range's last byte is asked first, which is seldom passed. Assumes nothing.
+-- `automaton::stands` meets its contract: a letter is compared, and of a class one bit is asked. Assumes nothing.
+use Rattle.positions.specs.Positions.{bit}
+use Rattle.positions.proofs.Bits.{same-test}
+use Rattle.automaton.proofs.Standing.{stands-letter, stands-class, class-bit}
 use borrow.Author.Needs.{needs}
-use mathlib.Core.Path.{_≡_, refl}
-use mathlib.Core.Bool.{Bool, true, false, _&&_}
-use lib.Dec.{leb}
-use borrow.Author.Tests.{le-leb, lt-leb}
-use Rattle.semantics.specs.Pattern.{inRange}
-use Rattle.automaton.specs.Rows.{lowOf, standsIn}
+use mathlib.Core.Path.{sym, _∙_}
+use native.Mathlib.Omega.{arith}
 use Rattle.automaton.proofs.stands.Statement.{statement}
 use Rattle.automaton.proofs.stands.Tie as tie
 
--- both tests, where the second is known
-and-true : (b : Bool) → b ≡ (b && true)
-and-true true = refl
-and-true false = refl
+mul-held : tie.Need-mul-held
+mul-held c = search needs
 
-and-false : (b : Bool) → false ≡ (b && false)
-and-false true = refl
-and-false false = refl
+add-held : tie.Need-add-held
+add-held c = search needs
 
-mul-range : tie.Need-mul-range
-mul-range c = search needs
+mul-held-2 : tie.Need-mul-held-2
+mul-held-2 c = search needs
 
-add-range : tie.Need-add-range
-add-range c = search needs
-
-mul-range-2 : tie.Need-mul-range-2
-mul-range-2 c = search needs
-
-shared-slice-read-range : tie.Need-shared-slice-read-range
-shared-slice-read-range c = search needs
+shared-slice-read-held : tie.Need-shared-slice-read-held
+shared-slice-read-held c = search needs
 
 returns : tie.Need-returns
-unfolding standsIn inRange
-returns c = rw (le-leb _ _ (c .if1 .taken)) (and-true _)
+returns c = same-test _ (c .before .before .args .byte) (c .before .before .args .byte) _ sym sym ∙ sym (stands-letter (c .before .before .args .prepared .now) (c .before .before .args .row) (c .if1 .taken) (c .before .before .args .byte))
+
+add-result : tie.Need-add-result
+add-result c = search needs
+
+mul-result : tie.Need-mul-result
+mul-result c = search needs
+
+shared-slice-read-result : tie.Need-shared-slice-read-result
+shared-slice-read-result c = search needs
+
+shr-result : tie.Need-shr-result
+shr-result c = search needs
 
 returns-2 : tie.Need-returns-2
-unfolding standsIn inRange
-returns-2 c = rw (lt-leb _ _ (c .if1 .left)) (and-false (leb (lowOf (c .before .before .args .prepared .now) (c .before .before .args .row)) (c .before .before .args .byte)))
+unfolding bit
+returns-2 c =
+    sym (
+    stands-class (c .before .before .before .args .prepared .now) (c .before .before .before .args .row) (c .before .if1 .left) (c .before .before .before .args .byte)
+    ∙ class-bit (c .before .before .before .args .prepared .now) _ (c .before .before .before .args .byte) (omega arith)
+    )
 
 pub stands-spec : {M : Type 1} → statement M
 stands-spec =
-    tie.close (tie.spec mul-range add-range mul-range-2 shared-slice-read-range returns returns-2)
+    tie.close
+    (tie.spec
+    mul-held
+    add-held
+    mul-held-2
+    shared-slice-read-held
+    returns
+    add-result
+    mul-result
+    shared-slice-read-result
+    shr-result
+    returns-2)
