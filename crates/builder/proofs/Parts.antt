@@ -1,5 +1,5 @@
 -- The automaton of a pattern from those of its parts: what its rows and its sets hold, position by position. Assumes nothing.
-use mathlib.Core.Path.{_≡_, refl, sym, ap, ap₂, _∙_}
+use mathlib.Core.Path.{_≡_, refl, sym, ap, ap₂, subst, _∙_}
 use mathlib.Core.Bool.{Bool, true, false, _&&_, _||_, cond, and-true}
 use mathlib.Core.List.{List, [], _∷_}
 use mathlib.Core.Logic.{inl, inr, ⊎-elim}
@@ -133,7 +133,7 @@ class-same before after i same =
     }
 
 -- A row that is told by the number of another as it was has the bytes that the other had.
-module _ {before after : List ℕ} {from to : ℕ} (held-is : heldOf after to ≡ heldOf before from) (same : SameBelow from before after) where
+module _ (before after : List ℕ) (from to : ℕ) (held-is : heldOf after to ≡ heldOf before from) (same : SameBelow from before after) where
   same-bytes : ClassBelow before from → (byte : ℕ) → standsIn after to byte ≡ standsIn before from byte
   same-bytes (inl letter) byte =
       letter-stands after to _ byte letter held-is ∙ sym (letter-stands before from _ byte letter refl)
@@ -158,14 +158,18 @@ copied-row :
     → ((i : ℕ) → holds (followOf after to) i ≡ followAt c q i)
     → RowIs c start q after
 unfolding standsAt
-copied-row {r} {from} {p} c start q was row up e class follow =
-    rw
-    (← e)
-    (record {
-      bytes-are = λ byte. same-bytes (row .held-same) (row .same-below) (was .class-below) byte ∙ was .bytes-are byte ∙ ap (λ (k : Class). inClass k byte) (sym class);
-      class-below = class-stays (row .held-same) (row .same-below) up (was .class-below);
-      follow-is = follow;
-    })
+copied-row {r} {from} {p} {before} c start q {to} {after = after} was row up e class follow =
+    record {
+      bytes-are = λ byte. rw e at (bytes-are byte);
+      class-below = rw e at (class-stays before after (from + p) to (row .held-same) (row .same-below) up (was .class-below));
+      follow-is = λ i. rw e at (follow i);
+    }
+  where
+    bytes-are : (byte : ℕ) → standsIn after to byte ≡ inClass (classAt c q) byte
+    bytes-are byte =
+        same-bytes before after (from + p) to (row .held-same) (row .same-below) (was .class-below) byte
+        ∙ was .bytes-are byte
+        ∙ ap (λ (k : Class). inClass k byte) (sym class)
 
 module _
     (row : ℕ)
@@ -278,10 +282,11 @@ module _
 
 -- a row that is kept is still that of its position
 pub row-is-kept : {r : Pattern} {start p : ℕ} {before after : List ℕ} → RowIs r start p before → RowKept (start + p) before after → RowIs r start p after
-row-is-kept was same =
+row-is-kept {start = start} {p} {before} {after} was same =
+    let row = start + p in
     record {
-      bytes-are = λ byte. same-bytes (same .held-kept) (same .below-kept) (was .class-below) byte ∙ was .bytes-are byte;
-      class-below = class-stays (same .held-kept) (same .below-kept) (omega arith) (was .class-below);
+      bytes-are = λ byte. same-bytes before after row row (same .held-kept) (same .below-kept) (was .class-below) byte ∙ was .bytes-are byte;
+      class-below = class-stays before after row row (same .held-kept) (same .below-kept) (omega arith) (was .class-below);
       follow-is = λ q. ap (λ (s : Set). holds s q) (same .follow-kept) ∙ was .follow-is q;
     }
 
@@ -337,7 +342,7 @@ letter-class : (letter byte : ℕ) → eqb byte letter ≡ inClass (range letter
 letter-class letter byte = go (eqb byte letter) refl
   where
     go : (b : Bool) → eqb byte letter ≡ b → b ≡ inClass (range letter letter) byte
-    go true e = let same : letter ≡ byte = sym (eqb-true byte letter e) in rw same at (sym (one-byte letter))
+    go true e = sym (subst (λ (b : ℕ). inClass (range letter letter) b ≡ true) (sym (eqb-true byte letter e)) (one-byte letter))
     go false e = sym (false-of-not-true _ (λ i. not-both (eq-eqb byte letter (only-byte letter byte i)) e))
 
 -- no letters have their rows yet
@@ -436,19 +441,23 @@ class-built node side row c class l₀ l₁ l₂ l₃ none zero a-node class-is 
           (λ p h.
           let first : p ≡ 0 = omega arith in
           rw
-          (first, add-zero (row + 2))
+          first
           (record {
-            bytes-are = λ byte. class-stands l₂ (row + 2) (rowAt row) byte (omega arith) (put .held-put) ∙ ap (λ (k : Bits). holdsByte k byte) class-there ∙ class-is byte;
-            class-below = inr (omega (arith, put .held-put), omega (arith, put .held-put));
-            follow-is = λ q. ap (λ (s : Set). holds s q) (put .follow-put) ∙ none-is q;
+            bytes-are = λ byte. rw (add-zero (row + 2)) (bytes-are byte);
+            class-below = rw (add-zero (row + 2)) (inr (omega (arith, put .held-put), omega (arith, put .held-put)));
+            follow-is = λ q. rw (add-zero (row + 2)) (ap (λ (s : Set). holds s q) (put .follow-put) ∙ none-is q);
           }));
     }
   where
     rows : Kept (rowAt row) (rowAt (row + 3)) l₀ l₂
     rows = kept-both (rowAt row) (rowAt (row + 3)) (class-put .rest) (put .rest) (omega arith) (omega arith) (omega arith) (omega arith)
 
-    class-there : R.classAt l₂ (rowAt row) ≡ class
-    class-there = class-same l₁ l₂ (rowAt row) (λ j x y. put .rest .kept j (omega arith)) ∙ class-put .class-put
+    -- the class is still there once the row is put
+    bytes-are : (byte : ℕ) → standsIn l₂ (row + 2) byte ≡ inClass c byte
+    bytes-are byte =
+        class-stands l₂ (row + 2) (rowAt row) byte (omega arith) (put .held-put)
+        ∙ ap (λ (k : Bits). holdsByte k byte) (class-same l₁ l₂ (rowAt row) (λ j x y. put .rest .kept j (omega arith)) ∙ class-put .class-put)
+        ∙ class-is byte
 
     zero-at : (q : ℕ) → holds zero q ≡ eqb q 0
     zero-at q = zero-is q ∙ at-zero 1 q ∙ and-true (eqb q 0)

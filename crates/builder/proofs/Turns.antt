@@ -361,6 +361,14 @@ star-positions : (r : Pattern) → positions (star r) ≡ positions r
 unfolding positions
 star-positions r = refl
 
+class-positions : (c : Class) → positions (oneOf c) ≡ 1
+unfolding positions
+class-positions c = refl
+
+-- the runs of a range or a set, as they are taken from the table
+runs-part : (bytes : Text) (at runs : ℕ) → take (at + 2 * runs - at) (drop at bytes) ≡ take (2 * runs) (drop at bytes)
+runs-part bytes at runs = let count : at + 2 * runs - at ≡ 2 * runs = omega arith in rw count refl
+
 -- a pair is made of the automata that stand there
 pub pair-made :
     {pair : Pair} {node : ℕ} {side : Side} {row a b : ℕ} {left right : Automaton} {before after : List ℕ}
@@ -375,6 +383,10 @@ module _ {bytes : Text} {k : ℕ} {side : Side} {row : ℕ} {before : List ℕ} 
   counted-as : {r : Pattern} → languageAt bytes k side ≡ r → Counted r k side before
   counted-as e = rw e at (counted (turn .up-to .sized) k (turn .inside) side)
 
+  -- a pattern that takes as many rows as it has positions
+  pub taken-alone : {r : Pattern} {rows : ℕ} → languageAt bytes k side ≡ r → rowsTaken bytes k side ≡ positions (languageAt bytes k side) → rows ≡ positions r → rows ≡ rowsTaken bytes k side
+  taken-alone e takes count = count ∙ ap positions (sym e) ∙ sym takes
+
   -- a word, a range or a set
   module _ {r : Pattern} (e : languageAt bytes k side ≡ r) (rows : ℕ) (takes : rows ≡ rowsTaken bytes k side) where
     pub alone-ready : Space k row rows before
@@ -382,13 +394,26 @@ module _ {bytes : Text} {k : ℕ} {side : Side} {row : ℕ} {before : List ℕ} 
 
     pub alone-next :
         {start : ℕ} {after : List ℕ}
-        → start + positions r ≤ row + rows
         → BuiltAlone r k side start row rows before after
+        → start + positions r ≤ row + rows
         → BuiltUpTo bytes (nextNode k side) (nextSide side) (row + rows) after
-    alone-next covers made =
+    alone-next made covers =
         advance turn (row + rows) (made .built) (λ p x y z. omega arith) (rw e (made .described (counted-as e)))
         (omega (arith, ap positions e))
         (omega (arith, takes))
+
+  -- a range or a set, from its runs
+  module _ {at runs : ℕ} (shape : RunsShape bytes k side at runs) where
+    pub class-ready : Space k row 3 before
+    class-ready = alone-ready (shape .language-is) 3 (sym (shape .takes))
+
+    pub class-next :
+        {after : List ℕ}
+        → BuiltAlone (oneOf (runsOf (take (at + 2 * runs - at) (drop at bytes)))) k side (row + 2) row 3 before after
+        → BuiltUpTo bytes (nextNode k side) (nextSide side) (row + 3) after
+    class-next made =
+        let class = runsOf (take (2 * runs) (drop at bytes)) in
+        alone-next (shape .language-is) 3 (sym (shape .takes)) (rw (runs-part bytes at runs) at made) (omega (arith, class-positions class))
 
   -- two parts
   module _ {pair : Pair} {a b : ℕ} (shape : PairShape bytes k side pair a b) where
@@ -570,7 +595,3 @@ letters-part bytes n start len e =
 pub word-count : (w : Text) → length w ≡ positions (word w)
 unfolding positions
 word-count w = refl
-
-pub class-count : (c : Class) → 1 ≡ positions (oneOf c)
-unfolding positions
-class-count c = refl

@@ -21,11 +21,11 @@ loop-holds c = (omega arith, lettered-none (c .before .before .args .row) (c .be
 shared-slice-read-letter : tie.Need-shared-slice-read-letter Inv-loop μ-loop
 shared-slice-read-letter c = search needs
 
-range-of-requires : tie.Need-range-of-requires Inv-loop μ-loop
-range-of-requires c κs = search needs
-
 add-put-row : tie.Need-add-put-row Inv-loop μ-loop
-add-put-row c = omega (arith, c .before .before .before .before .loop .inv .1 .rest .same-length)
+add-put-row c = omega (arith, c .before .before .before .loop .inv .1 .rest .same-length)
+
+cast-put-row : tie.Need-cast-put-row Inv-loop μ-loop
+cast-put-row c = omega (arith, c .before .shared-slice-known2 .given (c .before .before .before .loop .p))
 
 add-single : tie.Need-add-single Inv-loop μ-loop
 add-single c = search needs
@@ -34,7 +34,7 @@ single-requires : tie.Need-single-requires Inv-loop μ-loop
 single-requires c κs = search needs
 
 put-row-requires : tie.Need-put-row-requires Inv-loop μ-loop
-put-row-requires c κs = omega (arith, c .before .before .before .before .before .loop .inv .1 .rest .same-length)
+put-row-requires c κs = omega (arith, c .before .before .before .before .loop .inv .1 .rest .same-length)
 
 add-p : tie.Need-add-p Inv-loop μ-loop
 add-p c = search needs
@@ -45,7 +45,7 @@ loop-less c = search needs
 loop-again : tie.Need-loop-again Inv-loop μ-loop
 loop-again c = (
   omega arith,
-  lettered-more (c .before .before .before .before .before .before .before .before .before .before .before .args .row) (c .before .before .before .before .before .before .before .before .loop .p) (c .before .before .before .before .before .before .before .before .before .before .before .args .letters .now) _ _ _ (c .before .before .before .before .before .range-of .result) (c .before .before .before .single .result) (c .before .before .before .before .before .range-of .ensures) (c .before .before .before .single .ensures) (c .before .before .before .before .before .before .before .before .loop .inv .1) (c .before .before .put-row .ensures),
+  lettered-more (c .before .before .before .before .before .before .before .before .before .before .args .row) (c .before .before .before .before .before .before .before .loop .p) (c .before .before .before .before .before .before .before .before .before .before .args .letters .now) _ _ _ (c .before .before .before .single .result) (omega (arith, c .before .before .before .before .before .shared-slice-known2 .given (c .before .before .before .before .before .before .before .loop .p))) (c .before .before .before .single .ensures) (c .before .before .before .before .before .before .before .loop .inv .1) (c .before .before .put-row .ensures),
 )
 
 same-length : tie.Need-same-length Inv-loop μ-loop
@@ -64,8 +64,8 @@ put-letters-spec =
     μ-loop
     loop-holds
     shared-slice-read-letter
-    range-of-requires
     add-put-row
+    cast-put-row
     add-single
     single-requires
     put-row-requires

@@ -26,10 +26,10 @@ put-two-requires : tie.Need-put-two-requires
 put-two-requires c κs = simp length-set (omega arith)
 
 same-length : tie.Need-same-length
-same-length c = c .before .before .put-two .ensures .rest .same-length ∙ length-set (c .before .before .before .before .before .args .prepared .now) _ (c .before .before .before .before .before .args .range)
+same-length c = c .before .before .put-two .ensures .rest .same-length ∙ length-set (c .before .before .before .before .before .args .prepared .now) _ (c .before .before .before .before .before .args .held)
 
 returns : tie.Need-returns
-returns c = row-put (c .before .before .before .before .before .args .prepared .now) _ (c .before .before .before .before .before .args .row) (c .before .before .before .before .before .args .range) (c .before .before .before .before .before .args .follow) (omega arith) (c .before .before .put-two .ensures)
+returns c = row-put (c .before .before .before .before .before .args .prepared .now) _ (c .before .before .before .before .before .args .row) (c .before .before .before .before .before .args .held) (c .before .before .before .before .before .args .follow) (omega arith) (c .before .before .put-two .ensures)
 
 pub put-row-spec : {M : Type 1} → statement M
 put-row-spec =
