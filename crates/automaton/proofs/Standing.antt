@@ -3,7 +3,7 @@ use mathlib.Core.Path.{_≡_, refl, sym, ap, ap₂, _∙_}
 use mathlib.Core.Bool.{Bool, true, _&&_, cond}
 use mathlib.Core.List.{List}
 use mathlib.Core.Logic.{_↔_}
-use Prim.Native.Nat.{ℕ, _+_, _-_, _*_, _/_, _%_, _≤_, _<_}
+use Prim.Native.Nat.{ℕ, _+_, _-_, _/_, _%_, _≤_, _<_}
 use native.Mathlib.Omega.{arith}
 use borrow.Author.Tests.{lt-ltb, le-ltb, eqb-true, eq-eqb}
 use lib.Dec.{eqb, ltb}
@@ -12,7 +12,7 @@ use Rattle.laws.specs.Basics.{not-both, and-both, and-of, cond-true, cond-false
 use Rattle.positions.specs.Positions.{bit, holds}
 use Rattle.positions.proofs.Bits.{holds-low, holds-high}
 use Rattle.classes.specs.declared.Class.{Class}
-use Rattle.classes.specs.Classes.{holdsByte, SharedByte}
+use Rattle.classes.specs.Classes.{holdsByte, SharedByte, anyBelow}
 use Rattle.classes.proofs.Anys.{split-at, same-where, any-iff}
 use Rattle.classes.proofs.Bytes.{in-low, in-high, past-high}
 use Rattle.automaton.specs.Rows.{setAt, heldOf, classAt, standsIn, shareIn, alikeIn}
@@ -75,7 +75,7 @@ module _ (prepared : List ℕ) (row : ℕ) where
 -- ---- Two positions
 
 -- the same number, the same bytes
-pub alike-stands :
+alike-stands :
     (prepared : List ℕ) (row row′ : ℕ)
     → alikeIn prepared row row′ ≡ true
     → (byte : ℕ)
@@ -85,6 +85,13 @@ alike-stands prepared row row′ e byte =
     ap
     (λ (held : ℕ). cond (ltb held 256) (eqb byte held) (holdsByte (classAt prepared held) byte))
     (eqb-true (heldOf prepared row) (heldOf prepared row′) e)
+
+-- and so they share a byte with the same positions
+pub alike-shares :
+    (prepared : List ℕ) (row row′ other : ℕ) → alikeIn prepared row row′ ≡ true → shareIn prepared row other ≡ shareIn prepared row′ other
+unfolding shareIn
+alike-shares prepared row row′ other e =
+    ap (anyBelow 256) (λ j byte. alike-stands prepared row row′ e byte j && standsIn prepared other byte)
 
 -- two positions share a byte exactly if one may stand at both
 pub share-iff :

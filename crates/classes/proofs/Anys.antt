@@ -23,7 +23,7 @@ or-swap true true d = refl
 or-swap true false d = refl
 or-swap false b d = refl
 
--- below n, or n itself
+-- below a number, or from it on
 pub split-at : (x mid : ℕ) {C : Type 0} → (x < mid → C) → (mid ≤ x → C) → C
 split-at x mid below above = ⊎-elim (λ e. below (ltb-true x mid e)) (λ e. above (ltb-false x mid e)) (bool-cases (ltb x mid))
 

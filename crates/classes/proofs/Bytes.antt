@@ -1,12 +1,12 @@
 -- The two halves of a class: what the functions' proofs cite. Assumes nothing.
 use mathlib.Core.Path.{_≡_, refl, sym, ap₂, _∙_}
-use mathlib.Core.Bool.{Bool, true, false, not, _&&_, _||_}
+use mathlib.Core.Bool.{Bool, true, false, not, _&&_}
 use Prim.Native.Nat.{ℕ, _+_, _-_, _≤_, _<_}
 use native.Mathlib.Omega.{arith}
-use borrow.Author.Tests.{ltb-true, ltb-false, lt-ltb, le-ltb, leb-true, leb-false, le-leb, lt-leb}
+use borrow.Author.Tests.{lt-ltb, le-ltb, leb-true, leb-false, le-leb, lt-leb}
 use lib.Dec.{ltb, leb}
 use Rattle.semantics.specs.Pattern.{inRun}
-use Rattle.laws.specs.Basics.{bool-cases, cond-true, cond-false}
+use Rattle.laws.specs.Basics.{cond-true, cond-false}
 use Rattle.positions.specs.declared.Set.{Set}
 use Rattle.positions.specs.Positions.{holds, Empty, Shared}
 use Rattle.positions.proofs.Bits.{holds-past}

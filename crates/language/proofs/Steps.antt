@@ -57,8 +57,7 @@ module _ {r : Pattern} {a : Automaton} {prepared : List ℕ} (room : Room a prep
 
   -- A byte may stand at a position by its row as by the pattern.
   pub stands-is : (p c : ℕ) → p < positions r → standsIn prepared (a .start + p) c ≡ standsAt r p c
-  unfolding standsIn standsAt
-  stands-is p c l = let row = d .row-is p l in rw (row .low-is, row .high-is)
+  stands-is p c l = d .row-is p l .bytes-are c
 
   -- So a position of a set gives itself where by the pattern the byte may stand at it.
   standing-at : {s : Set} {c : ℕ} (p : ℕ) → p < positions r → holds s p ≡ true → standsAt r p c ≡ true → Standing prepared a s c p p

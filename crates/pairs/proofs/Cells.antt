@@ -5,55 +5,23 @@ use mathlib.Core.List.{List, [], _∷_}
 use mathlib.Core.Logic.{_↔_, ⊎-elim}
 use Prim.Native.Nat.{ℕ, zero, suc, _+_, _*_, _≤_, _<_, min}
 use native.Mathlib.Nat.{not-suc-le-zero}
-use native.Mathlib.Numerals.{add-one}
 use native.Mathlib.Omega.{arith}
-use borrow.Author.Tests.{ltb-true, ltb-false, eqb-true, eqb-false, eq-eqb, not-true, not-false}
+use borrow.Author.Tests.{eqb-true, eqb-false, eq-eqb, not-true, not-false}
 use lib.Bits.{bitOr, or-add-and, and-le-r}
-use lib.Dec.{ltb, eqb}
+use lib.Dec.{eqb}
 use lib.ListN.{length, getD, set, replicate, length-replicate, length-set}
 use lib.Seq.{getD-set-same, getD-set-other, set-getD}
-use Rattle.laws.specs.Basics.{bool-cases, not-both, and-both, and-of, or-either, or-left, or-right}
+use Rattle.laws.specs.Basics.{bool-cases, not-both, and-both, and-of}
 use Rattle.positions.specs.declared.Set.{Set}
 use Rattle.positions.specs.Positions.{holds, Empty, FirstFrom}
 use Rattle.positions.proofs.Bits.{holds-or, holds-by, bit-zero}
+use Rattle.classes.specs.Classes.{anyBelow}
+use Rattle.classes.proofs.Anys.{split-at, same-where, any-more, any-iff}
 use Rattle.automaton.specs.declared.Automaton.{Automaton}
 use Rattle.automaton.specs.Rows.{shareIn}
-use Rattle.pairs.specs.Pairs.{anyBelow, Gathered, bySharing, rowOf, total, Change, Gained, Blank}
+use Rattle.pairs.specs.Pairs.{Gathered, bySharing, rowOf, total, Change, Gained, Blank}
 
 -- ---- Sets that are gathered
-
--- below n, or n itself
-pub split-at : (x mid : ℕ) {C : Type 0} → (x < mid → C) → (mid ≤ x → C) → C
-split-at x mid below above = ⊎-elim (λ e. below (ltb-true x mid e)) (λ e. above (ltb-false x mid e)) (bool-cases (ltb x mid))
-
-any-more : (n : ℕ) (test : ℕ → Bool) → anyBelow (n + 1) test ≡ (test n || anyBelow n test)
-unfolding anyBelow
-any-more n test = rw add-one
-
--- a test is true of some number below n exactly if there is one
-pub any-iff : (n : ℕ) (test : ℕ → Bool) → (anyBelow n test ≡ true) ↔ ((p : ℕ) × (p < n) × (test p ≡ true))
-unfolding anyBelow
-any-iff zero test = (λ e. absurd (false≢true e), λ h. absurd (not-suc-le-zero (h .1)))
-any-iff (suc n) test = (
-  λ e.
-      ⊎-elim
-      (λ t. (n, omega arith, t))
-      (λ t. let (p, l, u) = any-iff n test .0 t in (p, omega arith, u))
-      (or-either (test n) (anyBelow n test) e),
-  λ h.
-      let (p, l, u) = h in
-      split-at
-      p
-      n
-      (λ k. or-right (test n) (anyBelow n test) (any-iff n test .1 (p, k, u)))
-      (λ k. let same : n ≡ p = omega arith in or-left (test n) (anyBelow n test) (rw same u)),
-)
-
--- two tests that are true together are the same
-same-where : (a b : Bool) → (a ≡ true → b ≡ true) → (b ≡ true → a ≡ true) → a ≡ b
-same-where true b there back = sym (there refl)
-same-where false true there back = back refl
-same-where false false there back = refl
 
 module _ {gives : ℕ → ℕ → Bool} where
   -- nothing is gathered yet

@@ -1,6 +1,6 @@
 -- The pairs that share a byte, the rows that gain some of them, and the pairs that are led on: what the functions' proofs cite. Assumes nothing.
 use mathlib.Core.Path.{_≡_, refl, sym, ap, ap₂, _∙_}
-use mathlib.Core.Bool.{Bool, true, false, not, _&&_}
+use mathlib.Core.Bool.{Bool, true, false, not, _&&_, cond}
 use mathlib.Core.List.{List}
 use mathlib.Core.Logic.{_⊎_, inl, inr, ⊎-elim}
 use Prim.Native.Nat.{ℕ, _+_, _-_, _*_, _^_, _≤_, _<_, min}
@@ -12,12 +12,16 @@ use Rattle.laws.specs.Basics.{bool-cases, not-both, and-both, and-of, or-either
 use Rattle.positions.specs.declared.Set.{Set}
 use Rattle.positions.specs.Positions.{holds, Empty, Added, Removed, Less, Met, FirstFrom}
 use Rattle.positions.proofs.Bits.{holds-past}
+use Rattle.classes.specs.Classes.{anyBelow}
+use Rattle.classes.proofs.Anys.{split-at}
 use Rattle.automaton.specs.declared.Automaton.{Automaton}
-use Rattle.automaton.specs.Rows.{lowOf, highOf, followOf, shareIn, alikeIn}
+use Rattle.automaton.specs.Rows.{followOf, alikeIn}
+use Rattle.automaton.proofs.Standing.{alike-shares}
 use Rattle.pairs.specs.Pairs.{
   Gathered,
   byFollow,
   bySharing,
+  sameAsLast,
   rowOf,
   held,
   total,
@@ -40,27 +44,46 @@ use Rattle.pairs.specs.Pairs.{
   Blank,
   Filled,
 }
-use Rattle.pairs.proofs.Cells.{split-at, gathered-iff, sharing-iff, total-bound, case-row, setRow, row-set, row-beside}
+use Rattle.pairs.proofs.Cells.{gathered-iff, sharing-iff, total-bound, case-row, setRow, row-set, row-beside}
 
 -- ---- Shares
 
 -- a position with the same bytes as another shares a byte with the same positions
-pub shares-alike :
+shares-alike :
     (prepared : List ℕ) (row row′ start : ℕ) {count : ℕ} {r : Set}
     → alikeIn prepared row row′ ≡ true
     → Gathered count (bySharing prepared row start) r
     → Gathered count (bySharing prepared row′ start) r
-unfolding alikeIn shareIn
-shares-alike prepared row row′ start same gathered =
-    let (low, high) =
-    and-both (eqb (lowOf prepared row) (lowOf prepared row′)) (eqb (highOf prepared row) (highOf prepared row′)) same in
-    let low = eqb-true (lowOf prepared row) (lowOf prepared row′) low in
-    let high = eqb-true (highOf prepared row) (highOf prepared row′) high in
-    record { holds-is = λ q. rw (low, high) at (gathered .holds-is q) }
+shares-alike prepared row row′ start {count} same gathered =
+    record {
+      holds-is =
+          λ q.
+          gathered .holds-is q
+          ∙ ap (anyBelow count) (λ j p. alike-shares prepared row row′ (start + p) same j && eqb q p);
+    }
+
+-- one that has the same bytes as the one before it is not the first
+pub last-alike : (prepared : List ℕ) (start x : ℕ) → sameAsLast prepared start x ≡ true → (0 < x) × (alikeIn prepared (start + (x - 1)) (start + x) ≡ true)
+unfolding sameAsLast
+last-alike prepared start x e = go (eqb x 0) refl e
+  where
+    go : (b : Bool) → eqb x 0 ≡ b → cond b false (alikeIn prepared (start + (x - 1)) (start + x)) ≡ true → (0 < x) × (alikeIn prepared (start + (x - 1)) (start + x) ≡ true)
+    go true z f = absurd (not-both f refl)
+    go false z f = let some = eqb-false x 0 z in (omega arith, f)
 
 module _ {prepared : List ℕ} {start : ℕ} {b : Automaton} where
   pub shares-none : {cells : List ℕ} → length cells ≡ 256 → Shares prepared start b 0 cells
   shares-none size = record { size = size; row-is = λ x l. absurd (omega arith) }
+
+  -- a position with the same bytes as the one before it has its row
+  pub shares-last :
+      {x : ℕ} {cells : List ℕ}
+      → sameAsLast prepared start x ≡ true
+      → Shares prepared start b x cells
+      → Gathered (b .count) (bySharing prepared (start + x) (b .start)) (rowOf cells (x - 1))
+  shares-last {x} same s =
+      let (some, alike) = last-alike prepared start x same in
+      shares-alike prepared (start + (x - 1)) (start + x) (b .start) alike (s .row-is (x - 1) (omega arith))
 
   -- one row more
   pub shares-more :

@@ -1,23 +1,19 @@
 -- The pairs of positions of two automata that one text leads to. They stand in cells, two words of 64 bits for each position of the first: the set
 -- of those of the second.
 use mathlib.Core.Path.{_≡_}
-use mathlib.Core.Bool.{Bool, true, false, _&&_, _||_}
+use mathlib.Core.Bool.{Bool, true, false, _&&_, _||_, cond}
 use mathlib.Core.List.{List, [], _∷_}
 use mathlib.Core.Logic.{_⊎_}
-use Prim.Native.Nat.{ℕ, zero, suc, _+_, _*_, _≤_, _<_}
+use Prim.Native.Nat.{ℕ, _+_, _-_, _*_, _≤_, _<_}
 use lib.Dec.{eqb}
 use lib.ListN.{length}
 use Rattle.positions.specs.declared.Set.{Set}
 use Rattle.positions.specs.Positions.{holds, Empty}
+use Rattle.classes.specs.Classes.{anyBelow}
 use Rattle.automaton.specs.declared.Automaton.{Automaton}
-use Rattle.automaton.specs.Rows.{setAt, followOf, shareIn}
+use Rattle.automaton.specs.Rows.{setAt, followOf, shareIn, alikeIn}
 
 -- ---- Sets that are gathered position by position
-
--- whether the test is true of some number below n
-unfoldable pub anyBelow : ℕ → (ℕ → Bool) → Bool
-anyBelow zero test = false
-anyBelow (suc n) test = test n || anyBelow n test
 
 -- r holds the positions that one of 0 to n - 1 gives.
 pub record Gathered (n : ℕ) (gives : ℕ → ℕ → Bool) (r : Set) : Type 0 where
@@ -30,6 +26,10 @@ byFollow prepared start set p q = holds set p && holds (followOf prepared (start
 -- a position gives itself, if it shares a byte with that of a row
 abbrev pub bySharing : List ℕ → ℕ → ℕ → ℕ → ℕ → Bool
 bySharing prepared row start p q = shareIn prepared row (start + p) && eqb q p
+
+-- whether position x is told by the same number as the one before it; position 0 has none before it
+unfoldable pub sameAsLast : List ℕ → ℕ → ℕ → Bool
+sameAsLast prepared start x = let alike = alikeIn prepared (start + (x - 1)) (start + x) in cond (eqb x 0) false alike
 
 -- ---- Cells
 

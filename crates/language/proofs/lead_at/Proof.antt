@@ -12,7 +12,7 @@ add-row : tie.Need-add-row
 add-row c = search needs
 
 stands-requires : tie.Need-stands-requires
-stands-requires c κs = search needs
+stands-requires c κs = c .before .before .before .pre .0 .rows (c .before .before .before .args .p) (c .before .before .before .pre .1 .1 .0)
 
 returns : tie.Need-returns
 returns c = grown-not _ (c .before .before .before .before .before .args .set) (λ q g. not-both (g .stood .stands) (sym (c .before .stands .ensures) ∙ not-true _ (c .if1 .taken)))

@@ -13,7 +13,7 @@ add-row : tie.Need-add-row
 add-row c = search needs
 
 stands-requires : tie.Need-stands-requires
-stands-requires c κs = search needs
+stands-requires c κs = c .before .before .pre .0 .rows (c .before .before .args .p) (c .before .before .pre .1 .0)
 
 returns : tie.Need-returns
 returns c =

@@ -19,7 +19,7 @@ loop-holds : tie.Need-loop-holds Inv-loop μ-loop
 loop-holds c = (search needs, shares-none (c .before .before .pre .1))
 
 share-row-requires : tie.Need-share-row-requires Inv-loop μ-loop
-share-row-requires c κs = ((omega (arith, c .before .before .before .before .before .pre .0 .0 .few), omega (arith, c .before .before .before .before .before .pre .0 .0 .inside)), (c .before .before .before .before .before .pre .0 .1, c .before .before .loop .inv .1))
+share-row-requires c κs = ((omega (arith, c .before .before .before .before .before .pre .0 .0 .few), c .before .before .before .before .before .pre .0 .0 .rows (c .before .before .loop .x) (omega arith)), (c .before .before .before .before .before .pre .0 .1, c .before .before .loop .inv .1))
 
 mul-shares : tie.Need-mul-shares Inv-loop μ-loop
 mul-shares c = search needs

@@ -27,7 +27,7 @@ add-share : tie.Need-add-share Inv-loop μ-loop
 add-share c = search needs
 
 share-requires : tie.Need-share-requires Inv-loop μ-loop
-share-requires c κs = search needs
+share-requires c κs = (c .before .before .before .before .pre .0, c .before .before .before .before .pre .1 .rows (c .before .loop .p) (omega arith))
 
 with-if-requires : tie.Need-with-if-requires Inv-loop μ-loop
 with-if-requires c κs = search needs

@@ -1,5 +1,4 @@
 -- `classes::Class::meets` meets its contract: a byte of both stands in the lower halves or in the upper ones. Assumes nothing.
-use mathlib.Core.Path.{refl, sym, _∙_}
 use borrow.Author.Needs.{needs}
 use Rattle.laws.specs.Basics.{not-both}
 use Rattle.classes.proofs.Bytes.{shared-low, shared-high, shared-half}
