@@ -1,6 +1,6 @@
 -- What a node that keeps the rules shows: the tree of each kind, and the children that it is made of.
 use mathlib.Core.Path.{_≡_, refl, sym, ap, _∙_}
-use mathlib.Core.Bool.{Bool, true, false, true≢false}
+use mathlib.Core.Bool.{Bool, true, false, _&&_, true≢false}
 use mathlib.Core.Logic.{_⊎_, inl, inr}
 use mathlib.Core.Option.{Option, none, some, Option·some-injective, Option·none-ne-some}
 use Prim.Native.Nat.{ℕ, _+_, _*_, _<_}
@@ -10,15 +10,16 @@ use lib.Dec.{leb, ltb}
 use lib.ListN.{length, take}
 use borrow.Author.Tests.{ltb-true, ltb-false, leb-true}
 use Rattle.semantics.specs.Text.{Text, orElse, apply, apply₂}
-use Rattle.semantics.specs.Pattern.{Pattern, word, range, concat, alt, star}
+use Rattle.semantics.specs.Pattern.{Pattern, range, word, oneOf, concat, alt, star}
 use Rattle.semantics.specs.Lens.{Lens, const}
-use Rattle.semantics.specs.Table.{Node, at, two, nodeAt, nodeCount, sizesWrong, pool, Kind, Word, Range, PatternJoin, PatternUnion, PatternRepeat, Copy, Const, Key, LensJoin, LensUnion, LensRepeat, Match, Tree, pattern, lens, broken, Trees, patternOf, lensOf, wordOf, treeAt, patternAt, lensAt, wordAt, provided, build, treeOf, trees, kindOf, isBroken, maxWord}
+use Rattle.semantics.specs.Table.{Node, at, two, nodeAt, nodeCount, sizesWrong, pool, Kind, Word, Range, PatternJoin, PatternUnion, PatternRepeat, Set, Copy, Const, Key, LensJoin, LensUnion, LensRepeat, Match, Tree, pattern, lens, broken, Trees, patternOf, lensOf, wordOf, treeAt, patternAt, lensAt, wordAt, provided, runsOf, setPart, setKeeps, build, treeOf, trees, kindOf, isBroken, maxWord, maxRuns}
 use Rattle.laws.specs.Basics.{bool-cases, and-both}
 use Rattle.table.specs.declared.Kind as K
-use Rattle.table.specs.Prepared.{OnePattern, TwoPatterns, OneLens, TwoLenses, ConstParts, Shows}
+use Rattle.table.specs.Prepared.{OnePattern, TwoPatterns, OneLens, TwoLenses, ConstParts, RunsPart, Shows}
 use Rattle.table.specs.Rules.{decoded}
-use Rattle.laws.specs.RightSizes.{pool-is}
+use Rattle.laws.specs.RightSizes.{right-of, pool-is}
 use Rattle.table.proofs.Trees.{tree-is, lower-tree, no-tree}
+use Rattle.table.proofs.Runs.{runsAt, range-runs, pool-part}
 
 -- ---- What is not broken was made
 
@@ -59,7 +60,7 @@ lens-tree broken l e = absurd (Option·none-ne-some l e)
 word-tree : (t : Tree) (w : Text) → wordOf t ≡ some w → t ≡ pattern (word w)
 unfolding wordOf
 word-tree (pattern (word v)) w e = ap (λ u. pattern (word u)) (Option·some-injective v w e)
-word-tree (pattern (range f l)) w e = absurd (Option·none-ne-some w e)
+word-tree (pattern (oneOf c)) w e = absurd (Option·none-ne-some w e)
 word-tree (pattern (concat r s)) w e = absurd (Option·none-ne-some w e)
 word-tree (pattern (alt r s)) w e = absurd (Option·none-ne-some w e)
 word-tree (pattern (star r)) w e = absurd (Option·none-ne-some w e)
@@ -171,39 +172,82 @@ pub kind-tree : (bytes : Text) (ts : Trees) (n : Node) (κ : Kind) → kindOf (n
 unfolding treeOf orElse apply
 kind-tree bytes ts n κ e = rw e
 
+-- a range shows its operands, and a set a part of the pool
+range-shown :
+    (bytes : Text) (k a b : ℕ)
+    → sizesWrong bytes ≡ false
+    → k < nodeCount bytes
+    → a ≡ at bytes (3 + nodeCount bytes + 3 * k)
+    → b ≡ at bytes (3 + nodeCount bytes + 3 * k + 1)
+    → treeAt (trees bytes) k ≡ pattern (oneOf (range a b))
+    → RunsPart bytes k (3 + nodeCount bytes + 3 * k) 1
+unfolding runsAt
+range-shown bytes k a b s h p q e =
+    let sizes = right-of bytes s in
+    let place = 3 + nodeCount bytes + 3 * k in
+    record {
+      inside = omega arith;
+      tree-is = e ∙ (rw (p, q) (ap (λ c. pattern (oneOf c)) (sym (range-runs bytes place (omega arith)))));
+    }
+
+set-shown :
+    (bytes : Text) (k a b c : ℕ)
+    → sizesWrong bytes ≡ false
+    → setKeeps (pool bytes) a b c ≡ true
+    → treeAt (trees bytes) k ≡ pattern (oneOf (setPart (pool bytes) a b c))
+    → RunsPart bytes k (3 + 4 * nodeCount bytes + two a b) c
+unfolding setKeeps setPart
+set-shown bytes k a b c s r e =
+    let sizes = right-of bytes s in
+    let fits = and-both (leb 1 c && leb c maxRuns && leb (two a b + 2 * c) (length (pool bytes))) _ r in
+    let within = and-both (leb 1 c && leb c maxRuns) (leb (two a b + 2 * c) (length (pool bytes))) (fits .0) in
+    record {
+      inside = omega (arith, leb-true (two a b + 2 * c) (length (pool bytes)) (within .1), pool-is bytes s);
+      tree-is = e ∙ ap (λ t. pattern (oneOf (runsOf t))) (pool-part bytes (two a b) (2 * c));
+    }
+
 shows-row :
     (bytes : Text) (k : ℕ) (κ : Kind) (a b c : ℕ)
     → sizesWrong bytes ≡ false
+    → k < nodeCount bytes
+    → a ≡ at bytes (3 + nodeCount bytes + 3 * k)
+    → b ≡ at bytes (3 + nodeCount bytes + 3 * k + 1)
     → isBroken (treeAt (trees bytes) k) ≡ false
     → treeAt (trees bytes) k ≡ build (pool bytes) (take k (trees bytes)) κ a b c
-    → Shows bytes k (decoded κ a b c)
+    → Shows bytes k (decoded κ a b c (3 + nodeCount bytes + 3 * k) (3 + 4 * nodeCount bytes))
 unfolding Shows decoded build
-shows-row bytes k Word a b c s w e =
-    let h = kept (trees bytes) k w _ _ e in
-    let r = and-both (leb c maxWord) (leb (two a b + c) (length (pool bytes))) (h .1) in
+shows-row bytes k Word a b c s h p q w e =
+    let t = kept (trees bytes) k w _ _ e in
+    let r = and-both (leb c maxWord) (leb (two a b + c) (length (pool bytes))) (t .1) in
     record {
       inside = omega (arith, leb-true (two a b + c) (length (pool bytes)) (r .1), pool-is bytes s);
-      tree-is = h .3 ∙ sym (Option·some-injective _ _ (h .2));
+      tree-is = t .3 ∙ sym (Option·some-injective _ _ (t .2));
     }
-shows-row bytes k Range a b c s w e = let h = kept (trees bytes) k w _ _ e in h .3 ∙ sym (Option·some-injective _ _ (h .2))
-shows-row bytes k PatternJoin a b c s w e = two-patterns (trees bytes) k w a b _ _ e
-shows-row bytes k PatternUnion a b c s w e = two-patterns (trees bytes) k w a b _ _ e
-shows-row bytes k PatternRepeat a b c s w e = one-pattern (trees bytes) k w a _ _ e
-shows-row bytes k Copy a b c s w e = one-pattern (trees bytes) k w a _ _ e
-shows-row bytes k Const a b c s w e = const-parts (trees bytes) k w a b c _ e
-shows-row bytes k Key a b c s w e = one-pattern (trees bytes) k w a _ _ e
-shows-row bytes k LensJoin a b c s w e = two-lenses (trees bytes) k w a b _ _ e
-shows-row bytes k LensUnion a b c s w e = two-lenses (trees bytes) k w a b _ _ e
-shows-row bytes k LensRepeat a b c s w e = one-lens (trees bytes) k w a _ _ e
-shows-row bytes k Match a b c s w e = one-lens (trees bytes) k w a _ _ e
+shows-row bytes k Range a b c s h p q w e =
+    let t = kept (trees bytes) k w _ _ e in
+    range-shown bytes k a b s h p q (t .3 ∙ sym (Option·some-injective _ _ (t .2)))
+shows-row bytes k PatternJoin a b c s h p q w e = two-patterns (trees bytes) k w a b _ _ e
+shows-row bytes k PatternUnion a b c s h p q w e = two-patterns (trees bytes) k w a b _ _ e
+shows-row bytes k PatternRepeat a b c s h p q w e = one-pattern (trees bytes) k w a _ _ e
+shows-row bytes k Set a b c s h p q w e =
+    let t = kept (trees bytes) k w _ _ e in
+    set-shown bytes k a b c s (t .1) (t .3 ∙ sym (Option·some-injective _ _ (t .2)))
+shows-row bytes k Copy a b c s h p q w e = one-pattern (trees bytes) k w a _ _ e
+shows-row bytes k Const a b c s h p q w e = const-parts (trees bytes) k w a b c _ e
+shows-row bytes k Key a b c s h p q w e = one-pattern (trees bytes) k w a _ _ e
+shows-row bytes k LensJoin a b c s h p q w e = two-lenses (trees bytes) k w a b _ _ e
+shows-row bytes k LensUnion a b c s h p q w e = two-lenses (trees bytes) k w a b _ _ e
+shows-row bytes k LensRepeat a b c s h p q w e = one-lens (trees bytes) k w a _ _ e
+shows-row bytes k Match a b c s h p q w e = one-lens (trees bytes) k w a _ _ e
 
 -- What is known of a node that is not broken: its kind, and what the kind shows.
 pub record Decoded (bytes : Text) (k : ℕ) : Type 0 where
   pub kind-of-node : Kind
   pub byte-is : kindOf ((nodeAt bytes k) .kind) ≡ some kind-of-node
-  pub shows : Shows bytes k (decoded kind-of-node ((nodeAt bytes k) .a) ((nodeAt bytes k) .b) ((nodeAt bytes k) .c))
+  pub shows : Shows bytes k (decoded kind-of-node ((nodeAt bytes k) .a) ((nodeAt bytes k) .b) ((nodeAt bytes k) .c) (3 + nodeCount bytes + 3 * k) (3 + 4 * nodeCount bytes))
 
 pub decoded-node : (bytes : Text) (k : ℕ) → sizesWrong bytes ≡ false → k < nodeCount bytes → isBroken (treeAt (trees bytes) k) ≡ false → Decoded bytes k
+unfolding nodeAt
 decoded-node bytes k s h w =
     let n = nodeAt bytes k in
     let made = tree-is bytes k h in
@@ -211,7 +255,7 @@ decoded-node bytes k s h w =
     record {
       kind-of-node = κ .0;
       byte-is = κ .1;
-      shows = shows-row bytes k (κ .0) (n .a) (n .b) (n .c) s w (made ∙ kind-tree (pool bytes) (take k (trees bytes)) n (κ .0) (κ .1));
+      shows = shows-row bytes k (κ .0) (n .a) (n .b) (n .c) s h refl refl w (made ∙ kind-tree (pool bytes) (take k (trees bytes)) n (κ .0) (κ .1));
     }
 
 -- the operand record's first byte
@@ -221,11 +265,12 @@ first-operand bytes k = rw (add-zero (3 + nodeCount bytes + 3 * k))
 
 -- what the bytes of a node that keeps the rules show
 pub shown :
-    (bytes : Text) (k : ℕ) (d : Decoded bytes k) (a b c : ℕ) (κ : K.Kind)
+    (bytes : Text) (k : ℕ) (d : Decoded bytes k) (a b c n : ℕ) (κ : K.Kind)
     → a ≡ at bytes (3 + nodeCount bytes + 3 * k + 0)
     → b ≡ at bytes (3 + nodeCount bytes + 3 * k + 1)
     → c ≡ at bytes (3 + nodeCount bytes + 3 * k + 2)
-    → κ ≡ decoded (d .kind-of-node) a b c
+    → n ≡ nodeCount bytes
+    → κ ≡ decoded (d .kind-of-node) a b c (3 + n + 3 * k) (3 + 4 * n)
     → Shows bytes k κ
 unfolding nodeAt
-shown bytes k d a b c κ p q r e = rw (e, p, q, r, first-operand bytes k) (d .shows)
+shown bytes k d a b c n κ p q r m e = rw (e, p, q, r, m, first-operand bytes k) (d .shows)

@@ -9,17 +9,18 @@ use native.Mathlib.Omega.{arith}
 use lib.Dec.{eqb, ltb}
 use lib.ListN.{getElem?}
 use borrow.Author.Tests.{ltb-false, lt-ltb, le-ltb, eqb-true, eqb-false}
-use Rattle.semantics.specs.Table.{Kind, Word, Range, PatternJoin, PatternUnion, PatternRepeat, Copy, Const, Key, LensJoin, LensUnion, LensRepeat, Match, kindOf}
+use Rattle.semantics.specs.Table.{Kind, Word, Range, PatternJoin, PatternUnion, PatternRepeat, Set, Copy, Const, Key, LensJoin, LensUnion, LensRepeat, Match, kindOf}
 use Rattle.laws.specs.Basics.{bool-cases}
 use Rattle.table.specs.Rules.{there}
 
--- document 01's table of kinds
+-- document 01's table of kinds, and document 02's kind 5
 unfoldable pub numberOf : Kind → ℕ
 numberOf Word = 0
 numberOf Range = 1
 numberOf PatternJoin = 2
 numberOf PatternUnion = 3
 numberOf PatternRepeat = 4
+numberOf Set = 5
 numberOf Copy = 16
 numberOf Const = 17
 numberOf Key = 18
@@ -28,14 +29,15 @@ numberOf LensUnion = 20
 numberOf LensRepeat = 21
 numberOf Match = 22
 
-low : (n : ℕ) (κ : Kind) → getElem? (Word ∷ Range ∷ PatternJoin ∷ PatternUnion ∷ PatternRepeat ∷ []) n ≡ some κ → n ≡ numberOf κ
+low : (n : ℕ) (κ : Kind) → getElem? (Word ∷ Range ∷ PatternJoin ∷ PatternUnion ∷ PatternRepeat ∷ Set ∷ []) n ≡ some κ → n ≡ numberOf κ
 unfolding numberOf
 low zero κ e = ap numberOf (Option·some-injective Word κ e)
 low (suc zero) κ e = ap numberOf (Option·some-injective Range κ e)
 low (suc (suc zero)) κ e = ap numberOf (Option·some-injective PatternJoin κ e)
 low (suc (suc (suc zero))) κ e = ap numberOf (Option·some-injective PatternUnion κ e)
 low (suc (suc (suc (suc zero)))) κ e = ap numberOf (Option·some-injective PatternRepeat κ e)
-low (suc (suc (suc (suc (suc n))))) κ e = absurd (Option·none-ne-some κ e)
+low (suc (suc (suc (suc (suc zero))))) κ e = ap numberOf (Option·some-injective Set κ e)
+low (suc (suc (suc (suc (suc (suc n)))))) κ e = absurd (Option·none-ne-some κ e)
 
 high : (n : ℕ) (κ : Kind) → getElem? (Copy ∷ Const ∷ Key ∷ LensJoin ∷ LensUnion ∷ LensRepeat ∷ Match ∷ []) n ≡ some κ → 16 + n ≡ numberOf κ
 unfolding numberOf
@@ -56,7 +58,7 @@ kind-number n κ = go (ltb n 16) refl
     go :
         (b : Bool)
         → ltb n 16 ≡ b
-        → cond b (getElem? (Word ∷ Range ∷ PatternJoin ∷ PatternUnion ∷ PatternRepeat ∷ []) n) (getElem? (Copy ∷ Const ∷ Key ∷ LensJoin ∷ LensUnion ∷ LensRepeat ∷ Match ∷ []) (n - 16)) ≡ some κ
+        → cond b (getElem? (Word ∷ Range ∷ PatternJoin ∷ PatternUnion ∷ PatternRepeat ∷ Set ∷ []) n) (getElem? (Copy ∷ Const ∷ Key ∷ LensJoin ∷ LensUnion ∷ LensRepeat ∷ Match ∷ []) (n - 16)) ≡ some κ
         → n ≡ numberOf κ
     go true p e = low n κ e
     go false p e = let h = high (n - 16) κ e in omega (arith, ltb-false n 16 p)
@@ -70,6 +72,7 @@ pub only-match :
     → (n ≡ 2 → ⊥)
     → (n ≡ 3 → ⊥)
     → (n ≡ 4 → ⊥)
+    → (n ≡ 5 → ⊥)
     → (n ≡ 16 → ⊥)
     → (n ≡ 17 → ⊥)
     → (n ≡ 18 → ⊥)
@@ -78,41 +81,44 @@ pub only-match :
     → (n ≡ 21 → ⊥)
     → κ ≡ Match
 unfolding numberOf
-only-match n Word e h0 h1 h2 h3 h4 h16 h17 h18 h19 h20 h21 = absurd (h0 e)
-only-match n Range e h0 h1 h2 h3 h4 h16 h17 h18 h19 h20 h21 = absurd (h1 e)
-only-match n PatternJoin e h0 h1 h2 h3 h4 h16 h17 h18 h19 h20 h21 = absurd (h2 e)
-only-match n PatternUnion e h0 h1 h2 h3 h4 h16 h17 h18 h19 h20 h21 = absurd (h3 e)
-only-match n PatternRepeat e h0 h1 h2 h3 h4 h16 h17 h18 h19 h20 h21 = absurd (h4 e)
-only-match n Copy e h0 h1 h2 h3 h4 h16 h17 h18 h19 h20 h21 = absurd (h16 e)
-only-match n Const e h0 h1 h2 h3 h4 h16 h17 h18 h19 h20 h21 = absurd (h17 e)
-only-match n Key e h0 h1 h2 h3 h4 h16 h17 h18 h19 h20 h21 = absurd (h18 e)
-only-match n LensJoin e h0 h1 h2 h3 h4 h16 h17 h18 h19 h20 h21 = absurd (h19 e)
-only-match n LensUnion e h0 h1 h2 h3 h4 h16 h17 h18 h19 h20 h21 = absurd (h20 e)
-only-match n LensRepeat e h0 h1 h2 h3 h4 h16 h17 h18 h19 h20 h21 = absurd (h21 e)
-only-match n Match e h0 h1 h2 h3 h4 h16 h17 h18 h19 h20 h21 = refl
+only-match n Word e h0 h1 h2 h3 h4 h5 h16 h17 h18 h19 h20 h21 = absurd (h0 e)
+only-match n Range e h0 h1 h2 h3 h4 h5 h16 h17 h18 h19 h20 h21 = absurd (h1 e)
+only-match n PatternJoin e h0 h1 h2 h3 h4 h5 h16 h17 h18 h19 h20 h21 = absurd (h2 e)
+only-match n PatternUnion e h0 h1 h2 h3 h4 h5 h16 h17 h18 h19 h20 h21 = absurd (h3 e)
+only-match n PatternRepeat e h0 h1 h2 h3 h4 h5 h16 h17 h18 h19 h20 h21 = absurd (h4 e)
+only-match n Set e h0 h1 h2 h3 h4 h5 h16 h17 h18 h19 h20 h21 = absurd (h5 e)
+only-match n Copy e h0 h1 h2 h3 h4 h5 h16 h17 h18 h19 h20 h21 = absurd (h16 e)
+only-match n Const e h0 h1 h2 h3 h4 h5 h16 h17 h18 h19 h20 h21 = absurd (h17 e)
+only-match n Key e h0 h1 h2 h3 h4 h5 h16 h17 h18 h19 h20 h21 = absurd (h18 e)
+only-match n LensJoin e h0 h1 h2 h3 h4 h5 h16 h17 h18 h19 h20 h21 = absurd (h19 e)
+only-match n LensUnion e h0 h1 h2 h3 h4 h5 h16 h17 h18 h19 h20 h21 = absurd (h20 e)
+only-match n LensRepeat e h0 h1 h2 h3 h4 h5 h16 h17 h18 h19 h20 h21 = absurd (h21 e)
+only-match n Match e h0 h1 h2 h3 h4 h5 h16 h17 h18 h19 h20 h21 = refl
 
 -- ---- Which numbers are known
 
-pub low-known : (n : ℕ) → n < 5 → there (kindOf n) ≡ true
+pub low-known : (n : ℕ) → n < 6 → there (kindOf n) ≡ true
 unfolding kindOf there
 low-known zero h = refl
 low-known (suc zero) h = refl
 low-known (suc (suc zero)) h = refl
 low-known (suc (suc (suc zero))) h = refl
 low-known (suc (suc (suc (suc zero)))) h = refl
-low-known (suc (suc (suc (suc (suc n))))) h = absurd (omega arith)
+low-known (suc (suc (suc (suc (suc zero))))) h = refl
+low-known (suc (suc (suc (suc (suc (suc n)))))) h = absurd (omega arith)
 
-pub between-unknown : (n : ℕ) → 5 ≤ n → n < 16 → there (kindOf n) ≡ false
+pub between-unknown : (n : ℕ) → 6 ≤ n → n < 16 → there (kindOf n) ≡ false
 unfolding kindOf there
 between-unknown n h l = rw (lt-ltb n 16 l) (go n h)
   where
-    go : (m : ℕ) → 5 ≤ m → there (getElem? (Word ∷ Range ∷ PatternJoin ∷ PatternUnion ∷ PatternRepeat ∷ []) m) ≡ false
+    go : (m : ℕ) → 6 ≤ m → there (getElem? (Word ∷ Range ∷ PatternJoin ∷ PatternUnion ∷ PatternRepeat ∷ Set ∷ []) m) ≡ false
     go zero h = absurd (omega arith)
     go (suc zero) h = absurd (omega arith)
     go (suc (suc zero)) h = absurd (omega arith)
     go (suc (suc (suc zero))) h = absurd (omega arith)
     go (suc (suc (suc (suc zero)))) h = absurd (omega arith)
-    go (suc (suc (suc (suc (suc m))))) h = refl
+    go (suc (suc (suc (suc (suc zero))))) h = absurd (omega arith)
+    go (suc (suc (suc (suc (suc (suc m)))))) h = refl
 
 pub high-known : (n : ℕ) → 16 ≤ n → there (kindOf n) ≡ ltb n 23
 unfolding kindOf there

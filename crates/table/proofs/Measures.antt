@@ -18,7 +18,7 @@ use Rattle.semantics.specs.Table.{poolLength, sizesWrong, pool, Tree, Trees, pa
 use Rattle.semantics.specs.Table as S
 use Rattle.laws.specs.Basics.{or-neither}
 use Rattle.table.specs.declared.Kind.{Kind}
-use Rattle.table.specs.declared.Kind.the-variants.{Word, Range, PatternJoin, PatternUnion, PatternRepeat, Copy, Const, Key, LensJoin, LensUnion, LensRepeat, Match}
+use Rattle.table.specs.declared.Kind.the-variants.{Word, OneOf, PatternJoin, PatternUnion, PatternRepeat, Copy, Const, Key, LensJoin, LensUnion, LensRepeat, Match}
 use Rattle.table.specs.declared.Node.{Node}
 use Rattle.table.specs.Prepared.{NodeSized, OnePattern, TwoPatterns, OneLens, TwoLenses, Shows, matchFlag}
 use Rattle.table.specs.Rules.{SizedBelow, Small, Numbers, OverOne, OverTwo, OverConst, OverMatch, NodeRead, Stored, decoded, treeHolds, wordOf, flag}
@@ -135,7 +135,7 @@ word-positions bytes start len e h = sym (length-take-le len (drop start (pool b
 -- the numbers that a kind asks for
 abbrev pub Worked : List ℕ → Node → Kind → Type 0
 Worked p r (Word start len) = Numbers r (Word start len) 1 len len false
-Worked p r (Range first last) = Numbers r (Range first last) 1 1 1 false
+Worked p r (OneOf at runs) = Numbers r (OneOf at runs) 1 1 1 false
 Worked p r (PatternJoin a b) = OverTwo p a b (PatternJoin a b) r
 Worked p r (PatternUnion a b) = OverTwo p a b (PatternUnion a b) r
 Worked p r (PatternRepeat a) = OverOne p a (PatternRepeat a) r
@@ -204,7 +204,7 @@ module _ (bytes : Text) (k : ℕ) (p : List ℕ) (ready : SizedBelow bytes k p) 
   pub worked : (κ : Kind) → Shows bytes k κ → Worked p r κ → NodeRead bytes k r
   unfolding Shows treeSize patternSize lensSize treePositions positions language constLanguage treeHolds holdsMatch
   worked (Word start len) s n = at-once (Word start len) _ _ _ _ _ s (s .tree-is) refl (word-positions bytes start len (ready .sized .sizes-right) (s .inside)) (word-positions bytes start len (ready .sized .sizes-right) (s .inside)) refl n
-  worked (Range first last) s n = at-once (Range first last) _ _ _ _ _ s s refl refl refl refl n
+  worked (OneOf at runs) s n = at-once (OneOf at runs) _ _ _ _ _ s (s .tree-is) refl refl refl refl n
   worked (PatternJoin a b) s n = over-two (PatternJoin a b) a b (s .left-lower) (s .right-lower) s (two-of-patterns (trees bytes) k a b _ s (λ l m. record { size-is = refl; side-is = λ side. refl; holds-is = refl })) n
   worked (PatternUnion a b) s n = over-two (PatternUnion a b) a b (s .left-lower) (s .right-lower) s (two-of-patterns (trees bytes) k a b _ s (λ l m. record { size-is = refl; side-is = λ side. refl; holds-is = refl })) n
   worked (PatternRepeat a) s n = over-one (PatternRepeat a) a (s .lower) s (one-of-pattern (trees bytes) k a _ s (λ l. record { size-is = refl; side-is = λ side. refl; holds-is = refl })) n
@@ -283,7 +283,7 @@ stored p k r h =
 
 abbrev pub Smalls : List ℕ → Kind → Type 0
 Smalls p (Word start len) = Unit {0}
-Smalls p (Range first last) = Unit {0}
+Smalls p (OneOf at runs) = Unit {0}
 Smalls p (PatternJoin a b) = Small p a × Small p b
 Smalls p (PatternUnion a b) = Small p a × Small p b
 Smalls p (PatternRepeat a) = Small p a
@@ -299,7 +299,7 @@ module _ (bytes : Text) (k : ℕ) (p : List ℕ) (ready : SizedBelow bytes k p) 
   pub smalls : (κ : Kind) → Shows bytes k κ → Smalls p κ
   unfolding Shows
   smalls (Word start len) s = tt
-  smalls (Range first last) s = tt
+  smalls (OneOf at runs) s = tt
   smalls (PatternJoin a b) s = (child-small bytes k p ready a (s .left-lower), child-small bytes k p ready b (s .right-lower))
   smalls (PatternUnion a b) s = (child-small bytes k p ready a (s .left-lower), child-small bytes k p ready b (s .right-lower))
   smalls (PatternRepeat a) s = child-small bytes k p ready a (s .lower)

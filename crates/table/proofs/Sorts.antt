@@ -7,7 +7,7 @@ use native.Mathlib.Omega.{arith}
 use lib.Dec.{eqb, leb, ltb}
 use lib.ListN.{take}
 use Rattle.semantics.specs.Text.{Text}
-use Rattle.semantics.specs.Table.{nodeAt, Kind, Word, Range, PatternJoin, PatternUnion, PatternRepeat, Copy, Const, Key, LensJoin, LensUnion, LensRepeat, Match, Tree, Trees, patternOf, lensOf, wordOf, patternAt, lensAt, wordAt, treeAt, trees, nested, nestedMatch, kindOf}
+use Rattle.semantics.specs.Table.{nodeAt, Kind, Word, Range, PatternJoin, PatternUnion, PatternRepeat, Set, Copy, Const, Key, LensJoin, LensUnion, LensRepeat, Match, Tree, Trees, patternOf, lensOf, wordOf, patternAt, lensAt, wordAt, treeAt, trees, nested, nestedMatch, kindOf}
 use Rattle.table.specs.declared.Sort.{Sort}
 use Rattle.table.specs.declared.Sort.the-variants.{Patterns, Lenses}
 use Rattle.table.specs.Prepared.{Shows}
@@ -26,23 +26,24 @@ pub record Told (t : Tree) (n : ℕ) : Type 0 where
 told-by : {t u : Tree} {n m : ℕ} → t ≡ u → n ≡ m → Told u m → Told t n
 told-by e p h = rw (e, p) h
 
-told-row : (bytes : Text) (k n : ℕ) (κ : Kind) (a b c : ℕ) → n ≡ numberOf κ → Shows bytes k (decoded κ a b c) → Told (treeAt (trees bytes) k) n
+told-row : (bytes : Text) (k n : ℕ) (κ : Kind) (a b c at pool-at : ℕ) → n ≡ numberOf κ → Shows bytes k (decoded κ a b c at pool-at) → Told (treeAt (trees bytes) k) n
 unfolding Shows decoded numberOf there patternOf lensOf wordOf nested nestedMatch
-told-row bytes k n Word a b c p s = told-by (s .tree-is) p (record { pattern-byte = refl; lens-byte = refl; word-byte = refl; match-byte = λ h. refl })
-told-row bytes k n Range a b c p s = told-by s p (record { pattern-byte = refl; lens-byte = refl; word-byte = refl; match-byte = λ h. refl })
-told-row bytes k n PatternJoin a b c p s = told-by (s .tree-is) p (record { pattern-byte = refl; lens-byte = refl; word-byte = refl; match-byte = λ h. refl })
-told-row bytes k n PatternUnion a b c p s = told-by (s .tree-is) p (record { pattern-byte = refl; lens-byte = refl; word-byte = refl; match-byte = λ h. refl })
-told-row bytes k n PatternRepeat a b c p s = told-by (s .tree-is) p (record { pattern-byte = refl; lens-byte = refl; word-byte = refl; match-byte = λ h. refl })
-told-row bytes k n Copy a b c p s = told-by (s .tree-is) p (record { pattern-byte = refl; lens-byte = refl; word-byte = refl; match-byte = λ h. refl })
-told-row bytes k n Const a b c p s = told-by (s .tree-is) p (record { pattern-byte = refl; lens-byte = refl; word-byte = refl; match-byte = λ h. refl })
-told-row bytes k n Key a b c p s = told-by (s .tree-is) p (record { pattern-byte = refl; lens-byte = refl; word-byte = refl; match-byte = λ h. refl })
-told-row bytes k n LensJoin a b c p s = told-by (s .tree-is) p (record { pattern-byte = refl; lens-byte = refl; word-byte = refl; match-byte = λ h. refl })
-told-row bytes k n LensUnion a b c p s = told-by (s .tree-is) p (record { pattern-byte = refl; lens-byte = refl; word-byte = refl; match-byte = λ h. refl })
-told-row bytes k n LensRepeat a b c p s = told-by (s .tree-is) p (record { pattern-byte = refl; lens-byte = refl; word-byte = refl; match-byte = λ h. refl })
-told-row bytes k n Match a b c p s = told-by (s .tree-is) p (record { pattern-byte = refl; lens-byte = refl; word-byte = refl; match-byte = λ h. absurd (h refl) })
+told-row bytes k n Word a b c at pool-at p s = told-by (s .tree-is) p (record { pattern-byte = refl; lens-byte = refl; word-byte = refl; match-byte = λ h. refl })
+told-row bytes k n Range a b c at pool-at p s = told-by (s .tree-is) p (record { pattern-byte = refl; lens-byte = refl; word-byte = refl; match-byte = λ h. refl })
+told-row bytes k n PatternJoin a b c at pool-at p s = told-by (s .tree-is) p (record { pattern-byte = refl; lens-byte = refl; word-byte = refl; match-byte = λ h. refl })
+told-row bytes k n PatternUnion a b c at pool-at p s = told-by (s .tree-is) p (record { pattern-byte = refl; lens-byte = refl; word-byte = refl; match-byte = λ h. refl })
+told-row bytes k n PatternRepeat a b c at pool-at p s = told-by (s .tree-is) p (record { pattern-byte = refl; lens-byte = refl; word-byte = refl; match-byte = λ h. refl })
+told-row bytes k n Set a b c at pool-at p s = told-by (s .tree-is) p (record { pattern-byte = refl; lens-byte = refl; word-byte = refl; match-byte = λ h. refl })
+told-row bytes k n Copy a b c at pool-at p s = told-by (s .tree-is) p (record { pattern-byte = refl; lens-byte = refl; word-byte = refl; match-byte = λ h. refl })
+told-row bytes k n Const a b c at pool-at p s = told-by (s .tree-is) p (record { pattern-byte = refl; lens-byte = refl; word-byte = refl; match-byte = λ h. refl })
+told-row bytes k n Key a b c at pool-at p s = told-by (s .tree-is) p (record { pattern-byte = refl; lens-byte = refl; word-byte = refl; match-byte = λ h. refl })
+told-row bytes k n LensJoin a b c at pool-at p s = told-by (s .tree-is) p (record { pattern-byte = refl; lens-byte = refl; word-byte = refl; match-byte = λ h. refl })
+told-row bytes k n LensUnion a b c at pool-at p s = told-by (s .tree-is) p (record { pattern-byte = refl; lens-byte = refl; word-byte = refl; match-byte = λ h. refl })
+told-row bytes k n LensRepeat a b c at pool-at p s = told-by (s .tree-is) p (record { pattern-byte = refl; lens-byte = refl; word-byte = refl; match-byte = λ h. refl })
+told-row bytes k n Match a b c at pool-at p s = told-by (s .tree-is) p (record { pattern-byte = refl; lens-byte = refl; word-byte = refl; match-byte = λ h. absurd (h refl) })
 
 pub told : (bytes : Text) (k : ℕ) → Decoded bytes k → Told (treeAt (trees bytes) k) ((nodeAt bytes k) .kind)
-told bytes k d = let n = nodeAt bytes k in told-row bytes k (n .kind) (d .kind-of-node) (n .a) (n .b) (n .c) (kind-number (n .kind) (d .kind-of-node) (d .byte-is)) (d .shows)
+told bytes k d = let n = nodeAt bytes k in told-row bytes k (n .kind) (d .kind-of-node) (n .a) (n .b) (n .c) _ _ (kind-number (n .kind) (d .kind-of-node) (d .byte-is)) (d .shows)
 
 -- a number that is not lower is no child
 pub no-sort : (sort : Sort) (ts : Trees) (k a : ℕ) → k ≤ a → sortAt sort (take k ts) a ≡ false

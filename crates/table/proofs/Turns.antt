@@ -12,7 +12,7 @@ use borrow.Author.Tests.{ltb-true, ltb-false}
 use Rattle.semantics.specs.Text.{Text, orElse, apply, apply₂}
 use Rattle.semantics.specs.Pattern.{Pattern}
 use Rattle.semantics.specs.Lens.{Lens, const}
-use Rattle.semantics.specs.Table.{Node, at, nodeAt, nodeCount, pool, sizesWrong, Kind, Word, Range, PatternJoin, PatternUnion, PatternRepeat, Copy, Const, Key, LensJoin, LensUnion, LensRepeat, Match, kindOf, Tree, Trees, pattern, lens, broken, patternAt, lensAt, wordAt, provided, build, treeAt, treeOf, trees, isBroken, nested, overLimit, unknownKind}
+use Rattle.semantics.specs.Table.{Node, at, nodeAt, nodeCount, pool, sizesWrong, Kind, Word, Range, PatternJoin, PatternUnion, PatternRepeat, Set, Copy, Const, Key, LensJoin, LensUnion, LensRepeat, Match, kindOf, Tree, Trees, pattern, lens, broken, patternAt, lensAt, wordAt, provided, build, treeAt, treeOf, trees, isBroken, nested, overLimit, unknownKind}
 use Rattle.table.specs.declared.Node as N
 use Rattle.table.specs.Prepared.{NodeSized, Sized}
 use Rattle.table.specs.Rules.{NodeRead, Stored, Turned, there, sortAt, wordThere, wordFits, rangeOrdered, oneChild, twoChildren, constParts, keepsRules, nodeFault, overLimits, flag}
@@ -74,6 +74,7 @@ row-kept bytes ts Range a b c e = leaf-row _ _
 row-kept bytes ts PatternJoin a b c e = two-row _ _ (patternAt ts a) (patternAt ts b) (λ r s. refl)
 row-kept bytes ts PatternUnion a b c e = two-row _ _ (patternAt ts a) (patternAt ts b) (λ r s. refl)
 row-kept bytes ts PatternRepeat a b c e = one-row _ _ (patternAt ts a) (λ r. refl)
+row-kept bytes ts Set a b c e = leaf-row _ _
 row-kept bytes ts Copy a b c e = one-row _ _ (patternAt ts a) (λ r. refl)
 row-kept bytes ts Const a b c e = const-row (patternAt ts a) (wordAt ts b) (wordAt ts c)
 row-kept bytes ts Key a b c e = one-row _ _ (patternAt ts a) (λ r. refl)
