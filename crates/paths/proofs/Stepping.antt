@@ -1,5 +1,5 @@
 -- The path of a text, step by step: what the loops forward cite. Assumes nothing.
-use mathlib.Core.Path.{_≡_, sym, ap, subst, _∙_}
+use mathlib.Core.Path.{_≡_, refl, sym, ap, subst, _∙_}
 use mathlib.Core.Bool.{Bool, true, false}
 use mathlib.Core.List.{List, [], _∷_, _++_, append-nil, append-assoc}
 use mathlib.Core.Logic.{_↔_, Iff·trans, ⊎-elim}
@@ -18,10 +18,11 @@ use Rattle.laws.specs.Membership.{matches-in, in-matches, in-nullable, nullable
 use Rattle.laws.specs.PositionAutomaton.{standsAt, firstAt, lastAt, followAt, restAt, ReadsAt, first-law, follow-law, last-law}
 use Rattle.laws.specs.Paths.{LeastStep}
 use Rattle.positions.specs.declared.Set.{Set}
-use Rattle.positions.specs.Positions.{holds, Met, FirstFrom}
+use Rattle.positions.specs.Positions.{holds, Removed, Met, FirstFrom}
 use Rattle.automaton.specs.declared.Automaton.{Automaton}
-use Rattle.automaton.specs.Rows.{Room, Describes}
+use Rattle.automaton.specs.Rows.{standsIn, Room, Describes}
 use Rattle.language.specs.Runs.{Behind}
+use Rattle.language.proofs.Gathering.{LeftFrom, left-begins, left-first, left-next, left-on}
 use Rattle.language.proofs.Steps.{stands-is, counted}
 use Rattle.paths.specs.declared.Walk.{Walk}
 use Rattle.paths.specs.Walking.{Reads, Lowest, Alone, Past, ReadsOn, Walked, PathFound}
@@ -141,42 +142,97 @@ module _ {prepared : List ℕ} {a : Automaton} {text path : List ℕ} where
 
 -- ---- The positions of a set, one after the other
 
--- Where none before n reads the byte, nor n, none before the next position does.
-pub passed-on :
-    {prepared : List ℕ} {a : Automaton} {due : Set} {byte from n p : ℕ}
-    → ((q : ℕ) → from ≤ q → q < n → Reads prepared a due byte q → ⊥)
-    → (Reads prepared a due byte n → ⊥)
-    → FirstFrom due (n + 1) p
-    → (q : ℕ) → from ≤ q → q < p → Reads prepared a due byte q → ⊥
-passed-on {prepared} {a} {due} {byte} {n = n} before here next q l h reads =
-    ⊎-elim
-    (λ e. before q l (ltb-true q n e) reads)
-    (λ e.
-    let k = ltb-false q n e in
-    ⊎-elim
-    (λ z. here (subst (Reads prepared a due byte) (eqb-true q n z) reads))
-    (λ z. let ne = eqb-false q n z in not-both (reads .held) (next .skipped q (omega arith) h))
-    (bool-cases (eqb q n)))
-    (bool-cases (ltb q n))
+-- The place is a position of the set or past all, and what is left are the positions from it on.
+pub record NextOf (due : Set) (p : ℕ) (left : Set) : Type 0 where
+  pub at-one : p < 128 → holds due p ≡ true
+  pub left-from : LeftFrom due p left
 
--- The lowest is alone where there is none behind it.
-pub alone-lowest :
-    {prepared : List ℕ} {a : Automaton} {due : Set} {byte p n : ℕ} → a .count ≤ 128 → Lowest prepared a due byte 0 p → Lowest prepared a due byte (p + 1) n → 128 ≤ n
-    → Alone prepared a due byte p
-alone-lowest {p = p} {n = n} few first second none =
-    record {
-      reads = first .reads;
-      no-other = λ l q reads.
-          ⊎-elim
-          (λ e. absurd (first .none-lower q (omega arith) (ltb-true q p e) reads))
-          (λ e.
-          let k = ltb-false q p e in
-          ⊎-elim
-          (λ z. eqb-true q p z)
-          (λ z. let ne = eqb-false q p z in absurd (second .none-lower q (omega arith) (omega (arith, reads .inside)) reads))
-          (bool-cases (eqb q p)))
-          (bool-cases (ltb q p));
-    }
+pub next-begins : {due : Set} {p : ℕ} → FirstFrom due 0 p → NextOf due p due
+next-begins first = record { at-one = first .held; left-from = left-begins first }
+
+-- The first of what is left goes: then comes the next position of the set.
+module _ {due left : Set} {n : ℕ} (known : NextOf due n left) (below : n < 128) {rest : Set} {p : ℕ} (less : (k : ℕ) → FirstFrom left 0 k → Removed left k rest) (first : FirstFrom rest 0 p) where
+  removed : Removed left n rest
+  removed = less n (left-first (known .left-from) below (known .at-one below))
+
+  pub next-first : FirstFrom due (n + 1) p
+  next-first = left-next (known .left-from) below (known .at-one below) removed first
+
+  pub next-on : NextOf due p rest
+  next-on = record { at-one = next-first .held; left-from = left-on (known .left-from) below (known .at-one below) removed first }
+
+-- None of the positions before p reads the byte.
+pub record NoneBefore (prepared : List ℕ) (a : Automaton) (due : Set) (byte p : ℕ) : Type 0 where
+  pub none : (q : ℕ) → q < p → Reads prepared a due byte q → ⊥
+
+-- Of the positions before p the one that was found reads the byte, and no other; if none was found, none does.
+pub record OneBefore (prepared : List ℕ) (a : Automaton) (due : Set) (byte p found : ℕ) : Type 0 where
+  pub reads : found < 128 → Reads prepared a due byte found
+  pub no-other : (q : ℕ) → q < p → Reads prepared a due byte q → q ≡ found
+
+module _ {prepared : List ℕ} {a : Automaton} {due : Set} {byte : ℕ} where
+  -- What is true of each position before n that reads the byte, and of n if it does, is true of each before the next position.
+  passed-on :
+      (P : ℕ → Type 0) {n p : ℕ}
+      → ((q : ℕ) → q < n → Reads prepared a due byte q → P q)
+      → (Reads prepared a due byte n → P n)
+      → FirstFrom due (n + 1) p
+      → (q : ℕ) → q < p → Reads prepared a due byte q → P q
+  passed-on P {n} before here next q h reads =
+      ⊎-elim
+      (λ e. before q (ltb-true q n e) reads)
+      (λ e.
+      let k = ltb-false q n e in
+      ⊎-elim
+      (λ z. let same = eqb-true q n z in subst P (sym same) (here (subst (Reads prepared a due byte) same reads)))
+      (λ z. let ne = eqb-false q n z in absurd (not-both (reads .held) (next .skipped q (omega arith) h)))
+      (bool-cases (eqb q n)))
+      (bool-cases (ltb q n))
+
+  -- Before the first position of a set there is none.
+  pub none-begins : {p : ℕ} → FirstFrom due 0 p → NoneBefore prepared a due byte p
+  none-begins first = record { none = λ q h reads. not-both (reads .held) (first .skipped q (omega arith) h) }
+
+  pub one-begins : {p : ℕ} → FirstFrom due 0 p → OneBefore prepared a due byte p 128
+  one-begins first =
+      record { reads = λ l. absurd (omega arith); no-other = λ q h reads. absurd (none-begins first .none q h reads) }
+
+  -- A position at which the byte may not stand is passed.
+  module _ {n p : ℕ} (not-here : standsIn prepared (a .start + n) byte ≡ false) (next : FirstFrom due (n + 1) p) where
+    pub none-on : NoneBefore prepared a due byte n → NoneBefore prepared a due byte p
+    none-on before =
+        record { none = passed-on (λ q. ⊥) (before .none) (λ reads. not-both (reads .stands) not-here) next }
+
+    pub one-kept : {found : ℕ} → OneBefore prepared a due byte n found → OneBefore prepared a due byte p found
+    one-kept {found} before =
+        record {
+          reads = before .reads;
+          no-other = passed-on (λ q. q ≡ found) (before .no-other) (λ reads. absurd (not-both (reads .stands) not-here)) next;
+        }
+
+  -- The first at which it may stand is found.
+  pub one-found :
+      {n p found : ℕ}
+      → a .count ≤ 128
+      → 128 ≤ found
+      → Reads prepared a due byte n
+      → FirstFrom due (n + 1) p
+      → OneBefore prepared a due byte n found
+      → OneBefore prepared a due byte p n
+  one-found {n} few none-yet here next before =
+      record {
+        reads = λ l. here;
+        no-other = passed-on (λ q. q ≡ n) (λ q h reads. absurd (omega (arith, before .no-other q h reads, reads .inside))) (λ reads. refl) next;
+      }
+
+  -- Past all positions, what was found is the answer.
+  pub none-lowest : {p : ℕ} → a .count ≤ p → NoneBefore prepared a due byte p → Lowest prepared a due byte 128
+  none-lowest past before =
+      record { reads = λ l. absurd (omega arith); none-lower = λ q h reads. before .none q (omega (arith, reads .inside)) reads }
+
+  pub one-alone : {p found : ℕ} → a .count ≤ p → OneBefore prepared a due byte p found → Alone prepared a due byte found
+  one-alone past before =
+      record { reads = before .reads; no-other = λ l q reads. before .no-other q (omega (arith, reads .inside)) reads }
 
 -- ---- Which position a step takes
 

@@ -25,10 +25,10 @@ pub record Reads (prepared : List ℕ) (a : Automaton) (due : Set) (byte p : ℕ
   pub held : holds due p ≡ true
   pub stands : standsIn prepared (a .start + p) byte ≡ true
 
--- p is the lowest such position from `from` on; where there is none, p is 128.
-pub record Lowest (prepared : List ℕ) (a : Automaton) (due : Set) (byte from p : ℕ) : Type 0 where
+-- p is the lowest such position; where there is none, p is 128.
+pub record Lowest (prepared : List ℕ) (a : Automaton) (due : Set) (byte p : ℕ) : Type 0 where
   pub reads : p < 128 → Reads prepared a due byte p
-  pub none-lower : (q : ℕ) → from ≤ q → q < p → Reads prepared a due byte q → ⊥
+  pub none-lower : (q : ℕ) → q < p → Reads prepared a due byte q → ⊥
 
 -- p is the only such position; where there is none, or are several, p is 128.
 pub record Alone (prepared : List ℕ) (a : Automaton) (due : Set) (byte p : ℕ) : Type 0 where

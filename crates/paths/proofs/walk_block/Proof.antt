@@ -40,7 +40,7 @@ same-length : tie.Need-same-length Inv-loop μ-loop
 same-length c = search needs
 
 returns : tie.Need-returns Inv-loop μ-loop
-returns c = record { to-end = c .before .before .before .before .before .before .before .before .loop .inv .2; walked = λ e. absurd (omega (arith, c .before .before .before .before .before .before .if1 .taken)); stuck = λ ne r d. walked-stuck (c .before .before .before .before .before .before .before .before .loop .inv .3) (omega (arith, c .before .before .before .before .before .before .if1 .taken, c .before .before .before .before .before .before .before .before .before .before .before .before .before .pre .1 .0 .2)) r d (takes-none (c .before .before .before .before .before .before .before .before .before .before .before .before .before .pre .0) d _ (c .before .before .before .before .before .before .before .before .loop .inv .3 .so-far r d .set-is) (rw (c .before .before .before .before .set-at .ensures) (c .before .before .before .before .before .before .before .before .before .before .before .before .before .pre .1 .1 .0 .behind r d _ (c .before .before .before .before .before .before .before .before .loop .inv .1) (c .before .before .before .before .before .before .if1 .taken))) (c .before .before .before .intersect .ensures) (λ q reads. c .before .lowest .ensures .none-lower q (omega arith) (omega (arith, reads .inside, c .before .before .before .before .before .before .before .before .before .before .before .before .before .pre .0 .few, c .if2 .taken)) reads)) }
+returns c = record { to-end = c .before .before .before .before .before .before .before .before .loop .inv .2; walked = λ e. absurd (omega (arith, c .before .before .before .before .before .before .if1 .taken)); stuck = λ ne r d. walked-stuck (c .before .before .before .before .before .before .before .before .loop .inv .3) (omega (arith, c .before .before .before .before .before .before .if1 .taken, c .before .before .before .before .before .before .before .before .before .before .before .before .before .pre .1 .0 .2)) r d (takes-none (c .before .before .before .before .before .before .before .before .before .before .before .before .before .pre .0) d _ (c .before .before .before .before .before .before .before .before .loop .inv .3 .so-far r d .set-is) (rw (c .before .before .before .before .set-at .ensures) (c .before .before .before .before .before .before .before .before .before .before .before .before .before .pre .1 .1 .0 .behind r d _ (c .before .before .before .before .before .before .before .before .loop .inv .1) (c .before .before .before .before .before .before .if1 .taken))) (c .before .before .before .intersect .ensures) (λ q reads. c .before .lowest .ensures .none-lower q (omega (arith, reads .inside, c .before .before .before .before .before .before .before .before .before .before .before .before .before .pre .0 .few, c .if2 .taken)) reads)) }
 
 cast-path : tie.Need-cast-path Inv-loop μ-loop
 cast-path c = search needs
@@ -58,7 +58,7 @@ loop-less : tie.Need-loop-less Inv-loop μ-loop
 loop-less c = omega (arith, c .past .ensures .at-is)
 
 loop-again : tie.Need-loop-again Inv-loop μ-loop
-loop-again c = (simp length-set (omega (arith, c .before .before .before .before .before .before .before .before .before .loop .inv .0)), omega (arith, c .past .ensures .at-is, c .before .before .before .before .before .before .before .before .before .loop .inv .1), omega (arith, c .past .ensures .at-is, c .before .before .before .before .before .before .before .if1 .taken), walked-more (c .before .before .before .before .before .before .before .before .before .loop .inv .3) (omega (arith, c .before .before .before .before .before .before .before .if1 .taken, c .before .before .before .before .before .before .before .before .before .before .before .before .before .before .pre .1 .0 .2)) (c .before .before .before .before .before .before .before .before .before .loop .inv .0 ∙ c .before .before .before .before .before .before .before .before .before .before .before .before .before .before .pre .1 .1 .1 .0) (c .past .ensures) (λ r d. takes-lowest (c .before .before .before .before .before .before .before .before .before .before .before .before .before .before .pre .0) d _ (c .before .before .before .before .before .before .before .before .before .loop .inv .3 .so-far r d .set-is) (rw (c .before .before .before .before .before .set-at .ensures) (c .before .before .before .before .before .before .before .before .before .before .before .before .before .before .pre .1 .1 .0 .behind r d _ (c .before .before .before .before .before .before .before .before .before .loop .inv .1) (c .before .before .before .before .before .before .before .if1 .taken))) (c .before .before .before .before .intersect .ensures) (c .before .before .lowest .ensures .reads (c .before .if2 .left)) (λ q l. c .before .before .lowest .ensures .none-lower q (omega arith) l)))
+loop-again c = (simp length-set (omega (arith, c .before .before .before .before .before .before .before .before .before .loop .inv .0)), omega (arith, c .past .ensures .at-is, c .before .before .before .before .before .before .before .before .before .loop .inv .1), omega (arith, c .past .ensures .at-is, c .before .before .before .before .before .before .before .if1 .taken), walked-more (c .before .before .before .before .before .before .before .before .before .loop .inv .3) (omega (arith, c .before .before .before .before .before .before .before .if1 .taken, c .before .before .before .before .before .before .before .before .before .before .before .before .before .before .pre .1 .0 .2)) (c .before .before .before .before .before .before .before .before .before .loop .inv .0 ∙ c .before .before .before .before .before .before .before .before .before .before .before .before .before .before .pre .1 .1 .1 .0) (c .past .ensures) (λ r d. takes-lowest (c .before .before .before .before .before .before .before .before .before .before .before .before .before .before .pre .0) d _ (c .before .before .before .before .before .before .before .before .before .loop .inv .3 .so-far r d .set-is) (rw (c .before .before .before .before .before .set-at .ensures) (c .before .before .before .before .before .before .before .before .before .before .before .before .before .before .pre .1 .1 .0 .behind r d _ (c .before .before .before .before .before .before .before .before .before .loop .inv .1) (c .before .before .before .before .before .before .before .if1 .taken))) (c .before .before .before .before .intersect .ensures) (c .before .before .lowest .ensures .reads (c .before .if2 .left)) (λ q l. c .before .before .lowest .ensures .none-lower q l)))
 
 same-length-2 : tie.Need-same-length-2 Inv-loop μ-loop
 same-length-2 c = search needs
