@@ -4,12 +4,11 @@ use mathlib.Core.Bool.{Bool, true, false, _&&_, _||_, false≢true}
 use mathlib.Core.List.{List, [], _∷_, _++_}
 use mathlib.Core.Logic.{inl, inr, _↔_, ⊎-elim, Iff·trans, Iff·symm}
 use mathlib.Core.Option.{none, some, Option·none-ne-some, Option·some-ne-none}
-use Prim.Native.Nat.{ℕ, _+_, _<_, max, min}
-use native.Mathlib.Omega.{arith}
-use borrow.Author.Tests.{ltb-true, ltb-false, leb-true, le-leb}
-use lib.Dec.{ltb, leb}
+use Prim.Native.Nat.{ℕ, _+_, _<_}
+use borrow.Author.Tests.{ltb-true, ltb-false}
+use lib.Dec.{ltb}
 use Rattle.semantics.specs.Text.{Text}
-use Rattle.semantics.specs.Pattern.{Pattern, inRange}
+use Rattle.semantics.specs.Pattern.{Pattern}
 use Rattle.semantics.specs.Ambiguity.{Overlap, TwoCuts}
 use Rattle.semantics.specs.Table.{positions}
 use Rattle.laws.specs.Basics.{bool-cases, not-both, and-both, and-of, or-either, or-left, or-right}
@@ -18,32 +17,16 @@ use Rattle.laws.specs.Walks.{State, nextAt, finalAt, Leads, steps-within, leads
 use Rattle.positions.specs.declared.Set.{Set}
 use Rattle.positions.specs.Positions.{holds, Shared}
 use Rattle.positions.proofs.Bits.{holds-past}
+use Rattle.classes.specs.Classes.{anyBelow}
+use Rattle.classes.proofs.Anys.{any-iff}
 use Rattle.automaton.specs.declared.Automaton.{Automaton}
-use Rattle.automaton.specs.Rows.{followOf, shareIn, RowIs, Describes}
-use Rattle.pairs.specs.Pairs.{Gathered, byFollow, byRow, held, anyBelow, Meets, Reached, begins, goes, Filled}
-use Rattle.pairs.proofs.Cells.{any-iff, gathered-iff}
+use Rattle.automaton.specs.Rows.{followOf, RowIs, Describes}
+use Rattle.automaton.proofs.Standing.{share-iff}
+use Rattle.pairs.specs.Pairs.{Gathered, byFollow, byRow, held, Meets, Reached, begins, goes, Filled}
+use Rattle.pairs.proofs.Cells.{gathered-iff}
 use Rattle.pairs.proofs.Spreads.{reached-within}
 use Rattle.typing.specs.declared.questions.Marked.{Marked}
 use Rattle.typing.specs.Stages.{In, Within, StartOnly, NextOf, SomeFinal, StagedBy}
-
--- ---- A common byte
-
--- two ranges that overlap share the larger of their first bytes
-common-byte : (l h m k : ℕ) → leb (max l m) (min h k) ≡ true → (c : ℕ) × (inRange l h c ≡ true) × (inRange m k c ≡ true)
-unfolding inRange
-common-byte l h m k e =
-    let o = leb-true (max l m) (min h k) e in (
-      max l m,
-      and-of _ _ (le-leb l (max l m) (omega arith)) (le-leb (max l m) h (omega arith)),
-      and-of _ _ (le-leb m (max l m) (omega arith)) (le-leb (max l m) k (omega arith)),
-    )
-
-byte-common : (l h m k c : ℕ) → inRange l h c ≡ true → inRange m k c ≡ true → leb (max l m) (min h k) ≡ true
-unfolding inRange
-byte-common l h m k c e f =
-    let (p, q) = and-both (leb l c) (leb c h) e in
-    let (i, j) = and-both (leb m c) (leb c k) f in
-    le-leb (max l m) (min h k) (omega (arith, leb-true l c p, leb-true c h q, leb-true m c i, leb-true c k j))
 
 -- a text that is not empty leads to a position
 leads-some : (r : Pattern) (x y : State) (c : ℕ) (t : Text) → Leads r x (c ∷ t) y → (p : ℕ) × (y ≡ some p)
@@ -123,11 +106,9 @@ final-test a m {meets} shared = (
 module _ {r s : Pattern} {a b : Automaton} {prepared : List ℕ} (d : Describes r a prepared) (e : Describes s b prepared) where
   -- positions that meet have a byte in common
   meets-byte : {xs ys : Set} {x y : ℕ} → Meets prepared a b xs ys x y → (c : ℕ) × (standsAt r x c ≡ true) × (standsAt s y c ≡ true)
-  unfolding standsAt shareIn
   meets-byte {xs} {ys} {x} {y} m =
-      let row = row-at d x (m .left) in
-      let row′ = row-at e y (m .right) in
-      common-byte _ _ _ _ (simp (row .low-is, row .high-is, row′ .low-is, row′ .high-is) at (m .share))
+      let (c, p, q) = share-iff prepared (a .start + x) (b .start + y) .0 (m .share) in
+      (c, sym (row-at d x (m .left) .bytes-are c) ∙ p, sym (row-at e y (m .right) .bytes-are c) ∙ q)
 
   -- and positions with a byte in common meet
   byte-meets :
@@ -139,16 +120,13 @@ module _ {r s : Pattern} {a b : Automaton} {prepared : List ℕ} (d : Describes 
       → standsAt r x c ≡ true
       → standsAt s y c ≡ true
       → Meets prepared a b xs ys x y
-  unfolding standsAt shareIn
   byte-meets {xs} {ys} {x} {y} c l k i j p q =
-      let row = d .row-is x l in
-      let row′ = e .row-is y k in
       record {
         left = rw (d .count-is) l;
         right = rw (e .count-is) k;
         in-left = i;
         in-right = j;
-        share = simp (row .low-is, row .high-is, row′ .low-is, row′ .high-is) (byte-common _ _ _ _ c p q);
+        share = share-iff prepared (a .start + x) (b .start + y) .1 (c, d .row-is x l .bytes-are c ∙ p, e .row-is y k .bytes-are c ∙ q);
       }
 
   module _ {m : Marked} {begun : Set} (inside : Within a m) (next : NextOf prepared a m begun) where

@@ -9,9 +9,10 @@ use Rattle.semantics.specs.Pattern.{Pattern}
 use Rattle.laws.specs.Walks.{State, Staged}
 use Rattle.positions.specs.declared.Set.{Set}
 use Rattle.positions.specs.Positions.{holds, Empty, Shared}
+use Rattle.classes.specs.Classes.{anyBelow}
 use Rattle.automaton.specs.declared.Automaton.{Automaton}
 use Rattle.automaton.specs.Rows.{Describes}
-use Rattle.pairs.specs.Pairs.{anyBelow, byFollow}
+use Rattle.pairs.specs.Pairs.{byFollow}
 use Rattle.typing.specs.declared.questions.Marked.{Marked}
 
 -- the states that are marked

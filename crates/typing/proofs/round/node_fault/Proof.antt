@@ -72,7 +72,7 @@ returns c = no-fault (c .before .before .node .ensures) (shown (c .before .befor
 
 returns-2 : tie.Need-returns-2
 unfolding Shows treeLines typingLines
-returns-2 c = no-fault (c .before .before .node .ensures) (shown (c .before .before .node .ensures) (c .enum-told2 .given .1)) refl
+returns-2 c = no-fault (c .before .before .node .ensures) (shown (c .before .before .node .ensures) (c .enum-told2 .given .1) .tree-is) refl
 
 returns-3 : tie.Need-returns-3
 unfolding Shows treeLines typingLines
