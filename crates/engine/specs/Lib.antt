@@ -2,3 +2,4 @@
 pub mod Rooms
 pub mod Demand3
 pub mod Tally
+pub mod WithoutSets

@@ -11,7 +11,7 @@ use borrow.Author.Tests.{eqb-true, ltb-true}
 use types.Run.{OneOf, miss}
 use denote.Enum.Declared.{tagOf}
 use Rattle.semantics.specs.Text.{Text}
-use Rattle.semantics.specs.Pattern.{word, range, concat, alt, star}
+use Rattle.semantics.specs.Pattern.{word, oneOf, concat, alt, star}
 use Rattle.semantics.specs.Lens.{Lens, copy, key, join, union, repeat, match, language}
 use Rattle.semantics.specs.Table.{at, nodeCount, pool, Tree, pattern, lens, broken, treeAt, trees}
 use Rattle.table.specs.declared.Kind.{Kind}
