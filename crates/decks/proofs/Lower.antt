@@ -16,7 +16,7 @@ use Rattle.semantics.specs.Lens.{Lens, join, union, repeat, match}
 use Rattle.semantics.specs.Table.{nodeCount, trees, treeAt, pattern, lens}
 use Rattle.laws.specs.Bookless.{asks}
 use Rattle.table.specs.declared.Kind.{Kind}
-use Rattle.table.specs.declared.Kind.the-variants.{Word, Range, PatternJoin, PatternUnion, PatternRepeat, Copy, Const, Key, LensJoin, LensUnion, LensRepeat, Match}
+use Rattle.table.specs.declared.Kind.the-variants.{Word, OneOf as Runs, PatternJoin, PatternUnion, PatternRepeat, Copy, Const, Key, LensJoin, LensUnion, LensRepeat, Match}
 use Rattle.table.specs.declared.Node.{Node}
 use Rattle.table.specs.Prepared.{OneLens, TwoLenses, Shows}
 use Rattle.table.specs.Rules.{AllSized, NodeRead}
@@ -96,7 +96,7 @@ module _ {bytes : Text} {k : ℕ} {n : Node} (read : NodeRead bytes k n) where
 
       go : (κ : Kind) → OneOf leaf-kinds (tagOf the-type κ) → Shows bytes k κ → NodeStands bytes k s
       go (Word start len) tag s = stands-none _ (s .tree-is)
-      go (Range first last) tag s = stands-none _ s
+      go (Runs at runs) tag s = stands-none _ (s .tree-is)
       go (PatternJoin a b) tag s = stands-none _ (s .tree-is)
       go (PatternUnion a b) tag s = stands-none _ (s .tree-is)
       go (PatternRepeat a) tag s = stands-none _ (s .tree-is)

@@ -11,11 +11,11 @@ use borrow.Author.Tests.{eqb-true, ltb-true}
 use types.Run.{OneOf, miss}
 use denote.Enum.Declared.{tagOf}
 use Rattle.semantics.specs.Text.{Text}
-use Rattle.semantics.specs.Pattern.{word, range, concat, alt, star}
+use Rattle.semantics.specs.Pattern.{word, oneOf, concat, alt, star}
 use Rattle.semantics.specs.Lens.{Lens, copy, key, join, union, repeat, match, language}
 use Rattle.semantics.specs.Table.{at, nodeCount, pool, Tree, pattern, lens, broken, treeAt, trees}
 use Rattle.table.specs.declared.Kind.{Kind}
-use Rattle.table.specs.declared.Kind.the-variants.{Word, Range, PatternJoin, PatternUnion, PatternRepeat, Copy, Const, Key, LensJoin, LensUnion, LensRepeat, Match}
+use Rattle.table.specs.declared.Kind.the-variants.{Word, OneOf as Runs, PatternJoin, PatternUnion, PatternRepeat, Copy, Const, Key, LensJoin, LensUnion, LensRepeat, Match}
 use Rattle.table.specs.declared.Node.{Node}
 use Rattle.table.specs.Prepared.{OnePattern, OneLens, TwoLenses, ConstParts, WordPart, Shows}
 use Rattle.table.specs.Rules.{AllSized, NodeRead}
@@ -53,7 +53,7 @@ sizes-are {bytes} sized = right-of bytes (sized .sized .sizes-right)
 -- the sort of a tree: a word, another pattern, a lens
 abbrev sortOf : Tree → ℕ
 sortOf (pattern (word w)) = 0
-sortOf (pattern (range first last)) = 1
+sortOf (pattern (oneOf c)) = 1
 sortOf (pattern (concat p q)) = 1
 sortOf (pattern (alt p q)) = 1
 sortOf (pattern (star p)) = 1
@@ -67,7 +67,7 @@ sortBy tag = cond (eqb tag 0) 0 (cond (ltb tag 5) 1 2)
 kind-sort : (bytes : Text) (node : ℕ) (κ : Kind) → Shows bytes node κ → sortOf (treeAt (trees bytes) node) ≡ sortBy (tagOf the-type κ)
 unfolding Shows
 kind-sort bytes node (Word start len) s = ap sortOf (s .tree-is)
-kind-sort bytes node (Range first last) s = ap sortOf s
+kind-sort bytes node (Runs place runs) s = ap sortOf (s .tree-is)
 kind-sort bytes node (PatternJoin left right) s = ap sortOf (s .tree-is)
 kind-sort bytes node (PatternUnion left right) s = ap sortOf (s .tree-is)
 kind-sort bytes node (PatternRepeat child) s = ap sortOf (s .tree-is)

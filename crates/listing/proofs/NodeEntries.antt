@@ -11,7 +11,7 @@ use Rattle.semantics.specs.Text.{Text}
 use Rattle.semantics.specs.Lens.{Lens, match, source, language, entries}
 use Rattle.semantics.specs.Table.{nodeCount, Tree, pattern, lens, broken, treeAt, lensAt, lensOf, trees}
 use Rattle.laws.specs.GetPut.{no-entries}
-use Rattle.table.specs.declared.Kind.the-variants.{Word, Range, PatternJoin, PatternUnion, PatternRepeat, Copy, Const, Key, LensJoin, LensUnion, LensRepeat, Match}
+use Rattle.table.specs.declared.Kind.the-variants.{Word, OneOf as Runs, PatternJoin, PatternUnion, PatternRepeat, Copy, Const, Key, LensJoin, LensUnion, LensRepeat, Match}
 use Rattle.table.specs.declared.Kind.{Kind}
 use Rattle.table.specs.declared.Node.{Node}
 use Rattle.table.specs.Prepared.{Shows, OneLens}
@@ -69,7 +69,7 @@ module _ {bytes : Text} {k : ℕ} {n : Node} (read : NodeRead bytes k n) where
     where
       go : (κ : Kind) → OneOf leaf-kinds (tagOf the-type κ) → Shows bytes k κ → treeEntries (treeAt (trees bytes) k) t ≡ []
       go (Word start len) tag s = rw (s .tree-is)
-      go (Range first last) tag s = rw s
+      go (Runs at runs) tag s = rw (s .tree-is)
       go (PatternJoin a b) tag s = rw (s .tree-is)
       go (PatternUnion a b) tag s = rw (s .tree-is)
       go (PatternRepeat a) tag s = rw (s .tree-is)

@@ -15,7 +15,7 @@ use Rattle.semantics.specs.Lens.{Lens, const, repeat}
 use Rattle.semantics.specs.Table.{nodeCount, pool, treeAt, trees, Tree, wordOf, pattern, lens, Line, line, treeLines, typingLines, firstThatHolds}
 use Rattle.laws.specs.Basics.{false-of-not-true, not-both}
 use Rattle.table.specs.declared.Kind.{Kind}
-use Rattle.table.specs.declared.Kind.the-variants.{Word, Range, PatternJoin, PatternUnion, PatternRepeat, Copy, Const, Key, LensJoin, LensUnion, LensRepeat, Match}
+use Rattle.table.specs.declared.Kind.the-variants.{Word, OneOf, PatternJoin, PatternUnion, PatternRepeat, Copy, Const, Key, LensJoin, LensUnion, LensRepeat, Match}
 use Rattle.table.specs.declared.Node.{Node}
 use Rattle.table.specs.Prepared.{Shows, WordPart, OneLens, TwoLenses, ConstParts}
 use Rattle.table.specs.Rules.{NodeRead}
@@ -167,7 +167,7 @@ module _ (bytes : Text) (k : ℕ) {d : Text} (e : treeAt (trees bytes) k ≡ pat
   pub word-shown : (κ : Kind) → Shows bytes k κ → (start : ℕ) × (len : ℕ) × (κ ≡ Word start len)
   unfolding Shows wordOf
   word-shown (Word start len) h = (start, len, refl)
-  word-shown (Range first last) h = no-other _ refl h
+  word-shown (OneOf at runs) h = no-other _ refl (h .tree-is)
   word-shown (PatternJoin a b) h = no-other _ refl (h .tree-is)
   word-shown (PatternUnion a b) h = no-other _ refl (h .tree-is)
   word-shown (PatternRepeat a) h = no-other _ refl (h .tree-is)

@@ -21,7 +21,7 @@ use Rattle.positions.specs.declared.Set.{Set}
 use Rattle.positions.specs.Positions.{holds}
 use Rattle.positions.proofs.Bits.{holds-past}
 use Rattle.table.specs.declared.Kind.{Kind}
-use Rattle.table.specs.declared.Kind.the-variants.{Word, Range, PatternJoin, PatternUnion, PatternRepeat, Copy, Const, Key, LensJoin, LensUnion, LensRepeat, Match}
+use Rattle.table.specs.declared.Kind.the-variants.{Word, OneOf as Runs, PatternJoin, PatternUnion, PatternRepeat, Copy, Const, Key, LensJoin, LensUnion, LensRepeat, Match}
 use Rattle.table.specs.declared.Node.{Node}
 use Rattle.table.specs.Prepared.{OneLens, Shows}
 use Rattle.table.specs.Rules.{NodeRead}
@@ -127,7 +127,7 @@ module _ {bytes : Text} {prepared : List ℕ} {node : ℕ} {r : Node} (known : L
   leaf-asks (Key a) e s h = (key (s .child), s .tree-is, λ n. refl, refl)
   leaf-asks (Const a b c) e s h = (const (s .child) (s .sheet-word) (s .default-word), s .tree-is, λ n. refl, refl)
   leaf-asks (Word a b) e s h = lens-read (Word a b) known read e refl
-  leaf-asks (Range a b) e s h = lens-read (Range a b) known read e refl
+  leaf-asks (Runs a b) e s h = lens-read (Runs a b) known read e refl
   leaf-asks (PatternJoin a b) e s h = lens-read (PatternJoin a b) known read e refl
   leaf-asks (PatternUnion a b) e s h = lens-read (PatternUnion a b) known read e refl
   leaf-asks (PatternRepeat a) e s h = lens-read (PatternRepeat a) known read e refl
