@@ -11,7 +11,7 @@ use Rattle.semantics.specs.Calls.{gives, refuses}
 use Rattle.semantics.proofs.Cases.{bytesOf, evaluates, Row, node, kindByte, operands, table, K-with, K, rootCounts, Case, checks, gets, puts, creates, counts, Holds, result, _&_}
 
 -- that many times the character, and then the rest
-again : ℕ → Char → String → String
+unfoldable pub again : ℕ → Char → String → String
 again zero c rest = rest
 again (suc n) c rest = c then again n c rest
 
