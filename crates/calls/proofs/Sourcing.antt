@@ -39,9 +39,9 @@ use Rattle.decks.specs.Dealing.{PathRoom, DealtTo, DealtOn}
 use Rattle.listing.specs.declared.Listing.{Listing}
 use Rattle.listing.specs.Listing.{treeEntries, entries-of, ToList, StandsIn, Untaken, Lists, PutBehind}
 use Rattle.bookless.specs.Bookless.{Given}
-use Rattle.writer.specs.declared.Done.{Done as Did}
-use Rattle.writer.specs.Writing.{WritesBehind, Fitted, wrapped, Progress}
-use Rattle.writer.specs.Writing.{Ready as ToWrite}
+use Rattle.plains.specs.declared.Done.{Done as Did}
+use Rattle.plains.specs.Writing.{WritesBehind, Fitted, wrapped, Progress}
+use Rattle.writer.specs.WithBook.{Ready as ToWrite}
 use Rattle.answers.specs.declared.Answer.{Answer}
 use Rattle.answers.specs.declared.Answer.the-variants.{Result, Refusal}
 use Rattle.answers.specs.declared.Tally.{Tally}

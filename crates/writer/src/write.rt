@@ -2,10 +2,6 @@
 // goes from left to right; a node none of whose matches can find an entry writes without it. Cuts, arms and parts are read off the paths of the sheet and of the old source.
 // Each function on the way down holds the book twice, as it came and as it comes back: so `done` is written over where two calls follow each other, and what every node does with an old
 // text or none is no function of its own.
-use crate::Done;
-use crate::plain::Plain;
-use crate::plain::next_plain;
-use crate::plain::write_plain;
 use automaton::Side;
 use books::Book;
 use books::Lookup;
@@ -15,9 +11,12 @@ use decks::below::VARIES;
 use decks::below::asks_none;
 use decks::below::plain_count;
 use decks::cards::card_of;
-use lens::Wrote;
 use paths::Ends;
 use paths::first_loop;
+use plains::Done;
+use plains::plain::Plain;
+use plains::plain::next_plain;
+use plains::plain::write_plain;
 use std::num::wrapping_add_usize;
 use steps::Spot;
 use steps::choose;
@@ -40,7 +39,8 @@ ghost use Rattle.lens.specs.Emitting.{LensNode};
 ghost use Rattle.books.specs.Looking.{partAt, oldText};
 ghost use Rattle.bookless.specs.Bookless.{NewGiven, Given, GivenOld};
 ghost use Rattle.steps.specs.Steps.{EndsAre};
-ghost use Rattle.writer.specs.Writing.{LooksIn, Ready, AsksNone, MeetsThere, NoMatch, WithinBuffer, WritesBehind, WritesMatch, WritesMatches, EntryFound};
+ghost use Rattle.plains.specs.Writing.{AsksNone, MeetsThere, NoMatch, WithinBuffer, WritesBehind};
+ghost use Rattle.writer.specs.WithBook.{LooksIn, Ready, WritesMatch, WritesMatches, EntryFound};
 
 // What a node writes with no book behind what was written. The book stays as it is, and the matches that the node meets are counted.
 fn plain_behind(

@@ -1,10 +1,12 @@
-use Rattle.writer.proofs.Given.{found-ready, found-given, given-none, given-onto, given-at, ready-below, ready-left, below-room, arm-ready, arm-given, new-arm, choice-arm, choice-given, given-match}
-use Rattle.writer.proofs.Parts.{Parting, parting-begins, more-path, more-lent, part-inside, part-given, part-old, part-back, parting-next, parting-ends}
-use Rattle.writer.proofs.Halves.{halves-lower, near-known, far-known, at-inside, near-given, left-back, right-back, far-given, near-old, far-old, join-created, join-put}
-use Rattle.writer.proofs.ByKind.{match-writes, union-writes}
-use Rattle.writer.proofs.Unasked.{leaf-asks-none, leaf-met, inner-flat, inner-met}
-use Rattle.writer.proofs.Counting.{plain-met}
-use Rattle.writer.proofs.Behind.{behind-left, at-node, old-put, old-created}
+use Rattle.writer.proofs.Ready.{found-ready, found-given, ready-below, ready-left, below-room, arm-ready}
+use Rattle.plains.proofs.Given.{given-none, given-onto, given-at, arm-given, new-arm, choice-arm, choice-given, given-match}
+use Rattle.plains.proofs.Parts.{Parting, parting-begins, more-path, more-lent, part-inside, part-given, part-old, part-back, parting-next, parting-ends}
+use Rattle.plains.proofs.Halves.{halves-lower, near-known, far-known, at-inside, near-given, left-back, right-back, far-given, near-old, far-old, join-created, join-put}
+use Rattle.writer.proofs.Matching.{match-writes}
+use Rattle.plains.proofs.ByKind.{union-writes}
+use Rattle.plains.proofs.Unasked.{leaf-asks-none, leaf-met, inner-flat, inner-met}
+use Rattle.plains.proofs.Counting.{plain-met}
+use Rattle.plains.proofs.Behind.{behind-left, at-node, old-put, old-created}
 use Rattle.steps.specs.Stepping.{place-inside, old-inside, old-ends}
 use Rattle.books.specs.Looking.{oldText}
 use Rattle.lens.specs.Parsed.{parsed-length}

@@ -4,7 +4,7 @@ use Rattle.writer.proofs.write.counted_behind.Statement.{statement}
 use Rattle.writer.proofs.write.counted_behind.Tie as tie
 use Rattle.writer.proofs.write.counted_behind.Reads as reads
 use Rattle.writer.proofs.write.counted_behind.Lts as lts
-use Rattle.writer.proofs.plain.write_plain.Reads as write-plain-reads
+use Rattle.plains.proofs.plain.write_plain.Reads as write-plain-reads
 
 write-plain-requires : tie.Need-write-plain-requires
 write-plain-requires c κs = search needs

@@ -1,11 +1,11 @@
-use Rattle.writer.proofs.ByKind.{plain-writes}
-use Rattle.writer.proofs.Unasked.{none-asked}
+use Rattle.plains.proofs.ByKind.{plain-writes}
+use Rattle.plains.proofs.Unasked.{none-asked}
 use borrow.Author.Needs.{needs}
 use Rattle.writer.proofs.write.plain_behind.Statement.{statement}
 use Rattle.writer.proofs.write.plain_behind.Tie as tie
 use Rattle.writer.proofs.write.plain_behind.Reads as reads
 use Rattle.writer.proofs.write.plain_behind.Lts as lts
-use Rattle.writer.proofs.plain.next_plain.Reads as next-plain-reads
+use Rattle.plains.proofs.plain.next_plain.Reads as next-plain-reads
 
 wrapping-add-usize-requires : tie.Need-wrapping-add-usize-requires
 wrapping-add-usize-requires c κs = search needs

@@ -16,7 +16,7 @@ use Rattle.lens.specs.Emitting.{LensNode}
 use Rattle.lens.specs.Nodes.{same-lens, child-below}
 use Rattle.decks.specs.Below.{countAt, BelowIs, PlainlyMet}
 use Rattle.decks.specs.Counts.{repeat-met}
-use Rattle.writer.specs.Writing.{MeetsThere}
+use Rattle.plains.specs.Writing.{MeetsThere}
 
 -- a count for each part of a sheet is a small number
 pub product-small : {r : ℕ} (n : ℕ) → r < 65536 → n ≤ 4096 → r * n ≤ 268435456

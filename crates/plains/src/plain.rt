@@ -31,7 +31,7 @@ ghost use Rattle.lens.specs.Emitting.{LensNode};
 ghost use Rattle.books.specs.Looking.{partAt, oldText};
 ghost use Rattle.bookless.specs.Bookless.{NewGiven, Given, GivenOld};
 ghost use Rattle.steps.specs.Steps.{EndsAre};
-ghost use Rattle.writer.specs.Writing.{MeetsThere, Fitted, WritesNext, PlainReady, MeetsNext, WritesPlainly};
+ghost use Rattle.plains.specs.Writing.{MeetsThere, Fitted, WritesNext, PlainReady, MeetsNext, WritesPlainly};
 
 // What was written so far, and how many matches were met, modulo 2^64.
 pub struct Plain {
