@@ -67,7 +67,7 @@ full-stays s t before mid after r first second =
     (second .buffer-is ∙ sym (whole .buffer-is), second .answer-is ∙ sym (whole .answer-is))
 
 -- a count is not that the buffer was too short
-not-full : {answer : Wrote} {n : ℕ} → answer ≡ Count n → ¬ (answer ≡ Full)
+pub not-full : {answer : Wrote} {n : ℕ} → answer ≡ Count n → ¬ (answer ≡ Full)
 not-full p q = let z : _≡_ {A = ℕ} 0 1 = cc in omega arith
 
 -- ---- Whatever the buffer holds, some text was written there
