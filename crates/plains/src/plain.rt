@@ -65,7 +65,7 @@ pub fn next_plain(
 }
 
 // The same of a node that meets so many matches.
-fn next_counted(
+pub fn next_counted(
     plain: Plain,
     matches: usize,
     bytes: &[u8],
