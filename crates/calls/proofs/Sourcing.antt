@@ -25,7 +25,7 @@ use Rattle.automaton.specs.declared.Side.{Side}
 use Rattle.automaton.specs.Rows.{sideOf}
 use Rattle.lens.specs.declared.Mode.{Mode}
 use Rattle.lens.specs.declared.Wrote.{Wrote}
-use Rattle.lens.specs.declared.Wrote.the-variants.{Count, Full}
+use Rattle.lens.specs.declared.Wrote.the-variants.{Count}
 use Rattle.lens.specs.Overlay.{writes-nothing}
 use Rattle.lens.specs.Parsed.{parsed-length}
 use Rattle.lens.specs.Reading.{reading}
@@ -39,9 +39,10 @@ use Rattle.decks.specs.Dealing.{PathRoom, DealtTo, DealtOn}
 use Rattle.listing.specs.declared.Listing.{Listing}
 use Rattle.listing.specs.Listing.{treeEntries, entries-of, ToList, StandsIn, Untaken, Lists, PutBehind}
 use Rattle.bookless.specs.Bookless.{Given}
-use Rattle.writer.specs.declared.Done.{Done as Did}
-use Rattle.writer.specs.Writing.{WritesBehind, Fitted, wrapped, Progress}
-use Rattle.writer.specs.Writing.{Ready as ToWrite}
+use Rattle.plains.specs.declared.Done.{Done as Did}
+use Rattle.plains.specs.Writing.{WritesBehind, Fitted, wrapped, Progress}
+use Rattle.plains.proofs.Behind.{not-full}
+use Rattle.writer.specs.WithBook.{Ready as ToWrite}
 use Rattle.answers.specs.declared.Answer.{Answer}
 use Rattle.answers.specs.declared.Answer.the-variants.{Result, Refusal}
 use Rattle.answers.specs.declared.Tally.{Tally}
@@ -58,10 +59,6 @@ use Rattle.calls.specs.Sources.{TextReady, BookReady, ListsSource, SameC
 use Rattle.answers.proofs.Giving.{root-at, root-node, too-long, not-too-long}
 
 -- ---- Counts
-
--- a count is not that the buffer was too short
-not-full : {wrote : Wrote} {n : ℕ} → wrote ≡ Count n → ¬ (wrote ≡ Full)
-not-full p q = let z : _≡_ {A = ℕ} 0 1 = cc in omega arith
 
 -- a small number is itself modulo 2^64
 wrapped-same : {m : ℕ} {k : ℕ} → m < 2 ^ 64 → k ≤ 2097152 → wrapped m ≡ wrapped (0 + k) → m ≡ k

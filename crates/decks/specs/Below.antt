@@ -11,8 +11,7 @@ use Rattle.semantics.specs.Lens.{Lens}
 use Rattle.semantics.specs.Table.{nodeCount, trees, treeAt, lens}
 use Rattle.semantics.specs.Tally.{met}
 use Rattle.laws.specs.Bookless.{asks}
-use Rattle.positions.specs.declared.Set.{Set}
-use Rattle.positions.specs.Positions.{holds, Joined, Added, Shared}
+use Rattle.positions.specs.Positions.{holds, Joined, Added}
 use Rattle.automaton.specs.Rows.{setAt}
 use Rattle.lens.specs.SourceKeys.{hasUnion}
 use Rattle.decks.specs.declared.below.Standing.{Standing}
@@ -87,10 +86,3 @@ pub record NodeStands (bytes : Text) (k : ℕ) (s : Standing) : Type 0 where
 -- The numbers of the nodes before k are stored.
 pub record BelowTo (bytes : Text) (below : List ℕ) (k : ℕ) : Type 0 where
   pub each : (j : ℕ) (l : Lens) → j < k → treeAt (trees bytes) j ≡ lens l → NodeBelow below j l
-
--- ---- What is told of a node for a put whose book has entries of these children
-
--- A count below 65,536 is that of the node, and no match there has one of the children.
-pub record PlainlyMet (below : List ℕ) (node : ℕ) (children : Set) (r : ℕ) : Type 0 where
-  pub none-shared : r < 65536 → ¬ Shared (setAt below (4 * node)) children
-  pub count-is : r < 65536 → r ≡ countAt below node

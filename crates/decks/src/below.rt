@@ -14,7 +14,7 @@ ghost use Rattle.semantics.specs.Table.{nodeCount};
 ghost use Rattle.table.specs.Rules.{AllSized};
 ghost use Rattle.automaton.specs.Rows.{setAt};
 ghost use Rattle.positions.specs.Positions.{Empty, Shared};
-ghost use Rattle.decks.specs.Below.{unionAt, countAt, standingAt, countOver, OverTwo, OverChild, OverParts, NodeStands, BelowTo, stored, BelowIs, PlainlyMet};
+ghost use Rattle.decks.specs.Below.{unionAt, countAt, standingAt, countOver, OverTwo, OverChild, OverParts, NodeStands, BelowTo, stored, BelowIs};
 
 // What a count is where it depends on the texts, or is too large to be kept.
 pub const VARIES: u64 = 65536;
@@ -29,17 +29,6 @@ pub fn asks_none(below: &[u64], node: usize, children: Set) -> bool
         return false;
     }
     true
-}
-
-// How many matches a put meets at a node, if none of them can find an entry of these children and it depends on no text; VARIES otherwise.
-pub fn plain_count(below: &[u64], node: usize, children: Set) -> u64
-    requires { ⌜ 4 * node + 4 ≤ length (now below) ⌝ }
-    ensures { λ r. ⌜ PlainlyMet (now (below .entry)) node children r ⌝ }
-{
-    if asks_none(below, node, children) {
-        return count_at(below, node);
-    }
-    VARIES
 }
 
 // Whether there is a union at or below a node.

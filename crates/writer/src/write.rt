@@ -2,10 +2,6 @@
 // goes from left to right; a node none of whose matches can find an entry writes without it. Cuts, arms and parts are read off the paths of the sheet and of the old source.
 // Each function on the way down holds the book twice, as it came and as it comes back: so `done` is written over where two calls follow each other, and what every node does with an old
 // text or none is no function of its own.
-use crate::Done;
-use crate::plain::Plain;
-use crate::plain::next_plain;
-use crate::plain::write_plain;
 use automaton::Side;
 use books::Book;
 use books::Lookup;
@@ -13,11 +9,15 @@ use books::Old;
 use books::Place;
 use decks::below::VARIES;
 use decks::below::asks_none;
-use decks::below::plain_count;
+use decks::below::count_at;
 use decks::cards::card_of;
-use lens::Wrote;
 use paths::Ends;
 use paths::first_loop;
+use plains::Done;
+use plains::plain::Plain;
+use plains::plain::next_counted;
+use plains::plain::next_plain;
+use plains::plain::write_plain;
 use std::num::wrapping_add_usize;
 use steps::Spot;
 use steps::choose;
@@ -40,41 +40,12 @@ ghost use Rattle.lens.specs.Emitting.{LensNode};
 ghost use Rattle.books.specs.Looking.{partAt, oldText};
 ghost use Rattle.bookless.specs.Bookless.{NewGiven, Given, GivenOld};
 ghost use Rattle.steps.specs.Steps.{EndsAre};
-ghost use Rattle.writer.specs.Writing.{LooksIn, Ready, AsksNone, MeetsThere, NoMatch, WithinBuffer, WritesBehind, WritesMatch, WritesMatches, EntryFound};
+ghost use Rattle.plains.specs.Writing.{AsksNone, NoMatch, WithinBuffer, WritesBehind};
+ghost use Rattle.writer.specs.WithBook.{LooksIn, Ready, WritesMatch, WritesMatches, EntryFound};
 
-// What a node writes with no book behind what was written. The book stays as it is, and the matches that the node meets are counted.
+// What a node that asks for nothing writes behind what was written, and how many matches it meets. The book stays as it is. A node whose count depends on no text is written whole:
+// `write_plain` would do that too, but most nodes are such, and the way is shorter from here.
 fn plain_behind(
-    done: Done,
-    matches: usize,
-    bytes: &[u8],
-    prepared: &[u64],
-    spot: Spot,
-    new: &[u8],
-    path: &mut [u8],
-    old: Old,
-    deck: &[u8],
-    below: &[u64],
-    out: &mut [u8],
-) -> Done
-    requires { ⌜ Ready (now bytes) (now prepared) (spot .node) (now deck) (now below) (done .book) ⌝ }
-    requires { ⌜ GivenOld (now bytes) spot (now new) (now path) old (now deck) ⌝ }
-    requires { ⌜ WithinBuffer done (now out) × AsksNone (now below) (spot .node) (done .book) ⌝ }
-    requires { ⌜ MeetsThere (now bytes) (spot .node) (oldText (now deck) old) (now new) matches ⌝ }
-    ensures { λ r. ⌜ WritesBehind (now (bytes .entry)) (spot .node) (now (deck .entry)) (oldText (now (deck .entry)) old) (now (new .entry)) done (now (out .entry)) (now (out .exit)) r ⌝ }
-{
-    let book = done.book;
-    let wrote = done.wrote;
-    let met = wrapping_add_usize(done.met, matches);
-    let more = next_plain(wrote, bytes, prepared, spot, new, path, old, deck, out);
-    Done {
-        wrote: more,
-        book,
-        met,
-    }
-}
-
-// The same of a node whose matches are counted as it is written.
-fn counted_behind(
     done: Done,
     bytes: &[u8],
     prepared: &[u64],
@@ -97,6 +68,16 @@ fn counted_behind(
         wrote,
         met: done.met,
     };
+    let matches = count_at(below, spot.node);
+    if matches < VARIES {
+        let more = next_counted(plain, matches as usize, bytes, prepared, spot, new, path, old, deck, out);
+        let written = more.wrote;
+        return Done {
+            wrote: written,
+            book,
+            met: more.met,
+        };
+    }
     let more = write_plain(plain, bytes, prepared, spot, new, path, old, deck, below, out);
     let written = more.wrote;
     Done {
@@ -129,12 +110,8 @@ pub fn put(
     let base = spot.base;
     let old = Old::At(place);
     let book = done.book;
-    let matches = plain_count(below, node, book.left);
-    if matches < VARIES {
-        return plain_behind(done, matches as usize, bytes, prepared, spot, new, path, old, deck, below, out);
-    }
     if asks_none(below, node, book.left) {
-        return counted_behind(done, bytes, prepared, spot, new, path, old, deck, below, out);
+        return plain_behind(done, bytes, prepared, spot, new, path, old, deck, below, out);
     }
     let read = Table::node(bytes, prepared, node);
     let kind = read.kind;
@@ -166,7 +143,7 @@ pub fn put(
             let inner = Spot { node: child, base };
             write_match(done, bytes, prepared, inner, new, path, deck, below, card, out)
         }
-        _ => plain_behind(done, 0, bytes, prepared, spot, new, path, old, deck, below, out),
+        _ => plain_behind(done, bytes, prepared, spot, new, path, old, deck, below, out),
     }
 }
 
@@ -192,12 +169,8 @@ pub fn create(
     let base = spot.base;
     let old = Old::Nothing;
     let book = done.book;
-    let matches = plain_count(below, node, book.left);
-    if matches < VARIES {
-        return plain_behind(done, matches as usize, bytes, prepared, spot, new, path, old, deck, below, out);
-    }
     if asks_none(below, node, book.left) {
-        return counted_behind(done, bytes, prepared, spot, new, path, old, deck, below, out);
+        return plain_behind(done, bytes, prepared, spot, new, path, old, deck, below, out);
     }
     let read = Table::node(bytes, prepared, node);
     let kind = read.kind;
@@ -223,7 +196,7 @@ pub fn create(
             let inner = Spot { node: child, base };
             write_match(done, bytes, prepared, inner, new, path, deck, below, card, out)
         }
-        _ => plain_behind(done, 0, bytes, prepared, spot, new, path, old, deck, below, out),
+        _ => plain_behind(done, bytes, prepared, spot, new, path, old, deck, below, out),
     }
 }
 

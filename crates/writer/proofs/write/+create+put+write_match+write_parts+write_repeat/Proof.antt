@@ -1,10 +1,11 @@
-use Rattle.writer.proofs.Given.{found-ready, found-given, given-none, given-onto, given-at, ready-below, ready-left, below-room, arm-ready, arm-given, new-arm, choice-arm, choice-given, given-match}
-use Rattle.writer.proofs.Parts.{Parting, parting-begins, more-path, more-lent, part-inside, part-given, part-old, part-back, parting-next, parting-ends}
-use Rattle.writer.proofs.Halves.{halves-lower, near-known, far-known, at-inside, near-given, left-back, right-back, far-given, near-old, far-old, join-created, join-put}
-use Rattle.writer.proofs.ByKind.{match-writes, union-writes}
-use Rattle.writer.proofs.Unasked.{leaf-asks-none, leaf-met, inner-flat, inner-met}
-use Rattle.writer.proofs.Counting.{plain-met}
-use Rattle.writer.proofs.Behind.{behind-left, at-node, old-put, old-created}
+use Rattle.writer.proofs.Ready.{found-ready, found-given, ready-below, ready-left, below-room, arm-ready}
+use Rattle.plains.proofs.Given.{given-none, given-onto, given-at, arm-given, new-arm, choice-arm, choice-given, given-match}
+use Rattle.plains.proofs.Parts.{Parting, parting-begins, more-path, more-lent, part-inside, part-given, part-old, part-back, parting-next, parting-ends}
+use Rattle.plains.proofs.Halves.{halves-lower, near-known, far-known, at-inside, near-given, left-back, right-back, far-given, near-old, far-old, join-created, join-put}
+use Rattle.writer.proofs.Matching.{match-writes}
+use Rattle.plains.proofs.ByKind.{union-writes}
+use Rattle.plains.proofs.Unasked.{leaf-asks-none, inner-flat, inner-met}
+use Rattle.plains.proofs.Behind.{behind-left, at-node, old-put, old-created}
 use Rattle.steps.specs.Stepping.{place-inside, old-inside, old-ends}
 use Rattle.books.specs.Looking.{oldText}
 use Rattle.lens.specs.Parsed.{parsed-length}
@@ -35,7 +36,6 @@ use Rattle.writer.proofs.write.write_repeat.Reads as write-repeat
 use Rattle.writer.proofs.write.write_repeat.Kinds as write-repeat-kinds
 use Rattle.writer.proofs.write.+create+put+write_match+write_parts+write_repeat.Lts-write_repeat as write-repeat-lts
 use Rattle.decks.proofs.below.asks_none.Reads as asks-none-reads
-use Rattle.decks.proofs.below.plain_count.Reads as plain-count-reads
 use Rattle.paths.proofs.first_loop.Reads as first-loop-reads
 use Rattle.std.proofs.num.wrapping_add_usize.Reads as wrapping-add-usize-reads
 use Rattle.steps.proofs.choose.Reads as choose-reads
@@ -46,7 +46,6 @@ use Rattle.steps.proofs.halves_of.Reads as halves-of-reads
 use Rattle.steps.proofs.next_old.Reads as next-old-reads
 use Rattle.steps.proofs.old_base.Reads as old-base-reads
 use Rattle.table.proofs.Table.node.Reads as node-reads
-use Rattle.writer.proofs.write.counted_behind.Reads as counted-behind-reads
 use Rattle.writer.proofs.write.find_entry.Reads as find-entry-reads
 use Rattle.writer.proofs.write.plain_behind.Reads as plain-behind-reads
 use Rattle.writer.proofs.write.write_matches.Reads as write-matches-reads
@@ -109,10 +108,10 @@ write-repeat-below t =
     write-repeat.Pre
 
 abbrev create-calls : ℕ → create-lts.Claims
-create-calls t = (plain-count-reads.Asked, plain-count-reads.Learnt, plain-behind-reads.Asked, plain-behind-reads.Learnt, asks-none-reads.Asked, asks-none-reads.Learnt, counted-behind-reads.Asked, counted-behind-reads.Learnt, node-reads.Asked, node-reads.Learnt, cut-sheet-reads.Asked, cut-sheet-reads.Learnt, create-below t, create.Post, choose-new-reads.Asked, choose-new-reads.Learnt, write-repeat-below t, write-repeat.Post, write-match-below t, write-match.Post)
+create-calls t = (asks-none-reads.Asked, asks-none-reads.Learnt, plain-behind-reads.Asked, plain-behind-reads.Learnt, node-reads.Asked, node-reads.Learnt, cut-sheet-reads.Asked, cut-sheet-reads.Learnt, create-below t, create.Post, choose-new-reads.Asked, choose-new-reads.Learnt, write-repeat-below t, write-repeat.Post, write-match-below t, write-match.Post)
 
 abbrev put-calls : ℕ → put-lts.Claims
-put-calls t = (plain-count-reads.Asked, plain-count-reads.Learnt, plain-behind-reads.Asked, plain-behind-reads.Learnt, asks-none-reads.Asked, asks-none-reads.Learnt, counted-behind-reads.Asked, counted-behind-reads.Learnt, node-reads.Asked, node-reads.Learnt, cut-sheet-reads.Asked, cut-sheet-reads.Learnt, halves-of-reads.Asked, halves-of-reads.Learnt, put-below t, put.Post, choose-reads.Asked, choose-reads.Learnt, create-below t, create.Post, write-repeat-below t, write-repeat.Post, write-match-below t, write-match.Post)
+put-calls t = (asks-none-reads.Asked, asks-none-reads.Learnt, plain-behind-reads.Asked, plain-behind-reads.Learnt, node-reads.Asked, node-reads.Learnt, cut-sheet-reads.Asked, cut-sheet-reads.Learnt, halves-of-reads.Asked, halves-of-reads.Learnt, put-below t, put.Post, choose-reads.Asked, choose-reads.Learnt, create-below t, create.Post, write-repeat-below t, write-repeat.Post, write-match-below t, write-match.Post)
 
 abbrev write-match-calls : ℕ → write-match-lts.Claims
 write-match-calls t = (find-entry-reads.Asked, find-entry-reads.Learnt, wrapping-add-usize-reads.Asked, wrapping-add-usize-reads.Learnt, put-below t, put.Post, create-below t, create.Post)
@@ -123,20 +122,11 @@ write-parts-calls t = (old-base-reads.Asked, old-base-reads.Learnt, ends-of-read
 abbrev write-repeat-calls : ℕ → write-repeat-lts.Claims
 write-repeat-calls t = (ends-of-reads.Asked, ends-of-reads.Learnt, node-reads.Asked, node-reads.Learnt, write-matches-reads.Asked, write-matches-reads.Learnt, write-parts-below t, write-parts.Post)
 
-create-plain-count-requires : (t : ℕ) → create-lts.Need-plain-count-requires (create-calls t) (create-at t) create.Post
-create-plain-count-requires t c κs = below-room (c .before .before .before .before .before .before .before .before .before .pre .1 .0)
+create-asks-none-requires : (t : ℕ) → create-lts.Need-asks-none-requires (create-calls t) (create-at t) create.Post
+create-asks-none-requires t c κs = below-room (c .before .before .before .before .before .before .before .before .before .pre .1 .0)
 
 create-plain-behind-requires : (t : ℕ) → create-lts.Need-plain-behind-requires (create-calls t) (create-at t) create.Post
-create-plain-behind-requires t c κs = (
-  c .before .before .before .before .before .before .before .before .before .before .before .before .before .pre .1 .0,
-  (
-    given-none (c .before .before .before .before .before .before .before .before .before .before .before .before .before .pre .1 .1 .0),
-    (
-      (c .before .before .before .before .before .before .before .before .before .before .before .before .before .pre .1 .1 .1 .0, record { none-shared = c .before .before .before .plain-count .ensures .none-shared (c .before .before .if1 .taken) }),
-      plain-met _ _ (c .before .before .before .before .before .before .before .before .before .before .before .before .before .pre .1 .0 .lens-node) (c .before .before .before .before .before .before .before .before .before .before .before .before .before .pre .1 .0 .below-is) (c .before .before .before .plain-count .ensures) (c .before .before .if1 .taken),
-    ),
-  ),
-)
+create-plain-behind-requires t c κs = (c .before .before .before .before .before .before .before .before .before .before .before .before .before .pre .1 .0, (given-none (c .before .before .before .before .before .before .before .before .before .before .before .before .before .pre .1 .1 .0), (c .before .before .before .before .before .before .before .before .before .before .before .before .before .pre .1 .1 .1 .0, record { none-shared = c .before .before .before .asks-none .ensures .0 (c .before .before .if1 .taken) })))
 
 create-same-length : (t : ℕ) → create-lts.Need-same-length (create-calls t) (create-at t) create.Post
 create-same-length t c = search needs
@@ -148,132 +138,116 @@ create-returns : (t : ℕ) → create-lts.Need-returns (create-calls t) (create-
 unfolding oldText
 create-returns t c = c .before .before .before .before .plain-behind .ensures
 
-create-asks-none-requires : (t : ℕ) → create-lts.Need-asks-none-requires (create-calls t) (create-at t) create.Post
-create-asks-none-requires t c κs = below-room (c .before .before .before .before .before .before .before .before .before .before .before .pre .1 .0)
-
-create-counted-behind-requires : (t : ℕ) → create-lts.Need-counted-behind-requires (create-calls t) (create-at t) create.Post
-create-counted-behind-requires t c κs = (c .before .before .before .before .before .before .before .before .before .before .before .before .before .before .before .pre .1 .0, (given-none (c .before .before .before .before .before .before .before .before .before .before .before .before .before .before .before .pre .1 .1 .0), (c .before .before .before .before .before .before .before .before .before .before .before .before .before .before .before .pre .1 .1 .1 .0, record { none-shared = c .before .before .before .asks-none .ensures .0 (c .before .before .if2 .taken) })))
-
-create-same-length-3 : (t : ℕ) → create-lts.Need-same-length-3 (create-calls t) (create-at t) create.Post
-create-same-length-3 t c = search needs
-
-create-same-length-4 : (t : ℕ) → create-lts.Need-same-length-4 (create-calls t) (create-at t) create.Post
-create-same-length-4 t c = search needs
-
-create-returns-2 : (t : ℕ) → create-lts.Need-returns-2 (create-calls t) (create-at t) create.Post
-unfolding oldText
-create-returns-2 t c = c .before .before .before .before .counted-behind .ensures
-
 create-node-requires : (t : ℕ) → create-lts.Need-node-requires (create-calls t) (create-at t) create.Post
-create-node-requires t c κs = (c .before .before .before .before .before .before .before .before .before .before .before .before .before .pre .1 .0 .lens-node .built .sized, c .before .before .before .before .before .before .before .before .before .before .before .before .before .pre .1 .0 .lens-node .inside)
+create-node-requires t c κs = (c .before .before .before .before .before .before .before .before .before .before .before .pre .1 .0 .lens-node .built .sized, c .before .before .before .before .before .before .before .before .before .before .before .pre .1 .0 .lens-node .inside)
 
 create-enum-known-kind : (t : ℕ) → create-lts.Need-enum-known-kind (create-calls t) (create-at t) create.Post
 create-enum-known-kind t c = search needs
 
 create-cut-sheet-requires : (t : ℕ) → create-lts.Need-cut-sheet-requires (create-calls t) (create-at t) create.Post
 create-cut-sheet-requires t c κs =
-    let known = c .before .before .before .before .before .before .before .before .before .before .before .before .before .before .before .before .before .before .pre .1 .0 .lens-node in
+    let known = c .before .before .before .before .before .before .before .before .before .before .before .before .before .before .before .before .pre .1 .0 .lens-node in
     let s = shown-join (c .before .before .before .before .node .ensures) (c .before .before .kind .given .1) in
-    (node-prepared (left-below known s) Sheet, omega (arith, c .before .before .before .before .before .before .before .before .before .before .before .before .before .before .before .before .before .before .pre .1 .1 .0 .parsed .few))
+    (node-prepared (left-below known s) Sheet, omega (arith, c .before .before .before .before .before .before .before .before .before .before .before .before .before .before .before .before .pre .1 .1 .0 .parsed .few))
 
 create-sub-front : (t : ℕ) → create-lts.Need-sub-front (create-calls t) (create-at t) create.Post
 create-sub-front t c =
-    let known = c .before .before .before .before .before .before .before .before .before .before .before .before .before .before .before .before .before .before .before .pre .1 .0 .lens-node in
+    let known = c .before .before .before .before .before .before .before .before .before .before .before .before .before .before .before .before .before .pre .1 .0 .lens-node in
     let s = shown-join (c .before .before .before .before .before .node .ensures) (c .before .before .before .kind .given .1) in
-    omega (arith, at-inside known s (c .before .before .before .before .before .before .before .before .before .before .before .before .before .before .before .before .before .before .before .pre .1 .1 .0) (c .cut-sheet .ensures))
+    omega (arith, at-inside known s (c .before .before .before .before .before .before .before .before .before .before .before .before .before .before .before .before .before .pre .1 .1 .0) (c .cut-sheet .ensures))
 
 create-part-front-start : (t : ℕ) → create-lts.Need-part-front-start (create-calls t) (create-at t) create.Post
 create-part-front-start t c =
-    let known = c .before .before .before .before .before .before .before .before .before .before .before .before .before .before .before .before .before .before .before .pre .1 .0 .lens-node in
+    let known = c .before .before .before .before .before .before .before .before .before .before .before .before .before .before .before .before .before .pre .1 .0 .lens-node in
     let s = shown-join (c .before .before .before .before .before .node .ensures) (c .before .before .before .kind .given .1) in
-    omega (arith, at-inside known s (c .before .before .before .before .before .before .before .before .before .before .before .before .before .before .before .before .before .before .before .pre .1 .1 .0) (c .cut-sheet .ensures))
+    omega (arith, at-inside known s (c .before .before .before .before .before .before .before .before .before .before .before .before .before .before .before .before .before .pre .1 .1 .0) (c .cut-sheet .ensures))
 
 create-part-front-end : (t : ℕ) → create-lts.Need-part-front-end (create-calls t) (create-at t) create.Post
 create-part-front-end t c =
-    let known = c .before .before .before .before .before .before .before .before .before .before .before .before .before .before .before .before .before .before .before .pre .1 .0 .lens-node in
+    let known = c .before .before .before .before .before .before .before .before .before .before .before .before .before .before .before .before .before .pre .1 .0 .lens-node in
     let s = shown-join (c .before .before .before .before .before .node .ensures) (c .before .before .before .kind .given .1) in
-    omega (arith, at-inside known s (c .before .before .before .before .before .before .before .before .before .before .before .before .before .before .before .before .before .before .before .pre .1 .1 .0) (c .cut-sheet .ensures))
+    omega (arith, at-inside known s (c .before .before .before .before .before .before .before .before .before .before .before .before .before .before .before .before .before .pre .1 .1 .0) (c .cut-sheet .ensures))
 
 create-sub-track : (t : ℕ) → create-lts.Need-sub-track (create-calls t) (create-at t) create.Post
 create-sub-track t c =
-    let known = c .before .before .before .before .before .before .before .before .before .before .before .before .before .before .before .before .before .before .before .before .pre .1 .0 .lens-node in
+    let known = c .before .before .before .before .before .before .before .before .before .before .before .before .before .before .before .before .before .before .pre .1 .0 .lens-node in
     let s = shown-join (c .before .before .before .before .before .before .node .ensures) (c .before .before .before .before .kind .given .1) in
-    omega (arith, at-inside known s (c .before .before .before .before .before .before .before .before .before .before .before .before .before .before .before .before .before .before .before .before .pre .1 .1 .0) (c .before .cut-sheet .ensures))
+    omega (arith, at-inside known s (c .before .before .before .before .before .before .before .before .before .before .before .before .before .before .before .before .before .before .pre .1 .1 .0) (c .before .cut-sheet .ensures))
 
 create-part-track-start : (t : ℕ) → create-lts.Need-part-track-start (create-calls t) (create-at t) create.Post
 create-part-track-start t c =
-    let known = c .before .before .before .before .before .before .before .before .before .before .before .before .before .before .before .before .before .before .before .before .pre .1 .0 .lens-node in
+    let known = c .before .before .before .before .before .before .before .before .before .before .before .before .before .before .before .before .before .before .pre .1 .0 .lens-node in
     let s = shown-join (c .before .before .before .before .before .before .node .ensures) (c .before .before .before .before .kind .given .1) in
-    omega (arith, at-inside known s (c .before .before .before .before .before .before .before .before .before .before .before .before .before .before .before .before .before .before .before .before .pre .1 .1 .0) (c .before .cut-sheet .ensures))
+    omega (arith, at-inside known s (c .before .before .before .before .before .before .before .before .before .before .before .before .before .before .before .before .before .before .pre .1 .1 .0) (c .before .cut-sheet .ensures))
 
 create-part-track-end : (t : ℕ) → create-lts.Need-part-track-end (create-calls t) (create-at t) create.Post
 create-part-track-end t c =
-    let known = c .before .before .before .before .before .before .before .before .before .before .before .before .before .before .before .before .before .before .before .before .pre .1 .0 .lens-node in
+    let known = c .before .before .before .before .before .before .before .before .before .before .before .before .before .before .before .before .before .before .pre .1 .0 .lens-node in
     let s = shown-join (c .before .before .before .before .before .before .node .ensures) (c .before .before .before .before .kind .given .1) in
-    omega (arith, at-inside known s (c .before .before .before .before .before .before .before .before .before .before .before .before .before .before .before .before .before .before .before .before .pre .1 .1 .0) (c .before .cut-sheet .ensures))
+    omega (arith, at-inside known s (c .before .before .before .before .before .before .before .before .before .before .before .before .before .before .before .before .before .before .pre .1 .1 .0) (c .before .cut-sheet .ensures))
 
 create-create-requires : (t : ℕ) → create-lts.Need-create-requires (create-calls t) (create-at t) create.Post
 create-create-requires t c κs =
-    let known = c .before .before .before .before .before .before .before .before .before .before .before .before .before .before .before .before .before .before .before .before .before .before .before .pre .1 .0 .lens-node in
+    let known = c .before .before .before .before .before .before .before .before .before .before .before .before .before .before .before .before .before .before .before .before .before .pre .1 .0 .lens-node in
     let s = shown-join (c .before .before .before .before .before .before .before .before .before .node .ensures) (c .before .before .before .before .before .before .before .kind .given .1) in
     let cut-is = c .before .before .before .before .cut-sheet .ensures in (
-      omega (arith, c .before .before .before .before .before .before .before .before .before .before .before .before .before .before .before .before .before .before .before .before .before .before .before .pre .0, halves-lower known s (c .before .before .before .before .before .before .before .before .before .before .before .before .before .before .before .before .before .before .before .before .before .before .before .pre .1 .1 .0) cut-is),
+      omega (arith, c .before .before .before .before .before .before .before .before .before .before .before .before .before .before .before .before .before .before .before .before .before .pre .0, halves-lower known s (c .before .before .before .before .before .before .before .before .before .before .before .before .before .before .before .before .before .before .before .before .before .pre .1 .1 .0) cut-is),
       (
-        ready-below (c .before .before .before .before .before .before .before .before .before .before .before .before .before .before .before .before .before .before .before .before .before .before .before .pre .1 .0) (near-known known s (c .before .before .before .before .before .before .before .before .before .before .before .before .before .before .before .before .before .before .before .before .before .before .before .pre .1 .1 .0) cut-is),
-        (near-given known s (c .before .before .before .before .before .before .before .before .before .before .before .before .before .before .before .before .before .before .before .before .before .before .before .pre .1 .1 .0) cut-is, c .before .before .before .before .before .before .before .before .before .before .before .before .before .before .before .before .before .before .before .before .before .before .before .pre .1 .1 .1),
+        ready-below (c .before .before .before .before .before .before .before .before .before .before .before .before .before .before .before .before .before .before .before .before .before .pre .1 .0) (near-known known s (c .before .before .before .before .before .before .before .before .before .before .before .before .before .before .before .before .before .before .before .before .before .pre .1 .1 .0) cut-is),
+        (near-given known s (c .before .before .before .before .before .before .before .before .before .before .before .before .before .before .before .before .before .before .before .before .before .pre .1 .1 .0) cut-is, c .before .before .before .before .before .before .before .before .before .before .before .before .before .before .before .before .before .before .before .before .before .pre .1 .1 .1),
       ),
     )
 
 create-sub-back : (t : ℕ) → create-lts.Need-sub-back (create-calls t) (create-at t) create.Post
 create-sub-back t c =
-    let known = c .before .before .before .before .before .before .before .before .before .before .before .before .before .before .before .before .before .before .before .before .before .before .before .before .before .before .before .before .before .before .pre .1 .0 .lens-node in
+    let known = c .before .before .before .before .before .before .before .before .before .before .before .before .before .before .before .before .before .before .before .before .before .before .before .before .before .before .before .before .pre .1 .0 .lens-node in
     let s = shown-join (c .before .before .before .before .before .before .before .before .before .before .before .before .before .before .before .before .node .ensures) (c .before .before .before .before .before .before .before .before .before .before .before .before .before .before .kind .given .1) in
-    omega (arith, at-inside known s (c .before .before .before .before .before .before .before .before .before .before .before .before .before .before .before .before .before .before .before .before .before .before .before .before .before .before .before .before .before .before .pre .1 .1 .0) (c .before .before .before .before .before .before .before .before .before .before .before .cut-sheet .ensures))
+    omega (arith, at-inside known s (c .before .before .before .before .before .before .before .before .before .before .before .before .before .before .before .before .before .before .before .before .before .before .before .before .before .before .before .before .pre .1 .1 .0) (c .before .before .before .before .before .before .before .before .before .before .before .cut-sheet .ensures))
 
 create-part-back-start : (t : ℕ) → create-lts.Need-part-back-start (create-calls t) (create-at t) create.Post
 create-part-back-start t c =
-    let known = c .before .before .before .before .before .before .before .before .before .before .before .before .before .before .before .before .before .before .before .before .before .before .before .before .before .before .before .before .before .before .pre .1 .0 .lens-node in
+    let known = c .before .before .before .before .before .before .before .before .before .before .before .before .before .before .before .before .before .before .before .before .before .before .before .before .before .before .before .before .pre .1 .0 .lens-node in
     let s = shown-join (c .before .before .before .before .before .before .before .before .before .before .before .before .before .before .before .before .node .ensures) (c .before .before .before .before .before .before .before .before .before .before .before .before .before .before .kind .given .1) in
-    omega (arith, at-inside known s (c .before .before .before .before .before .before .before .before .before .before .before .before .before .before .before .before .before .before .before .before .before .before .before .before .before .before .before .before .before .before .pre .1 .1 .0) (c .before .before .before .before .before .before .before .before .before .before .before .cut-sheet .ensures))
+    omega (arith, at-inside known s (c .before .before .before .before .before .before .before .before .before .before .before .before .before .before .before .before .before .before .before .before .before .before .before .before .before .before .before .before .pre .1 .1 .0) (c .before .before .before .before .before .before .before .before .before .before .before .cut-sheet .ensures))
 
 create-part-back-end : (t : ℕ) → create-lts.Need-part-back-end (create-calls t) (create-at t) create.Post
 create-part-back-end t c =
-    let known = c .before .before .before .before .before .before .before .before .before .before .before .before .before .before .before .before .before .before .before .before .before .before .before .before .before .before .before .before .before .before .pre .1 .0 .lens-node in
+    let known = c .before .before .before .before .before .before .before .before .before .before .before .before .before .before .before .before .before .before .before .before .before .before .before .before .before .before .before .before .pre .1 .0 .lens-node in
     let s = shown-join (c .before .before .before .before .before .before .before .before .before .before .before .before .before .before .before .before .node .ensures) (c .before .before .before .before .before .before .before .before .before .before .before .before .before .before .kind .given .1) in
-    omega (arith, at-inside known s (c .before .before .before .before .before .before .before .before .before .before .before .before .before .before .before .before .before .before .before .before .before .before .before .before .before .before .before .before .before .before .pre .1 .1 .0) (c .before .before .before .before .before .before .before .before .before .before .before .cut-sheet .ensures))
+    omega (arith, at-inside known s (c .before .before .before .before .before .before .before .before .before .before .before .before .before .before .before .before .before .before .before .before .before .before .before .before .before .before .before .before .pre .1 .1 .0) (c .before .before .before .before .before .before .before .before .before .before .before .cut-sheet .ensures))
 
 create-sub-track-2 : (t : ℕ) → create-lts.Need-sub-track-2 (create-calls t) (create-at t) create.Post
 create-sub-track-2 t c =
-    let known = c .before .before .before .before .before .before .before .before .before .before .before .before .before .before .before .before .before .before .before .before .before .before .before .before .before .before .before .before .before .before .before .pre .1 .0 .lens-node in
+    let known = c .before .before .before .before .before .before .before .before .before .before .before .before .before .before .before .before .before .before .before .before .before .before .before .before .before .before .before .before .before .pre .1 .0 .lens-node in
     let s = shown-join (c .before .before .before .before .before .before .before .before .before .before .before .before .before .before .before .before .before .node .ensures) (c .before .before .before .before .before .before .before .before .before .before .before .before .before .before .before .kind .given .1) in
     let cut-is = c .before .before .before .before .before .before .before .before .before .before .before .before .cut-sheet .ensures in
-    omega (arith, at-inside known s (c .before .before .before .before .before .before .before .before .before .before .before .before .before .before .before .before .before .before .before .before .before .before .before .before .before .before .before .before .before .before .before .pre .1 .1 .0) cut-is, left-back known s (c .before .before .before .before .before .before .before .before .before .before .before .before .before .before .before .before .before .before .before .before .before .before .before .before .before .before .before .before .before .before .before .pre .1 .1 .0) cut-is (c .before .before .before .before .before .before .before .create .last .1 .1 .1 .1 .1 .0) (c .before .before .before .before .before .before .before .create .kept .1 .1 .1 .1 .1 .0))
+    omega (arith, at-inside known s (c .before .before .before .before .before .before .before .before .before .before .before .before .before .before .before .before .before .before .before .before .before .before .before .before .before .before .before .before .before .pre .1 .1 .0) cut-is, left-back known s (c .before .before .before .before .before .before .before .before .before .before .before .before .before .before .before .before .before .before .before .before .before .before .before .before .before .before .before .before .before .pre .1 .1 .0) cut-is (c .before .before .before .before .before .before .before .create .last .1 .1 .1 .1 .1 .0) (c .before .before .before .before .before .before .before .create .kept .1 .1 .1 .1 .1 .0))
 
 create-part-track-start-2 : (t : ℕ) → create-lts.Need-part-track-start-2 (create-calls t) (create-at t) create.Post
 create-part-track-start-2 t c =
-    let known = c .before .before .before .before .before .before .before .before .before .before .before .before .before .before .before .before .before .before .before .before .before .before .before .before .before .before .before .before .before .before .before .pre .1 .0 .lens-node in
+    let known = c .before .before .before .before .before .before .before .before .before .before .before .before .before .before .before .before .before .before .before .before .before .before .before .before .before .before .before .before .before .pre .1 .0 .lens-node in
     let s = shown-join (c .before .before .before .before .before .before .before .before .before .before .before .before .before .before .before .before .before .node .ensures) (c .before .before .before .before .before .before .before .before .before .before .before .before .before .before .before .kind .given .1) in
     let cut-is = c .before .before .before .before .before .before .before .before .before .before .before .before .cut-sheet .ensures in
-    omega (arith, at-inside known s (c .before .before .before .before .before .before .before .before .before .before .before .before .before .before .before .before .before .before .before .before .before .before .before .before .before .before .before .before .before .before .before .pre .1 .1 .0) cut-is, left-back known s (c .before .before .before .before .before .before .before .before .before .before .before .before .before .before .before .before .before .before .before .before .before .before .before .before .before .before .before .before .before .before .before .pre .1 .1 .0) cut-is (c .before .before .before .before .before .before .before .create .last .1 .1 .1 .1 .1 .0) (c .before .before .before .before .before .before .before .create .kept .1 .1 .1 .1 .1 .0))
+    omega (arith, at-inside known s (c .before .before .before .before .before .before .before .before .before .before .before .before .before .before .before .before .before .before .before .before .before .before .before .before .before .before .before .before .before .pre .1 .1 .0) cut-is, left-back known s (c .before .before .before .before .before .before .before .before .before .before .before .before .before .before .before .before .before .before .before .before .before .before .before .before .before .before .before .before .before .pre .1 .1 .0) cut-is (c .before .before .before .before .before .before .before .create .last .1 .1 .1 .1 .1 .0) (c .before .before .before .before .before .before .before .create .kept .1 .1 .1 .1 .1 .0))
 
 create-part-track-end-2 : (t : ℕ) → create-lts.Need-part-track-end-2 (create-calls t) (create-at t) create.Post
 create-part-track-end-2 t c =
-    let known = c .before .before .before .before .before .before .before .before .before .before .before .before .before .before .before .before .before .before .before .before .before .before .before .before .before .before .before .before .before .before .before .pre .1 .0 .lens-node in
+    let known = c .before .before .before .before .before .before .before .before .before .before .before .before .before .before .before .before .before .before .before .before .before .before .before .before .before .before .before .before .before .pre .1 .0 .lens-node in
     let s = shown-join (c .before .before .before .before .before .before .before .before .before .before .before .before .before .before .before .before .before .node .ensures) (c .before .before .before .before .before .before .before .before .before .before .before .before .before .before .before .kind .given .1) in
     let cut-is = c .before .before .before .before .before .before .before .before .before .before .before .before .cut-sheet .ensures in
-    omega (arith, at-inside known s (c .before .before .before .before .before .before .before .before .before .before .before .before .before .before .before .before .before .before .before .before .before .before .before .before .before .before .before .before .before .before .before .pre .1 .1 .0) cut-is, left-back known s (c .before .before .before .before .before .before .before .before .before .before .before .before .before .before .before .before .before .before .before .before .before .before .before .before .before .before .before .before .before .before .before .pre .1 .1 .0) cut-is (c .before .before .before .before .before .before .before .create .last .1 .1 .1 .1 .1 .0) (c .before .before .before .before .before .before .before .create .kept .1 .1 .1 .1 .1 .0))
+    omega (arith, at-inside known s (c .before .before .before .before .before .before .before .before .before .before .before .before .before .before .before .before .before .before .before .before .before .before .before .before .before .before .before .before .before .pre .1 .1 .0) cut-is, left-back known s (c .before .before .before .before .before .before .before .before .before .before .before .before .before .before .before .before .before .before .before .before .before .before .before .before .before .before .before .before .before .pre .1 .1 .0) cut-is (c .before .before .before .before .before .before .before .create .last .1 .1 .1 .1 .1 .0) (c .before .before .before .before .before .before .before .create .kept .1 .1 .1 .1 .1 .0))
 
 create-create-requires-2 : (t : ℕ) → create-lts.Need-create-requires-2 (create-calls t) (create-at t) create.Post
 create-create-requires-2 t c κs =
-    let known = c .before .before .before .before .before .before .before .before .before .before .before .before .before .before .before .before .before .before .before .before .before .before .before .before .before .before .before .before .before .before .before .before .before .before .pre .1 .0 .lens-node in
+    let known = c .before .before .before .before .before .before .before .before .before .before .before .before .before .before .before .before .before .before .before .before .before .before .before .before .before .before .before .before .before .before .before .before .pre .1 .0 .lens-node in
     let s = shown-join (c .before .before .before .before .before .before .before .before .before .before .before .before .before .before .before .before .before .before .before .before .node .ensures) (c .before .before .before .before .before .before .before .before .before .before .before .before .before .before .before .before .before .before .kind .given .1) in
     let cut-is = c .before .before .before .before .before .before .before .before .before .before .before .before .before .before .before .cut-sheet .ensures in
-    let near = near-known known s (c .before .before .before .before .before .before .before .before .before .before .before .before .before .before .before .before .before .before .before .before .before .before .before .before .before .before .before .before .before .before .before .before .before .before .pre .1 .1 .0) cut-is in
-    let left = behind-left (c .before .before .before .before .before .before .before .before .before .before .before .before .before .before .before .before .before .before .before .before .before .before .before .before .before .before .before .before .before .before .before .before .before .before .pre .1 .0 .looks-in .over) (c .before .before .before .before .before .before .before .before .before .before .before .before .before .before .before .before .before .before .before .before .before .before .before .before .before .before .before .before .before .before .before .before .before .before .pre .1 .1 .1 .0) (c .before .before .before .before .before .before .before .before .before .before .create .ensures .writes (near .tree) (near .tree-is)) in (
-      omega (arith, c .before .before .before .before .before .before .before .before .before .before .before .before .before .before .before .before .before .before .before .before .before .before .before .before .before .before .before .before .before .before .before .before .before .before .pre .0, halves-lower known s (c .before .before .before .before .before .before .before .before .before .before .before .before .before .before .before .before .before .before .before .before .before .before .before .before .before .before .before .before .before .before .before .before .before .before .pre .1 .1 .0) cut-is),
+    let near = near-known known s (c .before .before .before .before .before .before .before .before .before .before .before .before .before .before .before .before .before .before .before .before .before .before .before .before .before .before .before .before .before .before .before .before .pre .1 .1 .0) cut-is in
+    let left = behind-left (c .before .before .before .before .before .before .before .before .before .before .before .before .before .before .before .before .before .before .before .before .before .before .before .before .before .before .before .before .before .before .before .before .pre .1 .0 .looks-in .over) (c .before .before .before .before .before .before .before .before .before .before .before .before .before .before .before .before .before .before .before .before .before .before .before .before .before .before .before .before .before .before .before .before .pre .1 .1 .1 .0) (c .before .before .before .before .before .before .before .before .before .before .create .ensures .writes (near .tree) (near .tree-is)) in (
+      omega (arith, c .before .before .before .before .before .before .before .before .before .before .before .before .before .before .before .before .before .before .before .before .before .before .before .before .before .before .before .before .before .before .before .before .pre .0, halves-lower known s (c .before .before .before .before .before .before .before .before .before .before .before .before .before .before .before .before .before .before .before .before .before .before .before .before .before .before .before .before .before .before .before .before .pre .1 .1 .0) cut-is),
       (
-        ready-left (c .before .before .before .before .before .before .before .before .before .before .before .before .before .before .before .before .before .before .before .before .before .before .before .before .before .before .before .before .before .before .before .before .before .before .pre .1 .0) (far-known known s (c .before .before .before .before .before .before .before .before .before .before .before .before .before .before .before .before .before .before .before .before .before .before .before .before .before .before .before .before .before .before .before .before .before .before .pre .1 .1 .0) cut-is) (left .over) (left .same-entries),
-        (far-given known s (c .before .before .before .before .before .before .before .before .before .before .before .before .before .before .before .before .before .before .before .before .before .before .before .before .before .before .before .before .before .before .before .before .before .before .pre .1 .1 .0) cut-is (c .before .before .before .before .before .before .before .before .before .before .create .last .1 .1 .1 .1 .1 .0) (c .before .before .before .before .before .before .before .before .before .before .create .kept .1 .1 .1 .1 .1 .0), (left .within, c .before .before .before .before .before .before .before .before .before .before .create .kept .1 .1 .1 .1 .1 .1 .1 .1 .0 ∙ c .before .before .before .before .before .before .before .before .before .before .before .before .before .before .before .before .before .before .before .before .before .before .before .before .before .before .before .before .before .before .before .before .before .before .pre .1 .1 .1 .1)),
+        ready-left (c .before .before .before .before .before .before .before .before .before .before .before .before .before .before .before .before .before .before .before .before .before .before .before .before .before .before .before .before .before .before .before .before .pre .1 .0) (far-known known s (c .before .before .before .before .before .before .before .before .before .before .before .before .before .before .before .before .before .before .before .before .before .before .before .before .before .before .before .before .before .before .before .before .pre .1 .1 .0) cut-is) (left .over) (left .same-entries),
+        (far-given known s (c .before .before .before .before .before .before .before .before .before .before .before .before .before .before .before .before .before .before .before .before .before .before .before .before .before .before .before .before .before .before .before .before .pre .1 .1 .0) cut-is (c .before .before .before .before .before .before .before .before .before .before .create .last .1 .1 .1 .1 .1 .0) (c .before .before .before .before .before .before .before .before .before .before .create .kept .1 .1 .1 .1 .1 .0), (left .within, c .before .before .before .before .before .before .before .before .before .before .create .kept .1 .1 .1 .1 .1 .1 .1 .1 .0 ∙ c .before .before .before .before .before .before .before .before .before .before .before .before .before .before .before .before .before .before .before .before .before .before .before .before .before .before .before .before .before .before .before .before .pre .1 .1 .1 .1)),
       ),
     )
 
@@ -282,23 +256,23 @@ create-enum-known-kind-2 t c = search needs
 
 create-choose-new-requires : (t : ℕ) → create-lts.Need-choose-new-requires (create-calls t) (create-at t) create.Post
 create-choose-new-requires t c κs =
-    let known = c .before .before .before .before .before .before .before .before .before .before .before .before .before .before .before .before .before .before .pre .1 .0 .lens-node in
+    let known = c .before .before .before .before .before .before .before .before .before .before .before .before .before .before .before .before .pre .1 .0 .lens-node in
     let s = shown-union (c .before .before .before .before .node .ensures) (c .before .before .kind2 .given .1) in
-    (node-prepared (left-below known s) Sheet, omega (arith, c .before .before .before .before .before .before .before .before .before .before .before .before .before .before .before .before .before .before .pre .1 .1 .0 .parsed .few))
+    (node-prepared (left-below known s) Sheet, omega (arith, c .before .before .before .before .before .before .before .before .before .before .before .before .before .before .before .before .pre .1 .1 .0 .parsed .few))
 
 create-create-requires-3 : (t : ℕ) → create-lts.Need-create-requires-3 (create-calls t) (create-at t) create.Post
 create-create-requires-3 t c κs =
     let s = shown-union (c .before .before .before .before .before .before .before .before .node .ensures) (c .before .before .before .before .before .before .kind2 .given .1) in
-    let arm = new-arm (c .before .before .before .before .before .before .before .before .before .before .before .before .before .before .before .before .before .before .before .before .before .before .pre .1 .0 .lens-node) s (c .before .before .before .before .before .before .before .before .before .before .before .before .before .before .before .before .before .before .before .before .before .before .pre .1 .1 .0) (c .before .before .before .choose-new .ensures) in
-    (omega (arith, c .before .before .before .before .before .before .before .before .before .before .before .before .before .before .before .before .before .before .before .before .before .before .pre .0, arm .lower), (arm-ready arm (c .before .before .before .before .before .before .before .before .before .before .before .before .before .before .before .before .before .before .before .before .before .before .pre .1 .0), (arm-given arm (c .before .before .before .before .before .before .before .before .before .before .before .before .before .before .before .before .before .before .before .before .before .before .pre .1 .1 .0), c .before .before .before .before .before .before .before .before .before .before .before .before .before .before .before .before .before .before .before .before .before .before .pre .1 .1 .1)))
+    let arm = new-arm (c .before .before .before .before .before .before .before .before .before .before .before .before .before .before .before .before .before .before .before .before .pre .1 .0 .lens-node) s (c .before .before .before .before .before .before .before .before .before .before .before .before .before .before .before .before .before .before .before .before .pre .1 .1 .0) (c .before .before .before .choose-new .ensures) in
+    (omega (arith, c .before .before .before .before .before .before .before .before .before .before .before .before .before .before .before .before .before .before .before .before .pre .0, arm .lower), (arm-ready arm (c .before .before .before .before .before .before .before .before .before .before .before .before .before .before .before .before .before .before .before .before .pre .1 .0), (arm-given arm (c .before .before .before .before .before .before .before .before .before .before .before .before .before .before .before .before .before .before .before .before .pre .1 .1 .0), c .before .before .before .before .before .before .before .before .before .before .before .before .before .before .before .before .before .before .before .before .pre .1 .1 .1)))
 
 create-enum-known-kind-3 : (t : ℕ) → create-lts.Need-enum-known-kind-3 (create-calls t) (create-at t) create.Post
 create-enum-known-kind-3 t c = search needs
 
 create-write-repeat-requires : (t : ℕ) → create-lts.Need-write-repeat-requires (create-calls t) (create-at t) create.Post
 create-write-repeat-requires t c κs = (
-  omega (arith, c .before .before .before .before .before .before .before .before .before .before .before .before .before .before .before .before .before .before .before .before .pre .0),
-  (c .before .before .before .before .before .before .before .before .before .before .before .before .before .before .before .before .before .before .before .before .pre .1 .0, (shown-repeat (c .before .before .before .before .before .before .node .ensures) (c .before .before .before .before .kind3 .given .1), (given-none (c .before .before .before .before .before .before .before .before .before .before .before .before .before .before .before .before .before .before .before .before .pre .1 .1 .0), c .before .before .before .before .before .before .before .before .before .before .before .before .before .before .before .before .before .before .before .before .pre .1 .1 .1))),
+  omega (arith, c .before .before .before .before .before .before .before .before .before .before .before .before .before .before .before .before .before .before .pre .0),
+  (c .before .before .before .before .before .before .before .before .before .before .before .before .before .before .before .before .before .before .pre .1 .0, (shown-repeat (c .before .before .before .before .before .before .node .ensures) (c .before .before .before .before .kind3 .given .1), (given-none (c .before .before .before .before .before .before .before .before .before .before .before .before .before .before .before .before .before .before .pre .1 .1 .0), c .before .before .before .before .before .before .before .before .before .before .before .before .before .before .before .before .before .before .pre .1 .1 .1))),
 )
 
 create-enum-known-kind-4 : (t : ℕ) → create-lts.Need-enum-known-kind-4 (create-calls t) (create-at t) create.Post
@@ -307,43 +281,51 @@ create-enum-known-kind-4 t c = search needs
 create-write-match-requires : (t : ℕ) → create-lts.Need-write-match-requires (create-calls t) (create-at t) create.Post
 create-write-match-requires t c κs =
     let s = shown-match (c .before .before .before .before .before .before .node .ensures) (c .before .before .before .before .kind4 .given .1) in (
-      omega (arith, c .before .before .before .before .before .before .before .before .before .before .before .before .before .before .before .before .before .before .before .before .pre .0, s .lower),
-      (ready-below (c .before .before .before .before .before .before .before .before .before .before .before .before .before .before .before .before .before .before .before .before .pre .1 .0) (child-below (c .before .before .before .before .before .before .before .before .before .before .before .before .before .before .before .before .before .before .before .before .pre .1 .0 .lens-node) s), ((given-match (c .before .before .before .before .before .before .before .before .before .before .before .before .before .before .before .before .before .before .before .before .pre .1 .1 .0) s, inner-flat (c .before .before .before .before .before .before .before .before .before .before .before .before .before .before .before .before .before .before .before .before .pre .1 .0 .lens-node) s), c .before .before .before .before .before .before .before .before .before .before .before .before .before .before .before .before .before .before .before .before .pre .1 .1 .1)),
+      omega (arith, c .before .before .before .before .before .before .before .before .before .before .before .before .before .before .before .before .before .before .pre .0, s .lower),
+      (ready-below (c .before .before .before .before .before .before .before .before .before .before .before .before .before .before .before .before .before .before .pre .1 .0) (child-below (c .before .before .before .before .before .before .before .before .before .before .before .before .before .before .before .before .before .before .pre .1 .0 .lens-node) s), ((given-match (c .before .before .before .before .before .before .before .before .before .before .before .before .before .before .before .before .before .before .pre .1 .1 .0) s, inner-flat (c .before .before .before .before .before .before .before .before .before .before .before .before .before .before .before .before .before .before .pre .1 .0 .lens-node) s), c .before .before .before .before .before .before .before .before .before .before .before .before .before .before .before .before .before .before .pre .1 .1 .1)),
     )
 
 create-plain-behind-requires-2 : (t : ℕ) → create-lts.Need-plain-behind-requires-2 (create-calls t) (create-at t) create.Post
 create-plain-behind-requires-2 t c κs = (
-  c .before .before .before .before .before .before .before .before .before .before .before .before .before .before .before .before .before .pre .1 .0,
+  c .before .before .before .before .before .before .before .before .before .before .before .before .before .before .before .pre .1 .0,
   (
-    given-none (c .before .before .before .before .before .before .before .before .before .before .before .before .before .before .before .before .before .pre .1 .1 .0),
-    (
-      (c .before .before .before .before .before .before .before .before .before .before .before .before .before .before .before .before .before .pre .1 .1 .1 .0, leaf-asks-none (c .before .before .before .before .before .before .before .before .before .before .before .before .before .before .before .before .before .pre .1 .0 .lens-node) (c .before .before .before .node .ensures) (c .before .before .before .before .before .before .before .before .before .before .before .before .before .before .before .before .before .pre .1 .0 .below-is) (c .before .before .match .keys5)),
-      leaf-met (c .before .before .before .before .before .before .before .before .before .before .before .before .before .before .before .before .before .pre .1 .0 .lens-node) (c .before .before .before .node .ensures) _ _ (c .before .before .match .keys5),
-    ),
+    given-none (c .before .before .before .before .before .before .before .before .before .before .before .before .before .before .before .pre .1 .1 .0),
+    (c .before .before .before .before .before .before .before .before .before .before .before .before .before .before .before .pre .1 .1 .1 .0, leaf-asks-none (c .before .before .before .before .before .before .before .before .before .before .before .before .before .before .before .pre .1 .0 .lens-node) (c .before .before .before .node .ensures) (c .before .before .before .before .before .before .before .before .before .before .before .before .before .before .before .pre .1 .0 .below-is) (c .before .before .match .keys5)),
   ),
 )
 
-create-same-length-5 : (t : ℕ) → create-lts.Need-same-length-5 (create-calls t) (create-at t) create.Post
-create-same-length-5 t c =
-    let known = c .before .before .before .before .before .before .before .before .before .before .before .before .before .before .before .before .before .before .before .before .before .before .before .before .before .before .before .before .before .before .before .before .before .before .before .before .before .before .before .before .before .pre .1 .0 .lens-node in
+create-same-length-3 : (t : ℕ) → create-lts.Need-same-length-3 (create-calls t) (create-at t) create.Post
+create-same-length-3 t c =
+    let known = c .before .before .before .before .before .before .before .before .before .before .before .before .before .before .before .before .before .before .before .before .before .before .before .before .before .before .before .before .before .before .before .before .before .before .before .before .before .before .before .pre .1 .0 .lens-node in
     let s = shown-join (c .before .before .before .before .before .before .before .before .before .before .before .before .before .before .before .before .before .before .before .before .before .before .before .before .before .before .before .node .ensures) (c .before .before .before .before .before .before .before .before .before .before .before .before .before .before .before .before .before .before .before .before .before .before .before .before .before .kind .given .1) in
-    right-back known s (c .before .before .before .before .before .before .before .before .before .before .before .before .before .before .before .before .before .before .before .before .before .before .before .before .before .before .before .before .before .before .before .before .before .before .before .before .before .before .before .before .before .pre .1 .1 .0) (c .before .before .before .before .before .before .before .before .before .before .before .before .before .before .before .before .before .before .before .before .before .before .cut-sheet .ensures) (c .before .before .before .before .before .before .before .before .before .before .before .before .before .before .before .before .before .create .last .1 .1 .1 .1 .1 .0) (c .before .before .before .before .before .before .create2 .last .1 .1 .1 .1 .1 .0) (c .before .before .before .before .before .before .before .before .before .before .before .before .before .before .before .before .before .create .kept .1 .1 .1 .1 .1 .0) (c .before .before .before .before .before .before .create2 .kept .1 .1 .1 .1 .1 .0)
+    right-back known s (c .before .before .before .before .before .before .before .before .before .before .before .before .before .before .before .before .before .before .before .before .before .before .before .before .before .before .before .before .before .before .before .before .before .before .before .before .before .before .before .pre .1 .1 .0) (c .before .before .before .before .before .before .before .before .before .before .before .before .before .before .before .before .before .before .before .before .before .before .cut-sheet .ensures) (c .before .before .before .before .before .before .before .before .before .before .before .before .before .before .before .before .before .create .last .1 .1 .1 .1 .1 .0) (c .before .before .before .before .before .before .create2 .last .1 .1 .1 .1 .1 .0) (c .before .before .before .before .before .before .before .before .before .before .before .before .before .before .before .before .before .create .kept .1 .1 .1 .1 .1 .0) (c .before .before .before .before .before .before .create2 .kept .1 .1 .1 .1 .1 .0)
 
-create-same-length-6 : (t : ℕ) → create-lts.Need-same-length-6 (create-calls t) (create-at t) create.Post
-create-same-length-6 t c = c .before .before .before .before .before .before .create2 .kept .1 .1 .1 .1 .1 .1 .1 .1 .0 ∙ c .before .before .before .before .before .before .before .before .before .before .before .before .before .before .before .before .before .create .kept .1 .1 .1 .1 .1 .1 .1 .1 .0
+create-same-length-4 : (t : ℕ) → create-lts.Need-same-length-4 (create-calls t) (create-at t) create.Post
+create-same-length-4 t c = c .before .before .before .before .before .before .create2 .kept .1 .1 .1 .1 .1 .1 .1 .1 .0 ∙ c .before .before .before .before .before .before .before .before .before .before .before .before .before .before .before .before .before .create .kept .1 .1 .1 .1 .1 .1 .1 .1 .0
 
-create-same-length-7 : (t : ℕ) → create-lts.Need-same-length-7 (create-calls t) (create-at t) create.Post
-create-same-length-7 t c = c .before .before .before .before .before .before .create2 .kept .1 .1 .1 .1 .1 .1 .1 .1 .1 .0 ∙ c .before .before .before .before .before .before .before .before .before .before .before .before .before .before .before .before .before .create .kept .1 .1 .1 .1 .1 .1 .1 .1 .1 .0
+create-same-length-5 : (t : ℕ) → create-lts.Need-same-length-5 (create-calls t) (create-at t) create.Post
+create-same-length-5 t c = c .before .before .before .before .before .before .create2 .kept .1 .1 .1 .1 .1 .1 .1 .1 .1 .0 ∙ c .before .before .before .before .before .before .before .before .before .before .before .before .before .before .before .before .before .create .kept .1 .1 .1 .1 .1 .1 .1 .1 .1 .0
 
-create-returns-3 : (t : ℕ) → create-lts.Need-returns-3 (create-calls t) (create-at t) create.Post
-create-returns-3 t c =
-    let known = c .before .before .before .before .before .before .before .before .before .before .before .before .before .before .before .before .before .before .before .before .before .before .before .before .before .before .before .before .before .before .before .before .before .before .before .before .before .before .before .before .before .pre .1 .0 .lens-node in
+create-returns-2 : (t : ℕ) → create-lts.Need-returns-2 (create-calls t) (create-at t) create.Post
+create-returns-2 t c =
+    let known = c .before .before .before .before .before .before .before .before .before .before .before .before .before .before .before .before .before .before .before .before .before .before .before .before .before .before .before .before .before .before .before .before .before .before .before .before .before .before .before .pre .1 .0 .lens-node in
     let s = shown-join (c .before .before .before .before .before .before .before .before .before .before .before .before .before .before .before .before .before .before .before .before .before .before .before .before .before .before .before .node .ensures) (c .before .before .before .before .before .before .before .before .before .before .before .before .before .before .before .before .before .before .before .before .before .before .before .before .before .kind .given .1) in
     let cut-is = c .before .before .before .before .before .before .before .before .before .before .before .before .before .before .before .before .before .before .before .before .before .before .cut-sheet .ensures in
-    join-created known s (c .before .before .before .before .before .before .before .before .before .before .before .before .before .before .before .before .before .before .before .before .before .before .before .before .before .before .before .before .before .before .before .before .before .before .before .before .before .before .before .before .before .pre .1 .1 .0) cut-is (c .before .before .before .before .before .before .before .before .before .before .before .before .before .before .before .before .before .create .ensures) (c .before .before .before .before .before .before .create2 .ensures)
+    join-created known s (c .before .before .before .before .before .before .before .before .before .before .before .before .before .before .before .before .before .before .before .before .before .before .before .before .before .before .before .before .before .before .before .before .before .before .before .before .before .before .before .pre .1 .1 .0) cut-is (c .before .before .before .before .before .before .before .before .before .before .before .before .before .before .before .before .before .create .ensures) (c .before .before .before .before .before .before .create2 .ensures)
+
+create-same-length-6 : (t : ℕ) → create-lts.Need-same-length-6 (create-calls t) (create-at t) create.Post
+create-same-length-6 t c = search needs
+
+create-same-length-7 : (t : ℕ) → create-lts.Need-same-length-7 (create-calls t) (create-at t) create.Post
+create-same-length-7 t c = search needs
 
 create-same-length-8 : (t : ℕ) → create-lts.Need-same-length-8 (create-calls t) (create-at t) create.Post
 create-same-length-8 t c = search needs
+
+create-returns-3 : (t : ℕ) → create-lts.Need-returns-3 (create-calls t) (create-at t) create.Post
+create-returns-3 t c =
+    let s = shown-union (c .before .before .before .before .before .before .before .before .before .before .before .before .before .before .before .node .ensures) (c .before .before .before .before .before .before .before .before .before .before .before .before .before .kind2 .given .1) in
+    union-writes s (new-arm (c .before .before .before .before .before .before .before .before .before .before .before .before .before .before .before .before .before .before .before .before .before .before .before .before .before .before .before .pre .1 .0 .lens-node) s (c .before .before .before .before .before .before .before .before .before .before .before .before .before .before .before .before .before .before .before .before .before .before .before .before .before .before .before .pre .1 .1 .0) (c .before .before .before .before .before .before .before .before .before .before .choose-new .ensures)) (c .before .before .before .before .before .before .create3 .ensures)
 
 create-same-length-9 : (t : ℕ) → create-lts.Need-same-length-9 (create-calls t) (create-at t) create.Post
 create-same-length-9 t c = search needs
@@ -351,13 +333,12 @@ create-same-length-9 t c = search needs
 create-same-length-10 : (t : ℕ) → create-lts.Need-same-length-10 (create-calls t) (create-at t) create.Post
 create-same-length-10 t c = search needs
 
-create-returns-4 : (t : ℕ) → create-lts.Need-returns-4 (create-calls t) (create-at t) create.Post
-create-returns-4 t c =
-    let s = shown-union (c .before .before .before .before .before .before .before .before .before .before .before .before .before .before .before .node .ensures) (c .before .before .before .before .before .before .before .before .before .before .before .before .before .kind2 .given .1) in
-    union-writes s (new-arm (c .before .before .before .before .before .before .before .before .before .before .before .before .before .before .before .before .before .before .before .before .before .before .before .before .before .before .before .before .before .pre .1 .0 .lens-node) s (c .before .before .before .before .before .before .before .before .before .before .before .before .before .before .before .before .before .before .before .before .before .before .before .before .before .before .before .before .before .pre .1 .1 .0) (c .before .before .before .before .before .before .before .before .before .before .choose-new .ensures)) (c .before .before .before .before .before .before .create3 .ensures)
-
 create-same-length-11 : (t : ℕ) → create-lts.Need-same-length-11 (create-calls t) (create-at t) create.Post
 create-same-length-11 t c = search needs
+
+create-returns-4 : (t : ℕ) → create-lts.Need-returns-4 (create-calls t) (create-at t) create.Post
+unfolding oldText
+create-returns-4 t c = c .before .before .before .before .before .before .write-repeat .ensures
 
 create-same-length-12 : (t : ℕ) → create-lts.Need-same-length-12 (create-calls t) (create-at t) create.Post
 create-same-length-12 t c = search needs
@@ -365,12 +346,13 @@ create-same-length-12 t c = search needs
 create-same-length-13 : (t : ℕ) → create-lts.Need-same-length-13 (create-calls t) (create-at t) create.Post
 create-same-length-13 t c = search needs
 
-create-returns-5 : (t : ℕ) → create-lts.Need-returns-5 (create-calls t) (create-at t) create.Post
-unfolding oldText
-create-returns-5 t c = c .before .before .before .before .before .before .write-repeat .ensures
-
 create-same-length-14 : (t : ℕ) → create-lts.Need-same-length-14 (create-calls t) (create-at t) create.Post
 create-same-length-14 t c = search needs
+
+create-returns-5 : (t : ℕ) → create-lts.Need-returns-5 (create-calls t) (create-at t) create.Post
+create-returns-5 t c =
+    let s = shown-match (c .before .before .before .before .before .before .before .before .before .before .before .before .before .node .ensures) (c .before .before .before .before .before .before .before .before .before .before .before .kind4 .given .1) in
+    at-node (match _ (s .child)) (s .tree-is) (c .before .before .before .before .before .before .write-match .ensures .writes (s .child) (s .at-child) _)
 
 create-same-length-15 : (t : ℕ) → create-lts.Need-same-length-15 (create-calls t) (create-at t) create.Post
 create-same-length-15 t c = search needs
@@ -379,34 +361,14 @@ create-same-length-16 : (t : ℕ) → create-lts.Need-same-length-16 (create-cal
 create-same-length-16 t c = search needs
 
 create-returns-6 : (t : ℕ) → create-lts.Need-returns-6 (create-calls t) (create-at t) create.Post
-create-returns-6 t c =
-    let s = shown-match (c .before .before .before .before .before .before .before .before .before .before .before .before .before .node .ensures) (c .before .before .before .before .before .before .before .before .before .before .before .kind4 .given .1) in
-    at-node (match _ (s .child)) (s .tree-is) (c .before .before .before .before .before .before .write-match .ensures .writes (s .child) (s .at-child) _)
-
-create-same-length-17 : (t : ℕ) → create-lts.Need-same-length-17 (create-calls t) (create-at t) create.Post
-create-same-length-17 t c = search needs
-
-create-same-length-18 : (t : ℕ) → create-lts.Need-same-length-18 (create-calls t) (create-at t) create.Post
-create-same-length-18 t c = search needs
-
-create-returns-7 : (t : ℕ) → create-lts.Need-returns-7 (create-calls t) (create-at t) create.Post
 unfolding oldText
-create-returns-7 t c = c .before .before .before .before .plain-behind2 .ensures
+create-returns-6 t c = c .before .before .before .before .plain-behind2 .ensures
 
-put-plain-count-requires : (t : ℕ) → put-lts.Need-plain-count-requires (put-calls t) (put-at t) put.Post
-put-plain-count-requires t c κs = below-room (c .before .before .before .before .before .before .before .before .before .pre .1 .0)
+put-asks-none-requires : (t : ℕ) → put-lts.Need-asks-none-requires (put-calls t) (put-at t) put.Post
+put-asks-none-requires t c κs = below-room (c .before .before .before .before .before .before .before .before .before .pre .1 .0)
 
 put-plain-behind-requires : (t : ℕ) → put-lts.Need-plain-behind-requires (put-calls t) (put-at t) put.Post
-put-plain-behind-requires t c κs = (
-  c .before .before .before .before .before .before .before .before .before .before .before .before .before .pre .1 .0,
-  (
-    given-onto (c .before .before .before .before .before .before .before .before .before .before .before .before .before .pre .1 .1 .0),
-    (
-      (c .before .before .before .before .before .before .before .before .before .before .before .before .before .pre .1 .1 .1 .0, record { none-shared = c .before .before .before .plain-count .ensures .none-shared (c .before .before .if1 .taken) }),
-      plain-met _ _ (c .before .before .before .before .before .before .before .before .before .before .before .before .before .pre .1 .0 .lens-node) (c .before .before .before .before .before .before .before .before .before .before .before .before .before .pre .1 .0 .below-is) (c .before .before .before .plain-count .ensures) (c .before .before .if1 .taken),
-    ),
-  ),
-)
+put-plain-behind-requires t c κs = (c .before .before .before .before .before .before .before .before .before .before .before .before .before .pre .1 .0, (given-onto (c .before .before .before .before .before .before .before .before .before .before .before .before .before .pre .1 .1 .0), (c .before .before .before .before .before .before .before .before .before .before .before .before .before .pre .1 .1 .1 .0, record { none-shared = c .before .before .before .asks-none .ensures .0 (c .before .before .if1 .taken) })))
 
 put-same-length : (t : ℕ) → put-lts.Need-same-length (put-calls t) (put-at t) put.Post
 put-same-length t c = search needs
@@ -418,138 +380,122 @@ put-returns : (t : ℕ) → put-lts.Need-returns (put-calls t) (put-at t) put.Po
 unfolding oldText
 put-returns t c = c .before .before .before .before .plain-behind .ensures
 
-put-asks-none-requires : (t : ℕ) → put-lts.Need-asks-none-requires (put-calls t) (put-at t) put.Post
-put-asks-none-requires t c κs = below-room (c .before .before .before .before .before .before .before .before .before .before .before .pre .1 .0)
-
-put-counted-behind-requires : (t : ℕ) → put-lts.Need-counted-behind-requires (put-calls t) (put-at t) put.Post
-put-counted-behind-requires t c κs = (c .before .before .before .before .before .before .before .before .before .before .before .before .before .before .before .pre .1 .0, (given-onto (c .before .before .before .before .before .before .before .before .before .before .before .before .before .before .before .pre .1 .1 .0), (c .before .before .before .before .before .before .before .before .before .before .before .before .before .before .before .pre .1 .1 .1 .0, record { none-shared = c .before .before .before .asks-none .ensures .0 (c .before .before .if2 .taken) })))
-
-put-same-length-3 : (t : ℕ) → put-lts.Need-same-length-3 (put-calls t) (put-at t) put.Post
-put-same-length-3 t c = search needs
-
-put-same-length-4 : (t : ℕ) → put-lts.Need-same-length-4 (put-calls t) (put-at t) put.Post
-put-same-length-4 t c = search needs
-
-put-returns-2 : (t : ℕ) → put-lts.Need-returns-2 (put-calls t) (put-at t) put.Post
-unfolding oldText
-put-returns-2 t c = c .before .before .before .before .counted-behind .ensures
-
 put-node-requires : (t : ℕ) → put-lts.Need-node-requires (put-calls t) (put-at t) put.Post
-put-node-requires t c κs = (c .before .before .before .before .before .before .before .before .before .before .before .before .before .pre .1 .0 .lens-node .built .sized, c .before .before .before .before .before .before .before .before .before .before .before .before .before .pre .1 .0 .lens-node .inside)
+put-node-requires t c κs = (c .before .before .before .before .before .before .before .before .before .before .before .pre .1 .0 .lens-node .built .sized, c .before .before .before .before .before .before .before .before .before .before .before .pre .1 .0 .lens-node .inside)
 
 put-enum-known-kind : (t : ℕ) → put-lts.Need-enum-known-kind (put-calls t) (put-at t) put.Post
 put-enum-known-kind t c = search needs
 
 put-cut-sheet-requires : (t : ℕ) → put-lts.Need-cut-sheet-requires (put-calls t) (put-at t) put.Post
 put-cut-sheet-requires t c κs =
-    let known = c .before .before .before .before .before .before .before .before .before .before .before .before .before .before .before .before .before .before .pre .1 .0 .lens-node in
+    let known = c .before .before .before .before .before .before .before .before .before .before .before .before .before .before .before .before .pre .1 .0 .lens-node in
     let s = shown-join (c .before .before .before .before .node .ensures) (c .before .before .kind .given .1) in
-    (node-prepared (left-below known s) Sheet, omega (arith, c .before .before .before .before .before .before .before .before .before .before .before .before .before .before .before .before .before .before .pre .1 .1 .0 .sheet-given .parsed .few))
+    (node-prepared (left-below known s) Sheet, omega (arith, c .before .before .before .before .before .before .before .before .before .before .before .before .before .before .before .before .pre .1 .1 .0 .sheet-given .parsed .few))
 
 put-halves-of-requires : (t : ℕ) → put-lts.Need-halves-of-requires (put-calls t) (put-at t) put.Post
 put-halves-of-requires t c κs =
-    let known = c .before .before .before .before .before .before .before .before .before .before .before .before .before .before .before .before .before .before .before .pre .1 .0 .lens-node in
+    let known = c .before .before .before .before .before .before .before .before .before .before .before .before .before .before .before .before .before .pre .1 .0 .lens-node in
     let s = shown-join (c .before .before .before .before .before .node .ensures) (c .before .before .before .kind .given .1) in
-    ((node-prepared (left-below known s) Source, place-inside (c .before .before .before .before .before .before .before .before .before .before .before .before .before .before .before .before .before .before .before .pre .1 .1 .0 .old-parsed)), omega (arith, c .before .before .before .before .before .before .before .before .before .before .before .before .before .before .before .before .before .before .before .pre .1 .1 .0 .sheet-given .deck-room))
+    ((node-prepared (left-below known s) Source, place-inside (c .before .before .before .before .before .before .before .before .before .before .before .before .before .before .before .before .before .pre .1 .1 .0 .old-parsed)), omega (arith, c .before .before .before .before .before .before .before .before .before .before .before .before .before .before .before .before .before .pre .1 .1 .0 .sheet-given .deck-room))
 
 put-sub-front : (t : ℕ) → put-lts.Need-sub-front (put-calls t) (put-at t) put.Post
 put-sub-front t c =
-    let known = c .before .before .before .before .before .before .before .before .before .before .before .before .before .before .before .before .before .before .before .before .pre .1 .0 .lens-node in
+    let known = c .before .before .before .before .before .before .before .before .before .before .before .before .before .before .before .before .before .before .pre .1 .0 .lens-node in
     let s = shown-join (c .before .before .before .before .before .before .node .ensures) (c .before .before .before .before .kind .given .1) in
-    omega (arith, at-inside known s (c .before .before .before .before .before .before .before .before .before .before .before .before .before .before .before .before .before .before .before .before .pre .1 .1 .0 .sheet-given) (c .before .cut-sheet .ensures))
+    omega (arith, at-inside known s (c .before .before .before .before .before .before .before .before .before .before .before .before .before .before .before .before .before .before .pre .1 .1 .0 .sheet-given) (c .before .cut-sheet .ensures))
 
 put-part-front-start : (t : ℕ) → put-lts.Need-part-front-start (put-calls t) (put-at t) put.Post
 put-part-front-start t c =
-    let known = c .before .before .before .before .before .before .before .before .before .before .before .before .before .before .before .before .before .before .before .before .pre .1 .0 .lens-node in
+    let known = c .before .before .before .before .before .before .before .before .before .before .before .before .before .before .before .before .before .before .pre .1 .0 .lens-node in
     let s = shown-join (c .before .before .before .before .before .before .node .ensures) (c .before .before .before .before .kind .given .1) in
-    omega (arith, at-inside known s (c .before .before .before .before .before .before .before .before .before .before .before .before .before .before .before .before .before .before .before .before .pre .1 .1 .0 .sheet-given) (c .before .cut-sheet .ensures))
+    omega (arith, at-inside known s (c .before .before .before .before .before .before .before .before .before .before .before .before .before .before .before .before .before .before .pre .1 .1 .0 .sheet-given) (c .before .cut-sheet .ensures))
 
 put-part-front-end : (t : ℕ) → put-lts.Need-part-front-end (put-calls t) (put-at t) put.Post
 put-part-front-end t c =
-    let known = c .before .before .before .before .before .before .before .before .before .before .before .before .before .before .before .before .before .before .before .before .pre .1 .0 .lens-node in
+    let known = c .before .before .before .before .before .before .before .before .before .before .before .before .before .before .before .before .before .before .pre .1 .0 .lens-node in
     let s = shown-join (c .before .before .before .before .before .before .node .ensures) (c .before .before .before .before .kind .given .1) in
-    omega (arith, at-inside known s (c .before .before .before .before .before .before .before .before .before .before .before .before .before .before .before .before .before .before .before .before .pre .1 .1 .0 .sheet-given) (c .before .cut-sheet .ensures))
+    omega (arith, at-inside known s (c .before .before .before .before .before .before .before .before .before .before .before .before .before .before .before .before .before .before .pre .1 .1 .0 .sheet-given) (c .before .cut-sheet .ensures))
 
 put-sub-track : (t : ℕ) → put-lts.Need-sub-track (put-calls t) (put-at t) put.Post
 put-sub-track t c =
-    let known = c .before .before .before .before .before .before .before .before .before .before .before .before .before .before .before .before .before .before .before .before .before .pre .1 .0 .lens-node in
+    let known = c .before .before .before .before .before .before .before .before .before .before .before .before .before .before .before .before .before .before .before .pre .1 .0 .lens-node in
     let s = shown-join (c .before .before .before .before .before .before .before .node .ensures) (c .before .before .before .before .before .kind .given .1) in
-    omega (arith, at-inside known s (c .before .before .before .before .before .before .before .before .before .before .before .before .before .before .before .before .before .before .before .before .before .pre .1 .1 .0 .sheet-given) (c .before .before .cut-sheet .ensures))
+    omega (arith, at-inside known s (c .before .before .before .before .before .before .before .before .before .before .before .before .before .before .before .before .before .before .before .pre .1 .1 .0 .sheet-given) (c .before .before .cut-sheet .ensures))
 
 put-part-track-start : (t : ℕ) → put-lts.Need-part-track-start (put-calls t) (put-at t) put.Post
 put-part-track-start t c =
-    let known = c .before .before .before .before .before .before .before .before .before .before .before .before .before .before .before .before .before .before .before .before .before .pre .1 .0 .lens-node in
+    let known = c .before .before .before .before .before .before .before .before .before .before .before .before .before .before .before .before .before .before .before .pre .1 .0 .lens-node in
     let s = shown-join (c .before .before .before .before .before .before .before .node .ensures) (c .before .before .before .before .before .kind .given .1) in
-    omega (arith, at-inside known s (c .before .before .before .before .before .before .before .before .before .before .before .before .before .before .before .before .before .before .before .before .before .pre .1 .1 .0 .sheet-given) (c .before .before .cut-sheet .ensures))
+    omega (arith, at-inside known s (c .before .before .before .before .before .before .before .before .before .before .before .before .before .before .before .before .before .before .before .pre .1 .1 .0 .sheet-given) (c .before .before .cut-sheet .ensures))
 
 put-part-track-end : (t : ℕ) → put-lts.Need-part-track-end (put-calls t) (put-at t) put.Post
 put-part-track-end t c =
-    let known = c .before .before .before .before .before .before .before .before .before .before .before .before .before .before .before .before .before .before .before .before .before .pre .1 .0 .lens-node in
+    let known = c .before .before .before .before .before .before .before .before .before .before .before .before .before .before .before .before .before .before .before .pre .1 .0 .lens-node in
     let s = shown-join (c .before .before .before .before .before .before .before .node .ensures) (c .before .before .before .before .before .kind .given .1) in
-    omega (arith, at-inside known s (c .before .before .before .before .before .before .before .before .before .before .before .before .before .before .before .before .before .before .before .before .before .pre .1 .1 .0 .sheet-given) (c .before .before .cut-sheet .ensures))
+    omega (arith, at-inside known s (c .before .before .before .before .before .before .before .before .before .before .before .before .before .before .before .before .before .before .before .pre .1 .1 .0 .sheet-given) (c .before .before .cut-sheet .ensures))
 
 put-put-requires : (t : ℕ) → put-lts.Need-put-requires (put-calls t) (put-at t) put.Post
 put-put-requires t c κs =
-    let known = c .before .before .before .before .before .before .before .before .before .before .before .before .before .before .before .before .before .before .before .before .before .before .before .before .pre .1 .0 .lens-node in
+    let known = c .before .before .before .before .before .before .before .before .before .before .before .before .before .before .before .before .before .before .before .before .before .before .pre .1 .0 .lens-node in
     let s = shown-join (c .before .before .before .before .before .before .before .before .before .before .node .ensures) (c .before .before .before .before .before .before .before .before .kind .given .1) in
     let cut-is = c .before .before .before .before .before .cut-sheet .ensures in (
-      omega (arith, c .before .before .before .before .before .before .before .before .before .before .before .before .before .before .before .before .before .before .before .before .before .before .before .before .pre .0, halves-lower known s (c .before .before .before .before .before .before .before .before .before .before .before .before .before .before .before .before .before .before .before .before .before .before .before .before .pre .1 .1 .0 .sheet-given) cut-is),
+      omega (arith, c .before .before .before .before .before .before .before .before .before .before .before .before .before .before .before .before .before .before .before .before .before .before .pre .0, halves-lower known s (c .before .before .before .before .before .before .before .before .before .before .before .before .before .before .before .before .before .before .before .before .before .before .pre .1 .1 .0 .sheet-given) cut-is),
       (
-        ready-below (c .before .before .before .before .before .before .before .before .before .before .before .before .before .before .before .before .before .before .before .before .before .before .before .before .pre .1 .0) (near-known known s (c .before .before .before .before .before .before .before .before .before .before .before .before .before .before .before .before .before .before .before .before .before .before .before .before .pre .1 .1 .0 .sheet-given) cut-is),
-        (record { sheet-given = near-given known s (c .before .before .before .before .before .before .before .before .before .before .before .before .before .before .before .before .before .before .before .before .before .before .before .before .pre .1 .1 .0 .sheet-given) cut-is; old-parsed = near-old known s (c .before .before .before .before .before .before .before .before .before .before .before .before .before .before .before .before .before .before .before .before .before .before .before .before .pre .1 .1 .0 .sheet-given) cut-is (c .before .before .before .before .before .before .before .before .before .before .before .before .before .before .before .before .before .before .before .before .before .before .before .before .pre .1 .1 .0 .old-parsed) (c .before .before .before .before .halves-of .ensures) }, c .before .before .before .before .before .before .before .before .before .before .before .before .before .before .before .before .before .before .before .before .before .before .before .before .pre .1 .1 .1),
+        ready-below (c .before .before .before .before .before .before .before .before .before .before .before .before .before .before .before .before .before .before .before .before .before .before .pre .1 .0) (near-known known s (c .before .before .before .before .before .before .before .before .before .before .before .before .before .before .before .before .before .before .before .before .before .before .pre .1 .1 .0 .sheet-given) cut-is),
+        (record { sheet-given = near-given known s (c .before .before .before .before .before .before .before .before .before .before .before .before .before .before .before .before .before .before .before .before .before .before .pre .1 .1 .0 .sheet-given) cut-is; old-parsed = near-old known s (c .before .before .before .before .before .before .before .before .before .before .before .before .before .before .before .before .before .before .before .before .before .before .pre .1 .1 .0 .sheet-given) cut-is (c .before .before .before .before .before .before .before .before .before .before .before .before .before .before .before .before .before .before .before .before .before .before .pre .1 .1 .0 .old-parsed) (c .before .before .before .before .halves-of .ensures) }, c .before .before .before .before .before .before .before .before .before .before .before .before .before .before .before .before .before .before .before .before .before .before .pre .1 .1 .1),
       ),
     )
 
 put-sub-back : (t : ℕ) → put-lts.Need-sub-back (put-calls t) (put-at t) put.Post
 put-sub-back t c =
-    let known = c .before .before .before .before .before .before .before .before .before .before .before .before .before .before .before .before .before .before .before .before .before .before .before .before .before .before .before .before .before .before .before .pre .1 .0 .lens-node in
+    let known = c .before .before .before .before .before .before .before .before .before .before .before .before .before .before .before .before .before .before .before .before .before .before .before .before .before .before .before .before .before .pre .1 .0 .lens-node in
     let s = shown-join (c .before .before .before .before .before .before .before .before .before .before .before .before .before .before .before .before .before .node .ensures) (c .before .before .before .before .before .before .before .before .before .before .before .before .before .before .before .kind .given .1) in
-    omega (arith, at-inside known s (c .before .before .before .before .before .before .before .before .before .before .before .before .before .before .before .before .before .before .before .before .before .before .before .before .before .before .before .before .before .before .before .pre .1 .1 .0 .sheet-given) (c .before .before .before .before .before .before .before .before .before .before .before .before .cut-sheet .ensures))
+    omega (arith, at-inside known s (c .before .before .before .before .before .before .before .before .before .before .before .before .before .before .before .before .before .before .before .before .before .before .before .before .before .before .before .before .before .pre .1 .1 .0 .sheet-given) (c .before .before .before .before .before .before .before .before .before .before .before .before .cut-sheet .ensures))
 
 put-part-back-start : (t : ℕ) → put-lts.Need-part-back-start (put-calls t) (put-at t) put.Post
 put-part-back-start t c =
-    let known = c .before .before .before .before .before .before .before .before .before .before .before .before .before .before .before .before .before .before .before .before .before .before .before .before .before .before .before .before .before .before .before .pre .1 .0 .lens-node in
+    let known = c .before .before .before .before .before .before .before .before .before .before .before .before .before .before .before .before .before .before .before .before .before .before .before .before .before .before .before .before .before .pre .1 .0 .lens-node in
     let s = shown-join (c .before .before .before .before .before .before .before .before .before .before .before .before .before .before .before .before .before .node .ensures) (c .before .before .before .before .before .before .before .before .before .before .before .before .before .before .before .kind .given .1) in
-    omega (arith, at-inside known s (c .before .before .before .before .before .before .before .before .before .before .before .before .before .before .before .before .before .before .before .before .before .before .before .before .before .before .before .before .before .before .before .pre .1 .1 .0 .sheet-given) (c .before .before .before .before .before .before .before .before .before .before .before .before .cut-sheet .ensures))
+    omega (arith, at-inside known s (c .before .before .before .before .before .before .before .before .before .before .before .before .before .before .before .before .before .before .before .before .before .before .before .before .before .before .before .before .before .pre .1 .1 .0 .sheet-given) (c .before .before .before .before .before .before .before .before .before .before .before .before .cut-sheet .ensures))
 
 put-part-back-end : (t : ℕ) → put-lts.Need-part-back-end (put-calls t) (put-at t) put.Post
 put-part-back-end t c =
-    let known = c .before .before .before .before .before .before .before .before .before .before .before .before .before .before .before .before .before .before .before .before .before .before .before .before .before .before .before .before .before .before .before .pre .1 .0 .lens-node in
+    let known = c .before .before .before .before .before .before .before .before .before .before .before .before .before .before .before .before .before .before .before .before .before .before .before .before .before .before .before .before .before .pre .1 .0 .lens-node in
     let s = shown-join (c .before .before .before .before .before .before .before .before .before .before .before .before .before .before .before .before .before .node .ensures) (c .before .before .before .before .before .before .before .before .before .before .before .before .before .before .before .kind .given .1) in
-    omega (arith, at-inside known s (c .before .before .before .before .before .before .before .before .before .before .before .before .before .before .before .before .before .before .before .before .before .before .before .before .before .before .before .before .before .before .before .pre .1 .1 .0 .sheet-given) (c .before .before .before .before .before .before .before .before .before .before .before .before .cut-sheet .ensures))
+    omega (arith, at-inside known s (c .before .before .before .before .before .before .before .before .before .before .before .before .before .before .before .before .before .before .before .before .before .before .before .before .before .before .before .before .before .pre .1 .1 .0 .sheet-given) (c .before .before .before .before .before .before .before .before .before .before .before .before .cut-sheet .ensures))
 
 put-sub-track-2 : (t : ℕ) → put-lts.Need-sub-track-2 (put-calls t) (put-at t) put.Post
 put-sub-track-2 t c =
-    let known = c .before .before .before .before .before .before .before .before .before .before .before .before .before .before .before .before .before .before .before .before .before .before .before .before .before .before .before .before .before .before .before .before .pre .1 .0 .lens-node in
+    let known = c .before .before .before .before .before .before .before .before .before .before .before .before .before .before .before .before .before .before .before .before .before .before .before .before .before .before .before .before .before .before .pre .1 .0 .lens-node in
     let s = shown-join (c .before .before .before .before .before .before .before .before .before .before .before .before .before .before .before .before .before .before .node .ensures) (c .before .before .before .before .before .before .before .before .before .before .before .before .before .before .before .before .kind .given .1) in
     let cut-is = c .before .before .before .before .before .before .before .before .before .before .before .before .before .cut-sheet .ensures in
-    omega (arith, at-inside known s (c .before .before .before .before .before .before .before .before .before .before .before .before .before .before .before .before .before .before .before .before .before .before .before .before .before .before .before .before .before .before .before .before .pre .1 .1 .0 .sheet-given) cut-is, left-back known s (c .before .before .before .before .before .before .before .before .before .before .before .before .before .before .before .before .before .before .before .before .before .before .before .before .before .before .before .before .before .before .before .before .pre .1 .1 .0 .sheet-given) cut-is (c .before .before .before .before .before .before .before .put .last .1 .1 .1 .1 .1 .0) (c .before .before .before .before .before .before .before .put .kept .1 .1 .1 .1 .1 .0))
+    omega (arith, at-inside known s (c .before .before .before .before .before .before .before .before .before .before .before .before .before .before .before .before .before .before .before .before .before .before .before .before .before .before .before .before .before .before .pre .1 .1 .0 .sheet-given) cut-is, left-back known s (c .before .before .before .before .before .before .before .before .before .before .before .before .before .before .before .before .before .before .before .before .before .before .before .before .before .before .before .before .before .before .pre .1 .1 .0 .sheet-given) cut-is (c .before .before .before .before .before .before .before .put .last .1 .1 .1 .1 .1 .0) (c .before .before .before .before .before .before .before .put .kept .1 .1 .1 .1 .1 .0))
 
 put-part-track-start-2 : (t : ℕ) → put-lts.Need-part-track-start-2 (put-calls t) (put-at t) put.Post
 put-part-track-start-2 t c =
-    let known = c .before .before .before .before .before .before .before .before .before .before .before .before .before .before .before .before .before .before .before .before .before .before .before .before .before .before .before .before .before .before .before .before .pre .1 .0 .lens-node in
+    let known = c .before .before .before .before .before .before .before .before .before .before .before .before .before .before .before .before .before .before .before .before .before .before .before .before .before .before .before .before .before .before .pre .1 .0 .lens-node in
     let s = shown-join (c .before .before .before .before .before .before .before .before .before .before .before .before .before .before .before .before .before .before .node .ensures) (c .before .before .before .before .before .before .before .before .before .before .before .before .before .before .before .before .kind .given .1) in
     let cut-is = c .before .before .before .before .before .before .before .before .before .before .before .before .before .cut-sheet .ensures in
-    omega (arith, at-inside known s (c .before .before .before .before .before .before .before .before .before .before .before .before .before .before .before .before .before .before .before .before .before .before .before .before .before .before .before .before .before .before .before .before .pre .1 .1 .0 .sheet-given) cut-is, left-back known s (c .before .before .before .before .before .before .before .before .before .before .before .before .before .before .before .before .before .before .before .before .before .before .before .before .before .before .before .before .before .before .before .before .pre .1 .1 .0 .sheet-given) cut-is (c .before .before .before .before .before .before .before .put .last .1 .1 .1 .1 .1 .0) (c .before .before .before .before .before .before .before .put .kept .1 .1 .1 .1 .1 .0))
+    omega (arith, at-inside known s (c .before .before .before .before .before .before .before .before .before .before .before .before .before .before .before .before .before .before .before .before .before .before .before .before .before .before .before .before .before .before .pre .1 .1 .0 .sheet-given) cut-is, left-back known s (c .before .before .before .before .before .before .before .before .before .before .before .before .before .before .before .before .before .before .before .before .before .before .before .before .before .before .before .before .before .before .pre .1 .1 .0 .sheet-given) cut-is (c .before .before .before .before .before .before .before .put .last .1 .1 .1 .1 .1 .0) (c .before .before .before .before .before .before .before .put .kept .1 .1 .1 .1 .1 .0))
 
 put-part-track-end-2 : (t : ℕ) → put-lts.Need-part-track-end-2 (put-calls t) (put-at t) put.Post
 put-part-track-end-2 t c =
-    let known = c .before .before .before .before .before .before .before .before .before .before .before .before .before .before .before .before .before .before .before .before .before .before .before .before .before .before .before .before .before .before .before .before .pre .1 .0 .lens-node in
+    let known = c .before .before .before .before .before .before .before .before .before .before .before .before .before .before .before .before .before .before .before .before .before .before .before .before .before .before .before .before .before .before .pre .1 .0 .lens-node in
     let s = shown-join (c .before .before .before .before .before .before .before .before .before .before .before .before .before .before .before .before .before .before .node .ensures) (c .before .before .before .before .before .before .before .before .before .before .before .before .before .before .before .before .kind .given .1) in
     let cut-is = c .before .before .before .before .before .before .before .before .before .before .before .before .before .cut-sheet .ensures in
-    omega (arith, at-inside known s (c .before .before .before .before .before .before .before .before .before .before .before .before .before .before .before .before .before .before .before .before .before .before .before .before .before .before .before .before .before .before .before .before .pre .1 .1 .0 .sheet-given) cut-is, left-back known s (c .before .before .before .before .before .before .before .before .before .before .before .before .before .before .before .before .before .before .before .before .before .before .before .before .before .before .before .before .before .before .before .before .pre .1 .1 .0 .sheet-given) cut-is (c .before .before .before .before .before .before .before .put .last .1 .1 .1 .1 .1 .0) (c .before .before .before .before .before .before .before .put .kept .1 .1 .1 .1 .1 .0))
+    omega (arith, at-inside known s (c .before .before .before .before .before .before .before .before .before .before .before .before .before .before .before .before .before .before .before .before .before .before .before .before .before .before .before .before .before .before .pre .1 .1 .0 .sheet-given) cut-is, left-back known s (c .before .before .before .before .before .before .before .before .before .before .before .before .before .before .before .before .before .before .before .before .before .before .before .before .before .before .before .before .before .before .pre .1 .1 .0 .sheet-given) cut-is (c .before .before .before .before .before .before .before .put .last .1 .1 .1 .1 .1 .0) (c .before .before .before .before .before .before .before .put .kept .1 .1 .1 .1 .1 .0))
 
 put-put-requires-2 : (t : ℕ) → put-lts.Need-put-requires-2 (put-calls t) (put-at t) put.Post
 put-put-requires-2 t c κs =
-    let known = c .before .before .before .before .before .before .before .before .before .before .before .before .before .before .before .before .before .before .before .before .before .before .before .before .before .before .before .before .before .before .before .before .before .before .before .pre .1 .0 .lens-node in
+    let known = c .before .before .before .before .before .before .before .before .before .before .before .before .before .before .before .before .before .before .before .before .before .before .before .before .before .before .before .before .before .before .before .before .before .pre .1 .0 .lens-node in
     let s = shown-join (c .before .before .before .before .before .before .before .before .before .before .before .before .before .before .before .before .before .before .before .before .before .node .ensures) (c .before .before .before .before .before .before .before .before .before .before .before .before .before .before .before .before .before .before .before .kind .given .1) in
     let cut-is = c .before .before .before .before .before .before .before .before .before .before .before .before .before .before .before .before .cut-sheet .ensures in
-    let near = near-known known s (c .before .before .before .before .before .before .before .before .before .before .before .before .before .before .before .before .before .before .before .before .before .before .before .before .before .before .before .before .before .before .before .before .before .before .before .pre .1 .1 .0 .sheet-given) cut-is in
-    let left = behind-left (c .before .before .before .before .before .before .before .before .before .before .before .before .before .before .before .before .before .before .before .before .before .before .before .before .before .before .before .before .before .before .before .before .before .before .before .pre .1 .0 .looks-in .over) (c .before .before .before .before .before .before .before .before .before .before .before .before .before .before .before .before .before .before .before .before .before .before .before .before .before .before .before .before .before .before .before .before .before .before .before .pre .1 .1 .1 .0) (c .before .before .before .before .before .before .before .before .before .before .put .ensures .writes (near .tree) (near .tree-is)) in (
-      omega (arith, c .before .before .before .before .before .before .before .before .before .before .before .before .before .before .before .before .before .before .before .before .before .before .before .before .before .before .before .before .before .before .before .before .before .before .before .pre .0, halves-lower known s (c .before .before .before .before .before .before .before .before .before .before .before .before .before .before .before .before .before .before .before .before .before .before .before .before .before .before .before .before .before .before .before .before .before .before .before .pre .1 .1 .0 .sheet-given) cut-is),
+    let near = near-known known s (c .before .before .before .before .before .before .before .before .before .before .before .before .before .before .before .before .before .before .before .before .before .before .before .before .before .before .before .before .before .before .before .before .before .pre .1 .1 .0 .sheet-given) cut-is in
+    let left = behind-left (c .before .before .before .before .before .before .before .before .before .before .before .before .before .before .before .before .before .before .before .before .before .before .before .before .before .before .before .before .before .before .before .before .before .pre .1 .0 .looks-in .over) (c .before .before .before .before .before .before .before .before .before .before .before .before .before .before .before .before .before .before .before .before .before .before .before .before .before .before .before .before .before .before .before .before .before .pre .1 .1 .1 .0) (c .before .before .before .before .before .before .before .before .before .before .put .ensures .writes (near .tree) (near .tree-is)) in (
+      omega (arith, c .before .before .before .before .before .before .before .before .before .before .before .before .before .before .before .before .before .before .before .before .before .before .before .before .before .before .before .before .before .before .before .before .before .pre .0, halves-lower known s (c .before .before .before .before .before .before .before .before .before .before .before .before .before .before .before .before .before .before .before .before .before .before .before .before .before .before .before .before .before .before .before .before .before .pre .1 .1 .0 .sheet-given) cut-is),
       (
-        ready-left (c .before .before .before .before .before .before .before .before .before .before .before .before .before .before .before .before .before .before .before .before .before .before .before .before .before .before .before .before .before .before .before .before .before .before .before .pre .1 .0) (far-known known s (c .before .before .before .before .before .before .before .before .before .before .before .before .before .before .before .before .before .before .before .before .before .before .before .before .before .before .before .before .before .before .before .before .before .before .before .pre .1 .1 .0 .sheet-given) cut-is) (left .over) (left .same-entries),
-        (record { sheet-given = far-given known s (c .before .before .before .before .before .before .before .before .before .before .before .before .before .before .before .before .before .before .before .before .before .before .before .before .before .before .before .before .before .before .before .before .before .before .before .pre .1 .1 .0 .sheet-given) cut-is (c .before .before .before .before .before .before .before .before .before .before .put .last .1 .1 .1 .1 .1 .0) (c .before .before .before .before .before .before .before .before .before .before .put .kept .1 .1 .1 .1 .1 .0); old-parsed = far-old known s (c .before .before .before .before .before .before .before .before .before .before .before .before .before .before .before .before .before .before .before .before .before .before .before .before .before .before .before .before .before .before .before .before .before .before .before .pre .1 .1 .0 .sheet-given) cut-is (c .before .before .before .before .before .before .before .before .before .before .before .before .before .before .before .before .before .before .before .before .before .before .before .before .before .before .before .before .before .before .before .before .before .before .before .pre .1 .1 .0 .old-parsed) (c .before .before .before .before .before .before .before .before .before .before .before .before .before .before .before .halves-of .ensures) }, (left .within, c .before .before .before .before .before .before .before .before .before .before .put .kept .1 .1 .1 .1 .1 .1 .1 .1 .1 .0 ∙ c .before .before .before .before .before .before .before .before .before .before .before .before .before .before .before .before .before .before .before .before .before .before .before .before .before .before .before .before .before .before .before .before .before .before .before .pre .1 .1 .1 .1)),
+        ready-left (c .before .before .before .before .before .before .before .before .before .before .before .before .before .before .before .before .before .before .before .before .before .before .before .before .before .before .before .before .before .before .before .before .before .pre .1 .0) (far-known known s (c .before .before .before .before .before .before .before .before .before .before .before .before .before .before .before .before .before .before .before .before .before .before .before .before .before .before .before .before .before .before .before .before .before .pre .1 .1 .0 .sheet-given) cut-is) (left .over) (left .same-entries),
+        (record { sheet-given = far-given known s (c .before .before .before .before .before .before .before .before .before .before .before .before .before .before .before .before .before .before .before .before .before .before .before .before .before .before .before .before .before .before .before .before .before .pre .1 .1 .0 .sheet-given) cut-is (c .before .before .before .before .before .before .before .before .before .before .put .last .1 .1 .1 .1 .1 .0) (c .before .before .before .before .before .before .before .before .before .before .put .kept .1 .1 .1 .1 .1 .0); old-parsed = far-old known s (c .before .before .before .before .before .before .before .before .before .before .before .before .before .before .before .before .before .before .before .before .before .before .before .before .before .before .before .before .before .before .before .before .before .pre .1 .1 .0 .sheet-given) cut-is (c .before .before .before .before .before .before .before .before .before .before .before .before .before .before .before .before .before .before .before .before .before .before .before .before .before .before .before .before .before .before .before .before .before .pre .1 .1 .0 .old-parsed) (c .before .before .before .before .before .before .before .before .before .before .before .before .before .before .before .halves-of .ensures) }, (left .within, c .before .before .before .before .before .before .before .before .before .before .put .kept .1 .1 .1 .1 .1 .1 .1 .1 .1 .0 ∙ c .before .before .before .before .before .before .before .before .before .before .before .before .before .before .before .before .before .before .before .before .before .before .before .before .before .before .before .before .before .before .before .before .before .pre .1 .1 .1 .1)),
       ),
     )
 
@@ -558,12 +504,12 @@ put-enum-known-kind-2 t c = search needs
 
 put-choose-requires : (t : ℕ) → put-lts.Need-choose-requires (put-calls t) (put-at t) put.Post
 put-choose-requires t c κs =
-    let known = c .before .before .before .before .before .before .before .before .before .before .before .before .before .before .before .before .before .before .pre .1 .0 .lens-node in
+    let known = c .before .before .before .before .before .before .before .before .before .before .before .before .before .before .before .before .pre .1 .0 .lens-node in
     let s = shown-union (c .before .before .before .before .node .ensures) (c .before .before .kind2 .given .1) in (
       (node-prepared (left-below known s) Source, node-prepared (left-below known s) Sheet, node-prepared (right-below known s) Sheet),
       (
-        (omega (arith, c .before .before .before .before .before .before .before .before .before .before .before .before .before .before .before .before .before .before .pre .1 .1 .0 .sheet-given .parsed .few), place-inside (c .before .before .before .before .before .before .before .before .before .before .before .before .before .before .before .before .before .before .pre .1 .1 .0 .old-parsed), c .before .before .before .before .before .before .before .before .before .before .before .before .before .before .before .before .before .before .pre .1 .1 .0 .sheet-given .deck-room),
-        (c .before .before .before .before .before .before .before .before .before .before .before .before .before .before .before .before .before .before .pre .1 .1 .0 .sheet-given .new-short, parsed-length (c .before .before .before .before .before .before .before .before .before .before .before .before .before .before .before .before .before .before .pre .1 .1 .0 .sheet-given .parsed)),
+        (omega (arith, c .before .before .before .before .before .before .before .before .before .before .before .before .before .before .before .before .pre .1 .1 .0 .sheet-given .parsed .few), place-inside (c .before .before .before .before .before .before .before .before .before .before .before .before .before .before .before .before .pre .1 .1 .0 .old-parsed), c .before .before .before .before .before .before .before .before .before .before .before .before .before .before .before .before .pre .1 .1 .0 .sheet-given .deck-room),
+        (c .before .before .before .before .before .before .before .before .before .before .before .before .before .before .before .before .pre .1 .1 .0 .sheet-given .new-short, parsed-length (c .before .before .before .before .before .before .before .before .before .before .before .before .before .before .before .before .pre .1 .1 .0 .sheet-given .parsed)),
       ),
     )
 
@@ -573,9 +519,9 @@ put-enum-known-kept t c = search needs
 put-put-requires-3 : (t : ℕ) → put-lts.Need-put-requires-3 (put-calls t) (put-at t) put.Post
 put-put-requires-3 t c κs =
     let s = shown-union (c .before .before .before .before .before .before .before .before .before .before .before .before .before .before .node .ensures) (c .before .before .before .before .before .before .before .before .before .before .before .before .kind2 .given .1) in
-    let arm = choice-arm (c .before .before .before .before .before .before .before .before .before .before .before .before .before .before .before .before .before .before .before .before .before .before .before .before .before .before .before .before .pre .1 .0 .lens-node) s (c .before .before .before .before .before .before .before .before .before .before .before .before .before .before .before .before .before .before .before .before .before .before .before .before .before .before .before .before .pre .1 .1 .0) (c .before .before .before .before .before .before .before .before .before .choose .ensures) in
-    let given = choice-given (c .before .before .before .before .before .before .before .before .before .before .before .before .before .before .before .before .before .before .before .before .before .before .before .before .before .before .before .before .pre .1 .0 .lens-node) s (c .before .before .before .before .before .before .before .before .before .before .before .before .before .before .before .before .before .before .before .before .before .before .before .before .before .before .before .before .pre .1 .1 .0) (c .before .before .before .before .before .before .before .before .before .choose .ensures) in
-    (omega (arith, c .before .before .before .before .before .before .before .before .before .before .before .before .before .before .before .before .before .before .before .before .before .before .before .before .before .before .before .before .pre .0, arm .lower), (arm-ready arm (c .before .before .before .before .before .before .before .before .before .before .before .before .before .before .before .before .before .before .before .before .before .before .before .before .before .before .before .before .pre .1 .0), (given-at given (c .before .before .before .before .kept .given .1), c .before .before .before .before .before .before .before .before .before .before .before .before .before .before .before .before .before .before .before .before .before .before .before .before .before .before .before .before .pre .1 .1 .1)))
+    let arm = choice-arm (c .before .before .before .before .before .before .before .before .before .before .before .before .before .before .before .before .before .before .before .before .before .before .before .before .before .before .pre .1 .0 .lens-node) s (c .before .before .before .before .before .before .before .before .before .before .before .before .before .before .before .before .before .before .before .before .before .before .before .before .before .before .pre .1 .1 .0) (c .before .before .before .before .before .before .before .before .before .choose .ensures) in
+    let given = choice-given (c .before .before .before .before .before .before .before .before .before .before .before .before .before .before .before .before .before .before .before .before .before .before .before .before .before .before .pre .1 .0 .lens-node) s (c .before .before .before .before .before .before .before .before .before .before .before .before .before .before .before .before .before .before .before .before .before .before .before .before .before .before .pre .1 .1 .0) (c .before .before .before .before .before .before .before .before .before .choose .ensures) in
+    (omega (arith, c .before .before .before .before .before .before .before .before .before .before .before .before .before .before .before .before .before .before .before .before .before .before .before .before .before .before .pre .0, arm .lower), (arm-ready arm (c .before .before .before .before .before .before .before .before .before .before .before .before .before .before .before .before .before .before .before .before .before .before .before .before .before .before .pre .1 .0), (given-at given (c .before .before .before .before .kept .given .1), c .before .before .before .before .before .before .before .before .before .before .before .before .before .before .before .before .before .before .before .before .before .before .before .before .before .before .pre .1 .1 .1)))
 
 put-enum-told : (t : ℕ) → put-lts.Need-enum-told (put-calls t) (put-at t) put.Post
 put-enum-told t c = search needs
@@ -583,16 +529,16 @@ put-enum-told t c = search needs
 put-create-requires : (t : ℕ) → put-lts.Need-create-requires (put-calls t) (put-at t) put.Post
 put-create-requires t c κs =
     let s = shown-union (c .before .before .before .before .before .before .before .before .before .before .before .before .before .node .ensures) (c .before .before .before .before .before .before .before .before .before .before .before .kind2 .given .1) in
-    let arm = choice-arm (c .before .before .before .before .before .before .before .before .before .before .before .before .before .before .before .before .before .before .before .before .before .before .before .before .before .before .before .pre .1 .0 .lens-node) s (c .before .before .before .before .before .before .before .before .before .before .before .before .before .before .before .before .before .before .before .before .before .before .before .before .before .before .before .pre .1 .1 .0) (c .before .before .before .before .before .before .before .before .choose .ensures) in
-    (omega (arith, c .before .before .before .before .before .before .before .before .before .before .before .before .before .before .before .before .before .before .before .before .before .before .before .before .before .before .before .pre .0, arm .lower), (arm-ready arm (c .before .before .before .before .before .before .before .before .before .before .before .before .before .before .before .before .before .before .before .before .before .before .before .before .before .before .before .pre .1 .0), (arm-given arm (c .before .before .before .before .before .before .before .before .before .before .before .before .before .before .before .before .before .before .before .before .before .before .before .before .before .before .before .pre .1 .1 .0 .sheet-given), c .before .before .before .before .before .before .before .before .before .before .before .before .before .before .before .before .before .before .before .before .before .before .before .before .before .before .before .pre .1 .1 .1)))
+    let arm = choice-arm (c .before .before .before .before .before .before .before .before .before .before .before .before .before .before .before .before .before .before .before .before .before .before .before .before .before .pre .1 .0 .lens-node) s (c .before .before .before .before .before .before .before .before .before .before .before .before .before .before .before .before .before .before .before .before .before .before .before .before .before .pre .1 .1 .0) (c .before .before .before .before .before .before .before .before .choose .ensures) in
+    (omega (arith, c .before .before .before .before .before .before .before .before .before .before .before .before .before .before .before .before .before .before .before .before .before .before .before .before .before .pre .0, arm .lower), (arm-ready arm (c .before .before .before .before .before .before .before .before .before .before .before .before .before .before .before .before .before .before .before .before .before .before .before .before .before .pre .1 .0), (arm-given arm (c .before .before .before .before .before .before .before .before .before .before .before .before .before .before .before .before .before .before .before .before .before .before .before .before .before .pre .1 .1 .0 .sheet-given), c .before .before .before .before .before .before .before .before .before .before .before .before .before .before .before .before .before .before .before .before .before .before .before .before .before .pre .1 .1 .1)))
 
 put-enum-known-kind-3 : (t : ℕ) → put-lts.Need-enum-known-kind-3 (put-calls t) (put-at t) put.Post
 put-enum-known-kind-3 t c = search needs
 
 put-write-repeat-requires : (t : ℕ) → put-lts.Need-write-repeat-requires (put-calls t) (put-at t) put.Post
 put-write-repeat-requires t c κs = (
-  omega (arith, c .before .before .before .before .before .before .before .before .before .before .before .before .before .before .before .before .before .before .before .before .pre .0),
-  (c .before .before .before .before .before .before .before .before .before .before .before .before .before .before .before .before .before .before .before .before .pre .1 .0, (shown-repeat (c .before .before .before .before .before .before .node .ensures) (c .before .before .before .before .kind3 .given .1), (given-onto (c .before .before .before .before .before .before .before .before .before .before .before .before .before .before .before .before .before .before .before .before .pre .1 .1 .0), c .before .before .before .before .before .before .before .before .before .before .before .before .before .before .before .before .before .before .before .before .pre .1 .1 .1))),
+  omega (arith, c .before .before .before .before .before .before .before .before .before .before .before .before .before .before .before .before .before .before .pre .0),
+  (c .before .before .before .before .before .before .before .before .before .before .before .before .before .before .before .before .before .before .pre .1 .0, (shown-repeat (c .before .before .before .before .before .before .node .ensures) (c .before .before .before .before .kind3 .given .1), (given-onto (c .before .before .before .before .before .before .before .before .before .before .before .before .before .before .before .before .before .before .pre .1 .1 .0), c .before .before .before .before .before .before .before .before .before .before .before .before .before .before .before .before .before .before .pre .1 .1 .1))),
 )
 
 put-enum-known-kind-4 : (t : ℕ) → put-lts.Need-enum-known-kind-4 (put-calls t) (put-at t) put.Post
@@ -601,43 +547,51 @@ put-enum-known-kind-4 t c = search needs
 put-write-match-requires : (t : ℕ) → put-lts.Need-write-match-requires (put-calls t) (put-at t) put.Post
 put-write-match-requires t c κs =
     let s = shown-match (c .before .before .before .before .before .before .node .ensures) (c .before .before .before .before .kind4 .given .1) in (
-      omega (arith, c .before .before .before .before .before .before .before .before .before .before .before .before .before .before .before .before .before .before .before .before .pre .0, s .lower),
-      (ready-below (c .before .before .before .before .before .before .before .before .before .before .before .before .before .before .before .before .before .before .before .before .pre .1 .0) (child-below (c .before .before .before .before .before .before .before .before .before .before .before .before .before .before .before .before .before .before .before .before .pre .1 .0 .lens-node) s), ((given-match (c .before .before .before .before .before .before .before .before .before .before .before .before .before .before .before .before .before .before .before .before .pre .1 .1 .0 .sheet-given) s, inner-flat (c .before .before .before .before .before .before .before .before .before .before .before .before .before .before .before .before .before .before .before .before .pre .1 .0 .lens-node) s), c .before .before .before .before .before .before .before .before .before .before .before .before .before .before .before .before .before .before .before .before .pre .1 .1 .1)),
+      omega (arith, c .before .before .before .before .before .before .before .before .before .before .before .before .before .before .before .before .before .before .pre .0, s .lower),
+      (ready-below (c .before .before .before .before .before .before .before .before .before .before .before .before .before .before .before .before .before .before .pre .1 .0) (child-below (c .before .before .before .before .before .before .before .before .before .before .before .before .before .before .before .before .before .before .pre .1 .0 .lens-node) s), ((given-match (c .before .before .before .before .before .before .before .before .before .before .before .before .before .before .before .before .before .before .pre .1 .1 .0 .sheet-given) s, inner-flat (c .before .before .before .before .before .before .before .before .before .before .before .before .before .before .before .before .before .before .pre .1 .0 .lens-node) s), c .before .before .before .before .before .before .before .before .before .before .before .before .before .before .before .before .before .before .pre .1 .1 .1)),
     )
 
 put-plain-behind-requires-2 : (t : ℕ) → put-lts.Need-plain-behind-requires-2 (put-calls t) (put-at t) put.Post
 put-plain-behind-requires-2 t c κs = (
-  c .before .before .before .before .before .before .before .before .before .before .before .before .before .before .before .before .before .pre .1 .0,
+  c .before .before .before .before .before .before .before .before .before .before .before .before .before .before .before .pre .1 .0,
   (
-    given-onto (c .before .before .before .before .before .before .before .before .before .before .before .before .before .before .before .before .before .pre .1 .1 .0),
-    (
-      (c .before .before .before .before .before .before .before .before .before .before .before .before .before .before .before .before .before .pre .1 .1 .1 .0, leaf-asks-none (c .before .before .before .before .before .before .before .before .before .before .before .before .before .before .before .before .before .pre .1 .0 .lens-node) (c .before .before .before .node .ensures) (c .before .before .before .before .before .before .before .before .before .before .before .before .before .before .before .before .before .pre .1 .0 .below-is) (c .before .before .match .keys5)),
-      leaf-met (c .before .before .before .before .before .before .before .before .before .before .before .before .before .before .before .before .before .pre .1 .0 .lens-node) (c .before .before .before .node .ensures) _ _ (c .before .before .match .keys5),
-    ),
+    given-onto (c .before .before .before .before .before .before .before .before .before .before .before .before .before .before .before .pre .1 .1 .0),
+    (c .before .before .before .before .before .before .before .before .before .before .before .before .before .before .before .pre .1 .1 .1 .0, leaf-asks-none (c .before .before .before .before .before .before .before .before .before .before .before .before .before .before .before .pre .1 .0 .lens-node) (c .before .before .before .node .ensures) (c .before .before .before .before .before .before .before .before .before .before .before .before .before .before .before .pre .1 .0 .below-is) (c .before .before .match .keys5)),
   ),
 )
 
-put-same-length-5 : (t : ℕ) → put-lts.Need-same-length-5 (put-calls t) (put-at t) put.Post
-put-same-length-5 t c =
-    let known = c .before .before .before .before .before .before .before .before .before .before .before .before .before .before .before .before .before .before .before .before .before .before .before .before .before .before .before .before .before .before .before .before .before .before .before .before .before .before .before .before .before .before .pre .1 .0 .lens-node in
+put-same-length-3 : (t : ℕ) → put-lts.Need-same-length-3 (put-calls t) (put-at t) put.Post
+put-same-length-3 t c =
+    let known = c .before .before .before .before .before .before .before .before .before .before .before .before .before .before .before .before .before .before .before .before .before .before .before .before .before .before .before .before .before .before .before .before .before .before .before .before .before .before .before .before .pre .1 .0 .lens-node in
     let s = shown-join (c .before .before .before .before .before .before .before .before .before .before .before .before .before .before .before .before .before .before .before .before .before .before .before .before .before .before .before .before .node .ensures) (c .before .before .before .before .before .before .before .before .before .before .before .before .before .before .before .before .before .before .before .before .before .before .before .before .before .before .kind .given .1) in
-    right-back known s (c .before .before .before .before .before .before .before .before .before .before .before .before .before .before .before .before .before .before .before .before .before .before .before .before .before .before .before .before .before .before .before .before .before .before .before .before .before .before .before .before .before .before .pre .1 .1 .0 .sheet-given) (c .before .before .before .before .before .before .before .before .before .before .before .before .before .before .before .before .before .before .before .before .before .before .before .cut-sheet .ensures) (c .before .before .before .before .before .before .before .before .before .before .before .before .before .before .before .before .before .put .last .1 .1 .1 .1 .1 .0) (c .before .before .before .before .before .before .put2 .last .1 .1 .1 .1 .1 .0) (c .before .before .before .before .before .before .before .before .before .before .before .before .before .before .before .before .before .put .kept .1 .1 .1 .1 .1 .0) (c .before .before .before .before .before .before .put2 .kept .1 .1 .1 .1 .1 .0)
+    right-back known s (c .before .before .before .before .before .before .before .before .before .before .before .before .before .before .before .before .before .before .before .before .before .before .before .before .before .before .before .before .before .before .before .before .before .before .before .before .before .before .before .before .pre .1 .1 .0 .sheet-given) (c .before .before .before .before .before .before .before .before .before .before .before .before .before .before .before .before .before .before .before .before .before .before .before .cut-sheet .ensures) (c .before .before .before .before .before .before .before .before .before .before .before .before .before .before .before .before .before .put .last .1 .1 .1 .1 .1 .0) (c .before .before .before .before .before .before .put2 .last .1 .1 .1 .1 .1 .0) (c .before .before .before .before .before .before .before .before .before .before .before .before .before .before .before .before .before .put .kept .1 .1 .1 .1 .1 .0) (c .before .before .before .before .before .before .put2 .kept .1 .1 .1 .1 .1 .0)
 
-put-same-length-6 : (t : ℕ) → put-lts.Need-same-length-6 (put-calls t) (put-at t) put.Post
-put-same-length-6 t c = c .before .before .before .before .before .before .put2 .kept .1 .1 .1 .1 .1 .1 .1 .1 .1 .0 ∙ c .before .before .before .before .before .before .before .before .before .before .before .before .before .before .before .before .before .put .kept .1 .1 .1 .1 .1 .1 .1 .1 .1 .0
+put-same-length-4 : (t : ℕ) → put-lts.Need-same-length-4 (put-calls t) (put-at t) put.Post
+put-same-length-4 t c = c .before .before .before .before .before .before .put2 .kept .1 .1 .1 .1 .1 .1 .1 .1 .1 .0 ∙ c .before .before .before .before .before .before .before .before .before .before .before .before .before .before .before .before .before .put .kept .1 .1 .1 .1 .1 .1 .1 .1 .1 .0
 
-put-same-length-7 : (t : ℕ) → put-lts.Need-same-length-7 (put-calls t) (put-at t) put.Post
-put-same-length-7 t c = c .before .before .before .before .before .before .put2 .kept .1 .1 .1 .1 .1 .1 .1 .1 .1 .1 .0 ∙ c .before .before .before .before .before .before .before .before .before .before .before .before .before .before .before .before .before .put .kept .1 .1 .1 .1 .1 .1 .1 .1 .1 .1 .0
+put-same-length-5 : (t : ℕ) → put-lts.Need-same-length-5 (put-calls t) (put-at t) put.Post
+put-same-length-5 t c = c .before .before .before .before .before .before .put2 .kept .1 .1 .1 .1 .1 .1 .1 .1 .1 .1 .0 ∙ c .before .before .before .before .before .before .before .before .before .before .before .before .before .before .before .before .before .put .kept .1 .1 .1 .1 .1 .1 .1 .1 .1 .1 .0
 
-put-returns-3 : (t : ℕ) → put-lts.Need-returns-3 (put-calls t) (put-at t) put.Post
-put-returns-3 t c =
-    let known = c .before .before .before .before .before .before .before .before .before .before .before .before .before .before .before .before .before .before .before .before .before .before .before .before .before .before .before .before .before .before .before .before .before .before .before .before .before .before .before .before .before .before .pre .1 .0 .lens-node in
+put-returns-2 : (t : ℕ) → put-lts.Need-returns-2 (put-calls t) (put-at t) put.Post
+put-returns-2 t c =
+    let known = c .before .before .before .before .before .before .before .before .before .before .before .before .before .before .before .before .before .before .before .before .before .before .before .before .before .before .before .before .before .before .before .before .before .before .before .before .before .before .before .before .pre .1 .0 .lens-node in
     let s = shown-join (c .before .before .before .before .before .before .before .before .before .before .before .before .before .before .before .before .before .before .before .before .before .before .before .before .before .before .before .before .node .ensures) (c .before .before .before .before .before .before .before .before .before .before .before .before .before .before .before .before .before .before .before .before .before .before .before .before .before .before .kind .given .1) in
     let cut-is = c .before .before .before .before .before .before .before .before .before .before .before .before .before .before .before .before .before .before .before .before .before .before .before .cut-sheet .ensures in
-    join-put known s (c .before .before .before .before .before .before .before .before .before .before .before .before .before .before .before .before .before .before .before .before .before .before .before .before .before .before .before .before .before .before .before .before .before .before .before .before .before .before .before .before .before .before .pre .1 .1 .0 .sheet-given) cut-is (c .before .before .before .before .before .before .before .before .before .before .before .before .before .before .before .before .before .before .before .before .before .before .before .before .before .before .before .before .before .before .before .before .before .before .before .before .before .before .before .before .before .before .pre .1 .1 .0 .old-parsed) (c .before .before .before .before .before .before .before .before .before .before .before .before .before .before .before .before .before .before .before .before .before .before .halves-of .ensures) (c .before .before .before .before .before .before .before .before .before .before .before .before .before .before .before .before .before .put .ensures) (c .before .before .before .before .before .before .put2 .ensures)
+    join-put known s (c .before .before .before .before .before .before .before .before .before .before .before .before .before .before .before .before .before .before .before .before .before .before .before .before .before .before .before .before .before .before .before .before .before .before .before .before .before .before .before .before .pre .1 .1 .0 .sheet-given) cut-is (c .before .before .before .before .before .before .before .before .before .before .before .before .before .before .before .before .before .before .before .before .before .before .before .before .before .before .before .before .before .before .before .before .before .before .before .before .before .before .before .before .pre .1 .1 .0 .old-parsed) (c .before .before .before .before .before .before .before .before .before .before .before .before .before .before .before .before .before .before .before .before .before .before .halves-of .ensures) (c .before .before .before .before .before .before .before .before .before .before .before .before .before .before .before .before .before .put .ensures) (c .before .before .before .before .before .before .put2 .ensures)
+
+put-same-length-6 : (t : ℕ) → put-lts.Need-same-length-6 (put-calls t) (put-at t) put.Post
+put-same-length-6 t c = search needs
+
+put-same-length-7 : (t : ℕ) → put-lts.Need-same-length-7 (put-calls t) (put-at t) put.Post
+put-same-length-7 t c = search needs
 
 put-same-length-8 : (t : ℕ) → put-lts.Need-same-length-8 (put-calls t) (put-at t) put.Post
 put-same-length-8 t c = search needs
+
+put-returns-3 : (t : ℕ) → put-lts.Need-returns-3 (put-calls t) (put-at t) put.Post
+put-returns-3 t c =
+    let s = shown-union (c .before .before .before .before .before .before .before .before .before .before .before .before .before .before .before .before .before .before .before .before .before .node .ensures) (c .before .before .before .before .before .before .before .before .before .before .before .before .before .before .before .before .before .before .before .kind2 .given .1) in
+    union-writes s (choice-arm (c .before .before .before .before .before .before .before .before .before .before .before .before .before .before .before .before .before .before .before .before .before .before .before .before .before .before .before .before .before .before .before .before .before .pre .1 .0 .lens-node) s (c .before .before .before .before .before .before .before .before .before .before .before .before .before .before .before .before .before .before .before .before .before .before .before .before .before .before .before .before .before .before .before .before .before .pre .1 .1 .0) (c .before .before .before .before .before .before .before .before .before .before .before .before .before .before .before .before .choose .ensures)) (old-put (c .before .before .before .before .before .before .before .before .before .before .before .kept .given .1) (c .before .before .before .before .before .before .put3 .ensures))
 
 put-same-length-9 : (t : ℕ) → put-lts.Need-same-length-9 (put-calls t) (put-at t) put.Post
 put-same-length-9 t c = search needs
@@ -645,13 +599,13 @@ put-same-length-9 t c = search needs
 put-same-length-10 : (t : ℕ) → put-lts.Need-same-length-10 (put-calls t) (put-at t) put.Post
 put-same-length-10 t c = search needs
 
-put-returns-4 : (t : ℕ) → put-lts.Need-returns-4 (put-calls t) (put-at t) put.Post
-put-returns-4 t c =
-    let s = shown-union (c .before .before .before .before .before .before .before .before .before .before .before .before .before .before .before .before .before .before .before .before .before .node .ensures) (c .before .before .before .before .before .before .before .before .before .before .before .before .before .before .before .before .before .before .before .kind2 .given .1) in
-    union-writes s (choice-arm (c .before .before .before .before .before .before .before .before .before .before .before .before .before .before .before .before .before .before .before .before .before .before .before .before .before .before .before .before .before .before .before .before .before .before .before .pre .1 .0 .lens-node) s (c .before .before .before .before .before .before .before .before .before .before .before .before .before .before .before .before .before .before .before .before .before .before .before .before .before .before .before .before .before .before .before .before .before .before .before .pre .1 .1 .0) (c .before .before .before .before .before .before .before .before .before .before .before .before .before .before .before .before .choose .ensures)) (old-put (c .before .before .before .before .before .before .before .before .before .before .before .kept .given .1) (c .before .before .before .before .before .before .put3 .ensures))
-
 put-same-length-11 : (t : ℕ) → put-lts.Need-same-length-11 (put-calls t) (put-at t) put.Post
 put-same-length-11 t c = search needs
+
+put-returns-4 : (t : ℕ) → put-lts.Need-returns-4 (put-calls t) (put-at t) put.Post
+put-returns-4 t c =
+    let s = shown-union (c .before .before .before .before .before .before .before .before .before .before .before .before .before .before .before .before .before .before .before .before .node .ensures) (c .before .before .before .before .before .before .before .before .before .before .before .before .before .before .before .before .before .before .kind2 .given .1) in
+    union-writes s (choice-arm (c .before .before .before .before .before .before .before .before .before .before .before .before .before .before .before .before .before .before .before .before .before .before .before .before .before .before .before .before .before .before .before .before .pre .1 .0 .lens-node) s (c .before .before .before .before .before .before .before .before .before .before .before .before .before .before .before .before .before .before .before .before .before .before .before .before .before .before .before .before .before .before .before .before .pre .1 .1 .0) (c .before .before .before .before .before .before .before .before .before .before .before .before .before .before .before .choose .ensures)) (old-created (c .before .before .before .before .before .before .before .before .before .before .enum-told .given .1) (c .before .before .before .before .before .before .create .ensures))
 
 put-same-length-12 : (t : ℕ) → put-lts.Need-same-length-12 (put-calls t) (put-at t) put.Post
 put-same-length-12 t c = search needs
@@ -659,13 +613,12 @@ put-same-length-12 t c = search needs
 put-same-length-13 : (t : ℕ) → put-lts.Need-same-length-13 (put-calls t) (put-at t) put.Post
 put-same-length-13 t c = search needs
 
-put-returns-5 : (t : ℕ) → put-lts.Need-returns-5 (put-calls t) (put-at t) put.Post
-put-returns-5 t c =
-    let s = shown-union (c .before .before .before .before .before .before .before .before .before .before .before .before .before .before .before .before .before .before .before .before .node .ensures) (c .before .before .before .before .before .before .before .before .before .before .before .before .before .before .before .before .before .before .kind2 .given .1) in
-    union-writes s (choice-arm (c .before .before .before .before .before .before .before .before .before .before .before .before .before .before .before .before .before .before .before .before .before .before .before .before .before .before .before .before .before .before .before .before .before .before .pre .1 .0 .lens-node) s (c .before .before .before .before .before .before .before .before .before .before .before .before .before .before .before .before .before .before .before .before .before .before .before .before .before .before .before .before .before .before .before .before .before .before .pre .1 .1 .0) (c .before .before .before .before .before .before .before .before .before .before .before .before .before .before .before .choose .ensures)) (old-created (c .before .before .before .before .before .before .before .before .before .before .enum-told .given .1) (c .before .before .before .before .before .before .create .ensures))
-
 put-same-length-14 : (t : ℕ) → put-lts.Need-same-length-14 (put-calls t) (put-at t) put.Post
 put-same-length-14 t c = search needs
+
+put-returns-5 : (t : ℕ) → put-lts.Need-returns-5 (put-calls t) (put-at t) put.Post
+unfolding oldText
+put-returns-5 t c = c .before .before .before .before .before .before .write-repeat .ensures
 
 put-same-length-15 : (t : ℕ) → put-lts.Need-same-length-15 (put-calls t) (put-at t) put.Post
 put-same-length-15 t c = search needs
@@ -673,12 +626,13 @@ put-same-length-15 t c = search needs
 put-same-length-16 : (t : ℕ) → put-lts.Need-same-length-16 (put-calls t) (put-at t) put.Post
 put-same-length-16 t c = search needs
 
-put-returns-6 : (t : ℕ) → put-lts.Need-returns-6 (put-calls t) (put-at t) put.Post
-unfolding oldText
-put-returns-6 t c = c .before .before .before .before .before .before .write-repeat .ensures
-
 put-same-length-17 : (t : ℕ) → put-lts.Need-same-length-17 (put-calls t) (put-at t) put.Post
 put-same-length-17 t c = search needs
+
+put-returns-6 : (t : ℕ) → put-lts.Need-returns-6 (put-calls t) (put-at t) put.Post
+put-returns-6 t c =
+    let s = shown-match (c .before .before .before .before .before .before .before .before .before .before .before .before .before .node .ensures) (c .before .before .before .before .before .before .before .before .before .before .before .kind4 .given .1) in
+    at-node (match _ (s .child)) (s .tree-is) (c .before .before .before .before .before .before .write-match .ensures .writes (s .child) (s .at-child) _)
 
 put-same-length-18 : (t : ℕ) → put-lts.Need-same-length-18 (put-calls t) (put-at t) put.Post
 put-same-length-18 t c = search needs
@@ -687,19 +641,8 @@ put-same-length-19 : (t : ℕ) → put-lts.Need-same-length-19 (put-calls t) (pu
 put-same-length-19 t c = search needs
 
 put-returns-7 : (t : ℕ) → put-lts.Need-returns-7 (put-calls t) (put-at t) put.Post
-put-returns-7 t c =
-    let s = shown-match (c .before .before .before .before .before .before .before .before .before .before .before .before .before .node .ensures) (c .before .before .before .before .before .before .before .before .before .before .before .kind4 .given .1) in
-    at-node (match _ (s .child)) (s .tree-is) (c .before .before .before .before .before .before .write-match .ensures .writes (s .child) (s .at-child) _)
-
-put-same-length-20 : (t : ℕ) → put-lts.Need-same-length-20 (put-calls t) (put-at t) put.Post
-put-same-length-20 t c = search needs
-
-put-same-length-21 : (t : ℕ) → put-lts.Need-same-length-21 (put-calls t) (put-at t) put.Post
-put-same-length-21 t c = search needs
-
-put-returns-8 : (t : ℕ) → put-lts.Need-returns-8 (put-calls t) (put-at t) put.Post
 unfolding oldText
-put-returns-8 t c = c .before .before .before .before .plain-behind2 .ensures
+put-returns-7 t c = c .before .before .before .before .plain-behind2 .ensures
 
 write-match-find-entry-requires : (t : ℕ) → write-match-lts.Need-find-entry-requires (write-match-calls t) (write-match-at t) write-match.Post
 write-match-find-entry-requires t c κs = (c .before .before .before .before .before .before .before .before .before .before .before .pre .1 .0 .lens-node, (c .before .before .before .before .before .before .before .before .before .before .before .pre .1 .1 .0 .0, (c .before .before .before .before .before .before .before .before .before .before .before .pre .1 .0 .looks-in, c .before .before .before .before .before .before .before .before .before .before .before .pre .1 .1 .1 .1)))
@@ -931,16 +874,11 @@ pub +create+put+write-match+write-parts+write-repeat-spec : {M : Type 1} → sta
     close μ-create μ-put μ-write-match μ-write-parts μ-write-repeat (λ t. create-lts.spec (create-calls t)
     (create-at t)
     create.Post
-    (create-plain-count-requires t)
+    (create-asks-none-requires t)
     (create-plain-behind-requires t)
     (create-same-length t)
     (create-same-length-2 t)
     (create-returns t)
-    (create-asks-none-requires t)
-    (create-counted-behind-requires t)
-    (create-same-length-3 t)
-    (create-same-length-4 t)
-    (create-returns-2 t)
     (create-node-requires t)
     (create-enum-known-kind t)
     (create-cut-sheet-requires t)
@@ -966,38 +904,33 @@ pub +create+put+write-match+write-parts+write-repeat-spec : {M : Type 1} → sta
     (create-enum-known-kind-4 t)
     (create-write-match-requires t)
     (create-plain-behind-requires-2 t)
+    (create-same-length-3 t)
+    (create-same-length-4 t)
     (create-same-length-5 t)
+    (create-returns-2 t)
     (create-same-length-6 t)
     (create-same-length-7 t)
-    (create-returns-3 t)
     (create-same-length-8 t)
+    (create-returns-3 t)
     (create-same-length-9 t)
     (create-same-length-10 t)
-    (create-returns-4 t)
     (create-same-length-11 t)
+    (create-returns-4 t)
     (create-same-length-12 t)
     (create-same-length-13 t)
-    (create-returns-5 t)
     (create-same-length-14 t)
+    (create-returns-5 t)
     (create-same-length-15 t)
     (create-same-length-16 t)
-    (create-returns-6 t)
-    (create-same-length-17 t)
-    (create-same-length-18 t)
-    (create-returns-7 t))
+    (create-returns-6 t))
     (λ t. put-lts.spec (put-calls t)
     (put-at t)
     put.Post
-    (put-plain-count-requires t)
+    (put-asks-none-requires t)
     (put-plain-behind-requires t)
     (put-same-length t)
     (put-same-length-2 t)
     (put-returns t)
-    (put-asks-none-requires t)
-    (put-counted-behind-requires t)
-    (put-same-length-3 t)
-    (put-same-length-4 t)
-    (put-returns-2 t)
     (put-node-requires t)
     (put-enum-known-kind t)
     (put-cut-sheet-requires t)
@@ -1027,29 +960,29 @@ pub +create+put+write-match+write-parts+write-repeat-spec : {M : Type 1} → sta
     (put-enum-known-kind-4 t)
     (put-write-match-requires t)
     (put-plain-behind-requires-2 t)
+    (put-same-length-3 t)
+    (put-same-length-4 t)
     (put-same-length-5 t)
+    (put-returns-2 t)
     (put-same-length-6 t)
     (put-same-length-7 t)
-    (put-returns-3 t)
     (put-same-length-8 t)
+    (put-returns-3 t)
     (put-same-length-9 t)
     (put-same-length-10 t)
-    (put-returns-4 t)
     (put-same-length-11 t)
+    (put-returns-4 t)
     (put-same-length-12 t)
     (put-same-length-13 t)
-    (put-returns-5 t)
     (put-same-length-14 t)
+    (put-returns-5 t)
     (put-same-length-15 t)
     (put-same-length-16 t)
-    (put-returns-6 t)
     (put-same-length-17 t)
+    (put-returns-6 t)
     (put-same-length-18 t)
     (put-same-length-19 t)
-    (put-returns-7 t)
-    (put-same-length-20 t)
-    (put-same-length-21 t)
-    (put-returns-8 t))
+    (put-returns-7 t))
     (λ t. write-match-lts.spec (write-match-calls t)
     (write-match-at t)
     write-match.Post

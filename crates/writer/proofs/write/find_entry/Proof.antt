@@ -1,4 +1,4 @@
-use Rattle.writer.proofs.Given.{may-take, entry-found}
+use Rattle.writer.proofs.Ready.{may-take, entry-found}
 use borrow.Author.Needs.{needs}
 use Rattle.writer.proofs.write.find_entry.Statement.{statement}
 use Rattle.writer.proofs.write.find_entry.Tie as tie

@@ -1,8 +1,9 @@
-use Rattle.writer.proofs.Given.{looks-left, found-fits, may-take, entry-found, given-match}
-use Rattle.writer.proofs.Parts.{Parting, none-ends, parting-begins, more-path, more-lent, part-inside, part-given, part-back, parting-next, parting-ends, matches-written}
-use Rattle.writer.proofs.ByKind.{match-plain}
-use Rattle.writer.proofs.Unasked.{inner-flat, inner-unasked}
-use Rattle.writer.proofs.Behind.{at-node}
+use Rattle.writer.proofs.Ready.{looks-left, found-fits, may-take, entry-found}
+use Rattle.plains.proofs.Given.{given-match}
+use Rattle.writer.proofs.Matching.{match-plain, none-ends, matches-written}
+use Rattle.plains.proofs.Parts.{Parting, parting-begins, more-path, more-lent, part-inside, part-given, part-back, parting-next, parting-ends}
+use Rattle.plains.proofs.Unasked.{inner-flat, inner-unasked}
+use Rattle.plains.proofs.Behind.{at-node}
 use Rattle.steps.specs.Stepping.{old-none}
 use Rattle.books.specs.declared.Old.the-variants.{Nothing}
 use Rattle.lens.specs.Nodes.{child-below}
@@ -19,7 +20,7 @@ use Rattle.writer.proofs.write.write_matches.Lts as lts
 use Rattle.books.proofs.Book.take.Reads as take-reads
 use Rattle.decks.proofs.cards.card_of.Reads as card-of-reads
 use Rattle.paths.proofs.first_loop.Reads as first-loop-reads
-use Rattle.writer.proofs.plain.next_plain.Reads as next-plain-reads
+use Rattle.plains.proofs.plain.next_plain.Reads as next-plain-reads
 
 abbrev Inv-loop : tie.InvT-loop
 Inv-loop bytes prepared child part new path₀ deck below card₀ out₀ last first book₀ wrote₀ met₀ o₀ path card out book wrote met o =

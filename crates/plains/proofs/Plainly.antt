@@ -13,7 +13,6 @@ use Rattle.semantics.specs.Table.{trees, treeAt, lens}
 use Rattle.semantics.specs.Tally.{met}
 use Rattle.laws.specs.Basics.{not-both, or-left, or-right}
 use Rattle.laws.specs.Bookless.{asks}
-use Rattle.positions.specs.declared.Set.{Set}
 use Rattle.positions.specs.Positions.{Empty}
 use Rattle.positions.proofs.Bits.{empty-test}
 use Rattle.table.specs.Prepared.{OneLens, TwoLenses}
@@ -25,11 +24,11 @@ use Rattle.books.specs.Looking.{BookOver}
 use Rattle.decks.specs.Below.{BelowIs}
 use Rattle.steps.specs.declared.Spot.{Spot}
 use Rattle.steps.specs.Steps.{ArmIs}
-use Rattle.writer.specs.declared.plain.Plain.{Plain}
-use Rattle.writer.specs.Writing.{AsksNone, MeetsThere, Fitted, PlainReady, MeetsNext, WritesPlainly}
-use Rattle.writer.proofs.Behind.{behind-left}
-use Rattle.writer.proofs.Unasked.{none-asked}
-use Rattle.writer.proofs.ByKind.{one-met, plain-writes}
+use Rattle.plains.specs.declared.plain.Plain.{Plain}
+use Rattle.plains.specs.Writing.{AsksNone, MeetsThere, Fitted, PlainReady, MeetsNext, WritesPlainly}
+use Rattle.plains.proofs.Behind.{behind-left}
+use Rattle.plains.proofs.Unasked.{none-asked}
+use Rattle.plains.proofs.ByKind.{one-met, plain-writes}
 
 -- ---- A book with no entries
 

@@ -1,46 +1,38 @@
-use Rattle.writer.proofs.Behind.{front-written}
+use Rattle.plains.proofs.Behind.{front-written}
 use Rattle.steps.specs.Stepping.{writes-behind, behind-fits}
 use Rattle.lens.specs.Overlay.{writes-full}
 use Rattle.laws.specs.Bookless.{plain}
 use native.Mathlib.Omega.{arith}
 use borrow.Author.Needs.{needs}
-use Rattle.writer.proofs.plain.next_plain.Statement.{statement}
-use Rattle.writer.proofs.plain.next_plain.Tie as tie
-use Rattle.writer.proofs.plain.next_plain.Reads as reads
-use Rattle.writer.proofs.plain.next_plain.Lts as lts
+use Rattle.plains.proofs.plain.next_plain.Statement.{statement}
+use Rattle.plains.proofs.plain.next_plain.Tie as tie
+use Rattle.plains.proofs.plain.next_plain.Reads as reads
+use Rattle.plains.proofs.plain.next_plain.Lts as lts
 use Rattle.bookless.proofs.write.Reads as write-reads
 use Rattle.steps.proofs.behind.Reads as behind-reads
 
--- src/write.rt:58:22
 enum-known-wrote : tie.Need-enum-known-wrote
 enum-known-wrote c = search needs
 
--- src/write.rt:59:9
 enum-told : tie.Need-enum-told
 enum-told c = search needs
 
--- src/write.rt:59:9
 returns : tie.Need-returns
 returns c =
     record { writes = λ l e text before w. rw (c .enum-told .given .1) (writes-full text (plain l _ _) before _ (rw (c .enum-told .given .1) at w)) }
 
--- src/write.rt:61:16
 sub-rest : tie.Need-sub-rest
 sub-rest c = c .before .before .before .before .before .before .before .before .before .pre .1 .1 .within _ (c .before .wrote .given .1)
 
--- src/write.rt:61:16
 part-rest-start : tie.Need-part-rest-start
 part-rest-start c = omega (arith, c .before .before .before .before .before .before .before .before .before .pre .1 .1 .within _ (c .before .wrote .given .1))
 
--- src/write.rt:61:16
 part-rest-end : tie.Need-part-rest-end
 part-rest-end c = search needs
 
--- src/write.rt:62:9
 write-requires : tie.Need-write-requires
 write-requires c κs = (c .before .before .before .before .before .before .before .before .before .before .before .pre .0, c .before .before .before .before .before .before .before .before .before .before .before .pre .1 .0)
 
--- src/write.rt:63:5
 behind-requires : tie.Need-behind-requires
 behind-requires c κs =
     let known = c .before .before .before .before .before .before .before .before .before .before .before .before .before .before .before .before .pre .0 in
@@ -57,15 +49,12 @@ behind-requires c κs =
     (c .before .before .before .before .write .ensures .writes (known .tree) (known .tree-is))
     (omega (arith, c .before .before .before .before .before .before .before .before .before .before .before .before .before .before .before .before .good))
 
--- src/write.rt:42:1
 same-length : tie.Need-same-length
 same-length c = search needs
 
--- src/write.rt:42:1
 same-length-2 : tie.Need-same-length-2
 same-length-2 c = search needs
 
--- src/write.rt:42:1
 returns-2 : tie.Need-returns-2
 returns-2 c =
     record {

@@ -22,10 +22,10 @@ use Rattle.steps.specs.declared.Halves.{Halves}
 use Rattle.steps.specs.Steps.{cutSheet, halvesOf}
 use Rattle.steps.specs.Stepping.{behind-back, cut-inside, cut-near, cut-far, cut-there, first-text, second-text, first-parsed, second-parsed}
 use Rattle.bookless.specs.Bookless.{NewGiven}
-use Rattle.writer.specs.declared.Done.{Done}
-use Rattle.writer.specs.Writing.{WritesBehind}
-use Rattle.writer.proofs.Behind.{at-node}
-use Rattle.writer.proofs.ByKind.{join-writes}
+use Rattle.plains.specs.declared.Done.{Done}
+use Rattle.plains.specs.Writing.{WritesBehind}
+use Rattle.plains.proofs.Behind.{at-node}
+use Rattle.plains.proofs.ByKind.{join-writes}
 
 module _
     {bytes : Text}

@@ -31,7 +31,7 @@ ghost use Rattle.lens.specs.Emitting.{LensNode};
 ghost use Rattle.books.specs.Looking.{partAt, oldText};
 ghost use Rattle.bookless.specs.Bookless.{NewGiven, Given, GivenOld};
 ghost use Rattle.steps.specs.Steps.{EndsAre};
-ghost use Rattle.writer.specs.Writing.{MeetsThere, Fitted, WritesNext, PlainReady, MeetsNext, WritesPlainly};
+ghost use Rattle.plains.specs.Writing.{MeetsThere, Fitted, WritesNext, PlainReady, MeetsNext, WritesPlainly};
 
 // What was written so far, and how many matches were met, modulo 2^64.
 pub struct Plain {
@@ -65,7 +65,7 @@ pub fn next_plain(
 }
 
 // The same of a node that meets so many matches.
-fn next_counted(
+pub fn next_counted(
     plain: Plain,
     matches: usize,
     bytes: &[u8],

@@ -1,14 +1,14 @@
 -- The parts of a repeat, written one by one: before the first, with one more, behind the last.
-use mathlib.Core.Path.{_≡_, refl, sym, ap, ap₂, _∙_}
+use mathlib.Core.Path.{_≡_, refl, sym, ap, _∙_}
 use mathlib.Core.List.{List, [], _∷_, _++_}
-use mathlib.Core.Option.{Option, none, some}
+use mathlib.Core.Option.{none, some}
 use Prim.Native.Nat.{ℕ, _+_, _-_, _≤_, _<_}
 use native.Mathlib.Nat.{add-zero, add-assoc}
 use native.Mathlib.Omega.{arith}
 use lib.ListN.{length, take, drop, length-append, length-take, length-drop, drop-of-length-le}
 use lib.Seq.{drop-drop}
-use Rattle.semantics.specs.Text.{Text, orElse, apply}
-use Rattle.semantics.specs.Lens.{Lens, repeat, match, source, sheet, language, parts, Written, Writer, andThen, writeParts, write}
+use Rattle.semantics.specs.Text.{Text}
+use Rattle.semantics.specs.Lens.{Lens, repeat, sheet, language, parts, Written, Writer, andThen, writeParts, write}
 use Rattle.semantics.specs.Lens.{Book as Entries}
 use Rattle.semantics.specs.Table.{trees, lens}
 use Rattle.semantics.specs.Tally.{Meeting, meetParts, met}
@@ -25,16 +25,15 @@ use Rattle.lens.specs.Nodes.{same-lens, child-below}
 use Rattle.lens.specs.Parsed.{Parsed, ParsedFrom, Ends as EndsOf, parsed-length, parsed-begin, loop-inside-from, loop-moves-from, loop-part-from, loop-rest-from, loop-is-part-from}
 use Rattle.books.specs.declared.Book.{Book}
 use Rattle.books.specs.declared.Old.{Old}
-use Rattle.books.specs.declared.Old.the-variants.{Nothing}
 use Rattle.books.specs.Looking.{oldText, OldFits, BookOver, same-all, same-then}
 use Rattle.steps.specs.declared.Next.{Next}
 use Rattle.steps.specs.declared.Spot.{Spot}
 use Rattle.steps.specs.Steps.{EndsAre, nextOf, oldParts, firstOf, othersOf}
 use Rattle.steps.specs.Stepping.{behind-back, sheet-ends, OldEnds, next-fits}
 use Rattle.bookless.specs.Bookless.{NewGiven}
-use Rattle.writer.specs.declared.Done.{Done}
-use Rattle.writer.specs.Writing.{WithinBuffer, Progress, WritesBehind, WritesMatches}
-use Rattle.writer.proofs.Behind.{then-same, then-again, then-nothing, progress-is, Left, behind-left, at-node, behind-same}
+use Rattle.plains.specs.declared.Done.{Done}
+use Rattle.plains.specs.Writing.{WithinBuffer, Progress, WritesBehind}
+use Rattle.plains.proofs.Behind.{then-same, then-again, then-nothing, progress-is, Left, behind-left, at-node}
 
 -- ---- What the definitions write
 
@@ -101,52 +100,7 @@ none-met : (f : Meeting) (olds : List Text) → length (meetParts f olds []) ≡
 unfolding meetParts
 none-met f olds = refl
 
--- a writer that does not look at old texts writes parts that do not
-parts-free :
-    (w : Writer)
-    → ((old : Option Text) (a : Text) (b : Entries) → w old a b ≡ w none a b)
-    → (olds news : List Text) (b : Entries) → writeParts w olds news b ≡ writeParts w [] news b
-unfolding writeParts
-parts-free w free olds [] b = refl
-parts-free w free [] (a ∷ news) b = refl
-parts-free w free (t ∷ olds) (a ∷ news) b =
-    ap (λ v. andThen v (writeParts w olds news)) (free (some t) a b) ∙ then-same (w none a b) (λ b′. parts-free w free olds news b′)
-
--- so with the matches that they meet
-met-free : (f : Meeting) → ((old : Option Text) (a : Text) → f old a ≡ f none a) → (olds news : List Text) → meetParts f olds news ≡ meetParts f [] news
-unfolding meetParts
-met-free f free olds [] = refl
-met-free f free [] (a ∷ news) = refl
-met-free f free (t ∷ olds) (a ∷ news) = ap₂ _++_ (free (some t) a) (met-free f free olds news)
-
--- so with a repeat of a match
-matches-free : (n : ℕ) (l : Lens) (old : Option Text) (new : Text) (b : Entries) → write (repeat (match n l)) old new b ≡ write (repeat (match n l)) none new b
-unfolding write apply orElse
-matches-free n l old new b =
-    parts-free (write (match n l)) (λ t a b′. refl) (orElse [] (apply (parts (language source (match n l))) old)) (parts (language sheet (match n l)) new) b
-
-matches-met : (n : ℕ) (l : Lens) (old : Option Text) (new : Text) → met (repeat (match n l)) old new ≡ met (repeat (match n l)) none new
-unfolding met apply orElse
-matches-met n l old new =
-    met-free (met (match n l)) (λ t a. refl) (orElse [] (apply (parts (language source (match n l))) old)) (parts (language sheet (match n l)) new)
-
-pub matches-written :
-    {bytes : Text} {node child n : ℕ} (deck : Text) {new mid after : Text} {done r : Done}
-    → OneLens (trees bytes) node child (λ l. lens (repeat l))
-    → OneLens (trees bytes) child n (λ l. lens (match n l))
-    → WritesBehind bytes node deck (oldText deck Nothing) new done mid after r
-    → WritesMatches bytes node deck new done mid after r
-unfolding oldText
-matches-written {n = n} deck {new = new} s inner w =
-    let l = match n (inner .child) in
-    let tree-is = s .tree-is ∙ ap (λ k. lens (repeat k)) (same-lens (s .child) l (sym (s .at-child) ∙ inner .tree-is)) in
-    record { writes = λ old. at-node (repeat l) tree-is (behind-same (matches-free n (inner .child) old new) (matches-met n (inner .child) old new) (w .writes (repeat l) tree-is)) }
-
 -- ---- The turns of the loop
-
--- where there is no old text, no part of it ends anywhere
-pub none-ends : {prepared : List ℕ} {child : ℕ} {ends : Ends} → OldEnds prepared child Nothing ends
-none-ends = record { ends-are = λ p e. absurd (let z : _≡_ {A = ℕ} 0 1 = cc in omega arith) }
 
 -- The parts up to o of the sheet were written, from `start` on; the sheet behind o is parsed, and `left` has the old parts of the others.
 pub record Parting

@@ -1,14 +1,14 @@
 -- The proof of the cycle of calls {create_plain, parts_plain, put_plain, repeat_plain}: the node falls. In the loop of the parts, what is written so far is what the parts so far put, with
 -- whatever book is asked nothing. Assumes nothing.
-use Rattle.writer.specs.Writing.{AsksNone, doneWith}
-use Rattle.writer.proofs.Given.{given-none, given-onto, given-at, arm-given, new-arm, choice-arm, choice-given}
-use Rattle.writer.proofs.Parts.{Parting, parting-begins, more-path, more-lent, part-inside, part-given, part-old, part-back, parting-next, parting-ends}
-use Rattle.writer.proofs.Halves.{near-is, far-is, halves-lower, near-known, far-known, at-inside, near-given, left-back, right-back, far-given, near-old, far-old, join-created, join-put}
-use Rattle.writer.proofs.ByKind.{union-writes}
-use Rattle.writer.proofs.Unasked.{leaf-met}
-use Rattle.writer.proofs.Counting.{product-small, count-met, repeat-counted}
-use Rattle.writer.proofs.Plainly.{noBook, no-over, no-asks, plain-below, plain-room, join-asks, arm-asks, child-asks, match-met, next-plainly, plain-within}
-use Rattle.writer.proofs.Behind.{old-put, old-created}
+use Rattle.plains.specs.Writing.{AsksNone, doneWith}
+use Rattle.plains.proofs.Given.{given-none, given-onto, given-at, arm-given, new-arm, choice-arm, choice-given}
+use Rattle.plains.proofs.Parts.{Parting, parting-begins, more-path, more-lent, part-inside, part-given, part-old, part-back, parting-next, parting-ends}
+use Rattle.plains.proofs.Halves.{near-is, far-is, halves-lower, near-known, far-known, at-inside, near-given, left-back, right-back, far-given, near-old, far-old, join-created, join-put}
+use Rattle.plains.proofs.ByKind.{union-writes}
+use Rattle.plains.proofs.Unasked.{leaf-met}
+use Rattle.plains.proofs.Counting.{product-small, count-met, repeat-counted}
+use Rattle.plains.proofs.Plainly.{noBook, no-over, no-asks, plain-below, plain-room, join-asks, arm-asks, child-asks, match-met, next-plainly, plain-within}
+use Rattle.plains.proofs.Behind.{old-put, old-created}
 use Rattle.steps.specs.Stepping.{place-inside, old-inside, old-ends}
 use Rattle.books.specs.declared.Book.{Book}
 use Rattle.books.specs.Looking.{oldText, BookOver}
@@ -23,18 +23,18 @@ use borrow.Author.Needs.{needs}
 use Prim.Native.Nat.{ℕ, _<_}
 use borrow.Fn.Kinds.{In}
 use borrow.Fn.PlainCycle.{Measures, is, falls, and}
-use Rattle.writer.proofs.plain.create_plain.Reads as create-plain
-use Rattle.writer.proofs.plain.create_plain.Kinds as create-plain-kinds
-use Rattle.writer.proofs.plain.+create_plain+parts_plain+put_plain+repeat_plain.Lts-create_plain as create-plain-lts
-use Rattle.writer.proofs.plain.parts_plain.Reads as parts-plain
-use Rattle.writer.proofs.plain.parts_plain.Kinds as parts-plain-kinds
-use Rattle.writer.proofs.plain.+create_plain+parts_plain+put_plain+repeat_plain.Lts-parts_plain as parts-plain-lts
-use Rattle.writer.proofs.plain.put_plain.Reads as put-plain
-use Rattle.writer.proofs.plain.put_plain.Kinds as put-plain-kinds
-use Rattle.writer.proofs.plain.+create_plain+parts_plain+put_plain+repeat_plain.Lts-put_plain as put-plain-lts
-use Rattle.writer.proofs.plain.repeat_plain.Reads as repeat-plain
-use Rattle.writer.proofs.plain.repeat_plain.Kinds as repeat-plain-kinds
-use Rattle.writer.proofs.plain.+create_plain+parts_plain+put_plain+repeat_plain.Lts-repeat_plain as repeat-plain-lts
+use Rattle.plains.proofs.plain.create_plain.Reads as create-plain
+use Rattle.plains.proofs.plain.create_plain.Kinds as create-plain-kinds
+use Rattle.plains.proofs.plain.+create_plain+parts_plain+put_plain+repeat_plain.Lts-create_plain as create-plain-lts
+use Rattle.plains.proofs.plain.parts_plain.Reads as parts-plain
+use Rattle.plains.proofs.plain.parts_plain.Kinds as parts-plain-kinds
+use Rattle.plains.proofs.plain.+create_plain+parts_plain+put_plain+repeat_plain.Lts-parts_plain as parts-plain-lts
+use Rattle.plains.proofs.plain.put_plain.Reads as put-plain
+use Rattle.plains.proofs.plain.put_plain.Kinds as put-plain-kinds
+use Rattle.plains.proofs.plain.+create_plain+parts_plain+put_plain+repeat_plain.Lts-put_plain as put-plain-lts
+use Rattle.plains.proofs.plain.repeat_plain.Reads as repeat-plain
+use Rattle.plains.proofs.plain.repeat_plain.Kinds as repeat-plain-kinds
+use Rattle.plains.proofs.plain.+create_plain+parts_plain+put_plain+repeat_plain.Lts-repeat_plain as repeat-plain-lts
 use Rattle.decks.proofs.below.count_at.Reads as count-at-reads
 use Rattle.paths.proofs.first_loop.Reads as first-loop-reads
 use Rattle.steps.proofs.choose.Reads as choose-reads
@@ -46,9 +46,9 @@ use Rattle.steps.proofs.halves_of.Reads as halves-of-reads
 use Rattle.steps.proofs.next_old.Reads as next-old-reads
 use Rattle.steps.proofs.old_base.Reads as old-base-reads
 use Rattle.table.proofs.Table.node.Reads as node-reads
-use Rattle.writer.proofs.plain.next_counted.Reads as next-counted-reads
-use Rattle.writer.proofs.plain.+create_plain+parts_plain+put_plain+repeat_plain.{statement}
-use Rattle.writer.proofs.plain.+create_plain+parts_plain+put_plain+repeat_plain.Tie.{close}
+use Rattle.plains.proofs.plain.next_counted.Reads as next-counted-reads
+use Rattle.plains.proofs.plain.+create_plain+parts_plain+put_plain+repeat_plain.{statement}
+use Rattle.plains.proofs.plain.+create_plain+parts_plain+put_plain+repeat_plain.Tie.{close}
 
 abbrev μ-create-plain : Measures 7 create-plain-kinds.ps ℕ
 μ-create-plain κs a = 4 * a .1 .1 .1 .0 .node + 2

@@ -1,12 +1,12 @@
--- What put and create owe, in terms of the definitions' `write`, and what they are given.
+-- What put and create owe, in terms of the definitions' `write`, and what they are given where they have no book.
 use mathlib.Core.Path.{_≡_}
 use mathlib.Core.Bool.{false}
 use mathlib.Core.List.{List, _++_}
 use mathlib.Core.Option.{Option}
-use Prim.Native.Nat.{ℕ, _+_, _*_, _%_, _^_, _≤_, _<_}
-use lib.ListN.{length, getD}
+use Prim.Native.Nat.{ℕ, _+_, _*_, _%_, _^_, _≤_}
+use lib.ListN.{length}
 use Rattle.semantics.specs.Text.{Text}
-use Rattle.semantics.specs.Lens.{Lens, match, Written, andThen, write, keyOf}
+use Rattle.semantics.specs.Lens.{Lens, Written, andThen, write}
 use Rattle.semantics.specs.Table.{trees, treeAt, lens, holdsMatch}
 use Rattle.semantics.specs.Tally.{met}
 use Rattle.laws.specs.Bookless.{plain}
@@ -17,27 +17,13 @@ use Rattle.lens.specs.declared.Wrote.the-variants.{Count, Full}
 use Rattle.lens.specs.Overlay.{Writes}
 use Rattle.lens.specs.Emitting.{LensNode}
 use Rattle.books.specs.declared.Book.{Book}
-use Rattle.books.specs.declared.Lookup.{Lookup}
 use Rattle.books.specs.Listed.{unused}
-use Rattle.books.specs.Looking.{BookOver, SameEntries, CardsFit, placeAt, OldParsed, LookedUp}
+use Rattle.books.specs.Looking.{BookOver, SameEntries}
 use Rattle.decks.specs.Below.{BelowIs}
-use Rattle.writer.specs.declared.Done.{Done}
-use Rattle.writer.specs.declared.plain.Plain.{Plain}
+use Rattle.plains.specs.declared.Done.{Done}
+use Rattle.plains.specs.declared.plain.Plain.{Plain}
 
 -- ---- What a writer is given
-
--- A book over a deck: the cards of its entries, and their texts, each parsed at its child.
-pub record LooksIn (bytes deck : Text) (b : Book) : Type 0 where
-  pub over : BookOver 4096 b
-  pub cards-fit : CardsFit bytes deck b
-  pub entries-parsed : (i : ℕ) → i < b .count → OldParsed bytes (getD (b .children) i 0) deck (placeAt b i)
-  pub deck-room : 9216 ≤ length deck
-
--- A node that is a lens, a book over a deck, and what stands below each node.
-pub record Ready (bytes prepared : List ℕ) (node : ℕ) (deck : Text) (below : List ℕ) (b : Book) : Type 0 where
-  pub lens-node : LensNode bytes prepared node
-  pub looks-in : LooksIn bytes deck b
-  pub below-is : BelowIs bytes below
 
 -- No match at or below the node has a child of which an entry may be left.
 pub record AsksNone (below : List ℕ) (node : ℕ) (b : Book) : Type 0 where
@@ -79,17 +65,9 @@ pub record LensBehind (bytes deck : Text) (l : Lens) (old : Option Text) (new : 
       → Progress bytes deck w k b before mid done
       → Progress bytes deck (andThen w (write l old new)) (k + length (met l old new)) b before after r
 
--- that of a node,
+-- and that of a node.
 pub record WritesBehind (bytes : Text) (node : ℕ) (deck : Text) (old : Option Text) (new : Text) (done : Done) (mid after : Text) (r : Done) : Type 0 where
   pub writes : (l : Lens) → treeAt (trees bytes) node ≡ lens l → LensBehind bytes deck l old new done mid after r
-
--- a match, which does not look at the old text at its own place,
-pub record WritesMatch (bytes : Text) (child : ℕ) (deck new : Text) (done : Done) (mid after : Text) (r : Done) : Type 0 where
-  pub writes : (l : Lens) → treeAt (trees bytes) child ≡ lens l → (old : Option Text) → LensBehind bytes deck (match child l) old new done mid after r
-
--- and a repeat of a match, which does not either.
-pub record WritesMatches (bytes : Text) (node : ℕ) (deck new : Text) (done : Done) (mid after : Text) (r : Done) : Type 0 where
-  pub writes : (old : Option Text) → WritesBehind bytes node deck old new done mid after r
 
 -- What a node writes where no entry answers, behind whatever was written before.
 pub record WritesNext (bytes : Text) (node : ℕ) (old : Option Text) (new : Text) (wrote : Wrote) (mid after : Text) (r : Wrote) : Type 0 where
@@ -119,9 +97,3 @@ doneWith plain b = record { wrote = plain .wrote; book = b; met = plain .met }
 -- What a node writes with whatever book it asks nothing of, which stays as it is.
 pub record WritesPlainly (bytes : Text) (node : ℕ) (deck : Text) (below : List ℕ) (old : Option Text) (new : Text) (plain : Plain) (mid after : Text) (r : Plain) : Type 0 where
   pub writes : (b : Book) → BookOver 4096 b → AsksNone below node b → WritesBehind bytes node deck old new (doneWith plain b) mid after (doneWith r b)
-
--- ---- Lookups
-
--- The entry that the key of a sheet text finds in the book.
-pub record EntryFound (bytes : Text) (child : ℕ) (deck new : Text) (b : Book) (r : Lookup) : Type 0 where
-  pub found : (l : Lens) → treeAt (trees bytes) child ≡ lens l → LookedUp bytes deck child (keyOf l new) b r

@@ -1,12 +1,12 @@
--- What a node writes behind what was written, from what the nodes below it write: a law for each kind but the repeat.
+-- What a node writes behind what was written, from what the nodes below it write: a law for each kind but the repeat and the match.
 use mathlib.Core.Path.{_≡_, refl, sym, ap, _∙_}
 use mathlib.Core.List.{List}
 use mathlib.Core.Option.{Option}
 use Prim.Native.Nat.{ℕ, _+_, _-_, _%_, _^_}
-use native.Mathlib.Nat.{sub-zero, add-zero, add-assoc}
+use native.Mathlib.Nat.{sub-zero, add-assoc}
 use lib.ListN.{length, take, drop, length-append}
 use Rattle.semantics.specs.Text.{Text, orElse, apply}
-use Rattle.semantics.specs.Lens.{Lens, join, union, match, source, sheet, language, cutAt, keyOf, Written, andThen, writeMatch, write}
+use Rattle.semantics.specs.Lens.{Lens, join, union, match, source, sheet, language, cutAt, andThen, write}
 use Rattle.semantics.specs.Lens.{Book as Entries}
 use Rattle.semantics.specs.Table.{trees, treeAt, lens}
 use Rattle.semantics.specs.Tally.{met}
@@ -14,15 +14,13 @@ use Rattle.laws.specs.Bookless.{plain, Unasked, unasked-writes}
 use Rattle.table.specs.Prepared.{TwoLenses}
 use Rattle.lens.specs.declared.Wrote.{Wrote}
 use Rattle.lens.specs.Cutting.{rest-lent}
-use Rattle.books.specs.declared.Book.{Book}
-use Rattle.books.specs.declared.Lookup.{Lookup}
 use Rattle.books.specs.Listed.{unused}
-use Rattle.books.specs.Looking.{oldText, BookOver, LookedUp, same-all, same-then}
+use Rattle.books.specs.Looking.{BookOver, same-all}
 use Rattle.steps.specs.declared.Spot.{Spot}
 use Rattle.steps.specs.Steps.{ArmIs}
-use Rattle.writer.specs.declared.Done.{Done}
-use Rattle.writer.specs.Writing.{MeetsThere, Progress, LensBehind, WritesBehind, WritesNext, EntryFound, WritesMatch}
-use Rattle.writer.proofs.Behind.{then-same, then-again, counted-more, progress-is, at-node, behind-same, progress-swap, text-behind}
+use Rattle.plains.specs.declared.Done.{Done}
+use Rattle.plains.specs.Writing.{MeetsThere, LensBehind, WritesBehind, WritesNext}
+use Rattle.plains.proofs.Behind.{then-same, then-again, progress-is, at-node, behind-same, text-behind}
 
 -- what it writes, from where the sheet and the old text are cut
 write-join :
@@ -81,89 +79,6 @@ module _ {bytes deck : Text} where
             in
             record { progress = λ v k b before p. progress-is refl (ap (λ n. k + n) (sym (there .meets l e))) (step v k b before p) };
       }
-
-  -- ---- A match
-
-  -- it writes what its child writes onto the entry that was found
-  found-write :
-      {child : ℕ} {b : Book} {r : Lookup} (l : Lens) (old : Option Text) (new : Text)
-      → LookedUp bytes deck child (keyOf l new) b r
-      → write (match child l) old new (unused (trees bytes) deck b) ≡ write l (oldText deck (r .old)) new (unused (trees bytes) deck (r .book))
-  unfolding write writeMatch
-  found-write l old new looked = ap (λ t. write l (t .found) new (t .left)) (looked .looked-up)
-
-  -- where the child holds no match, it writes without the book
-  pub match-plain :
-      {child : ℕ} {new mid after : Text} {done : Done} {lookup : Lookup} {r : Wrote} {m : ℕ}
-      → ((l : Lens) → treeAt (trees bytes) child ≡ lens l → (b : Entries) → Unasked l b)
-      → EntryFound bytes child deck new (done .book) lookup
-      → m ≡ (done .met + 1) % 2 ^ 64
-      → WritesNext bytes child (oldText deck (lookup .old)) new (done .wrote) mid after r
-      → WritesMatch bytes child deck new done mid after (record { wrote = r; book = lookup .book; met = m })
-  match-plain {child} {new} {done = done} {lookup = lookup} unasked entry m-is w =
-      record {
-        writes = λ l e old.
-            let looked = entry .found l e in
-            let found = oldText deck (lookup .old) in
-            let left = unused (trees bytes) deck (lookup .book) in
-            let step =
-            text-behind
-            (write (match child l) old new)
-            (plain l found new)
-            1
-            (found-write l old new looked ∙ unasked-writes l found new left (unasked l e left))
-            (looked .over)
-            (looked .same-entries)
-            m-is
-            (w .writes l e)
-            in
-            record { progress = λ v k b before p. progress-is refl (ap (λ n. k + n) (sym (one-met child l old new))) (step v k b before p) };
-      }
-
-  -- otherwise its child, which meets none, writes with the book that is left
-  pub match-writes :
-      {child : ℕ} {new mid after : Text} {done : Done} {lookup : Lookup} {r : Done} {m : ℕ}
-      → EntryFound bytes child deck new (done .book) lookup
-      → m ≡ (done .met + 1) % 2 ^ 64
-      → MeetsThere bytes child (oldText deck (lookup .old)) new 0
-      → WritesBehind bytes child deck (oldText deck (lookup .old)) new (record { wrote = done .wrote; book = lookup .book; met = m }) mid after r
-      → WritesMatch bytes child deck new done mid after r
-  match-writes {child} {new} {mid} {after} {done} {lookup} {r} {m} entry m-is inside behind =
-      record {
-        writes = λ l e old.
-            record {
-              progress = λ w k b before p.
-                  progress-is
-                  refl
-                  (ap (λ n. k + 1 + n) (inside .meets l e) ∙ add-zero (k + 1) ∙ ap (λ n. k + n) (sym (one-met child l old new)))
-                  (found-behind w k l old before (entry .found l e) (behind .writes l e) p);
-            };
-      }
-    where
-      found-behind :
-          (w : Written) (k : ℕ) (l : Lens) (old : Option Text) {b : Book} (before : Text)
-          → LookedUp bytes deck child (keyOf l new) (done .book) lookup
-          → LensBehind bytes deck l (oldText deck (lookup .old)) new (record { wrote = done .wrote; book = lookup .book; met = m }) mid after r
-          → Progress bytes deck w k b before mid done
-          → Progress bytes deck (andThen w (write (match child l) old new)) (k + 1 + length (met l (oldText deck (lookup .old)) new)) b before after r
-      found-behind w k l old {b} before looked behind p =
-          let left : Written = record { text = w .text; book = unused (trees bytes) deck (lookup .book) } in
-          progress-swap
-          left
-          w
-          (write l (oldText deck (lookup .old)) new)
-          (write (match child l) old new)
-          refl
-          (p .bytes-are)
-          (λ room. sym (ap (write (match child l) old new) (sym (p .book-is room)) ∙ found-write l old new looked))
-          (behind .progress left (k + 1) b before
-          (record {
-            bytes-are = p .bytes-are;
-            met-is = counted-more (done .met) k 1 (p .met-is) m-is;
-            book-is = λ room. refl;
-            over = looked .over;
-            same-entries = same-then (p .same-entries) (looked .same-entries);
-          }))
 
   -- ---- A join
 

@@ -10,13 +10,12 @@ use Rattle.semantics.specs.Text.{Text}
 use Rattle.semantics.specs.Lens.{Lens, repeat, sheet, language, parts}
 use Rattle.semantics.specs.Table.{trees, treeAt, lens}
 use Rattle.semantics.specs.Tally.{met}
-use Rattle.positions.specs.declared.Set.{Set}
 use Rattle.table.specs.Prepared.{OneLens}
 use Rattle.lens.specs.Emitting.{LensNode}
 use Rattle.lens.specs.Nodes.{same-lens, child-below}
-use Rattle.decks.specs.Below.{countAt, BelowIs, PlainlyMet}
+use Rattle.decks.specs.Below.{countAt, BelowIs}
 use Rattle.decks.specs.Counts.{repeat-met}
-use Rattle.writer.specs.Writing.{MeetsThere}
+use Rattle.plains.specs.Writing.{MeetsThere}
 
 -- a count for each part of a sheet is a small number
 pub product-small : {r : ℕ} (n : ℕ) → r < 65536 → n ≤ 4096 → r * n ≤ 268435456
@@ -36,7 +35,7 @@ module _ {bytes : Text} {prepared below : List ℕ} {node r : ℕ} where
   counted known below-is is small l e old new =
       (below-is .each node l (known .inside) e) .count-is .evenly (omega (arith, small, is)) old new ∙ sym is
 
-  -- so at the node,
+  -- so at the node
   pub count-met :
       (old : Option Text) (new : Text)
       → LensNode bytes prepared node
@@ -45,16 +44,6 @@ module _ {bytes : Text} {prepared below : List ℕ} {node r : ℕ} where
       → r < 65536
       → MeetsThere bytes node old new r
   count-met old new known below-is is small = record { meets = λ l e. counted known below-is is small l e old new }
-
-  -- where it asks for nothing too
-  pub plain-met :
-      {left : Set} (old : Option Text) (new : Text)
-      → LensNode bytes prepared node
-      → BelowIs bytes below
-      → PlainlyMet below node left r
-      → r < 65536
-      → MeetsThere bytes node old new r
-  plain-met old new known below-is plain small = count-met old new known below-is (plain .count-is small) small
 
 -- each part of a repeat meets as many as its child
 pub repeat-counted :

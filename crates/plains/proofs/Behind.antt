@@ -12,7 +12,6 @@ use Rattle.semantics.specs.Lens.{Lens, Written, andThen, write}
 use Rattle.semantics.specs.Lens.{Book as Entries}
 use Rattle.semantics.specs.Table.{trees, treeAt, lens}
 use Rattle.semantics.specs.Tally.{met}
-use Rattle.laws.specs.Bookless.{plain}
 use Rattle.lens.specs.declared.Wrote.{Wrote}
 use Rattle.lens.specs.declared.Wrote.the-variants.{Count, Full}
 use Rattle.lens.specs.Overlay.{Writes, overlay-fits, overlay-over, wrote-fits, wrote-over, writes-within, writes-full}
@@ -23,8 +22,8 @@ use Rattle.books.specs.declared.Old.the-variants.{At, Nothing}
 use Rattle.books.specs.declared.Place.{Place}
 use Rattle.books.specs.Listed.{unused}
 use Rattle.books.specs.Looking.{partAt, oldText, BookOver, SameEntries, same-all, same-then}
-use Rattle.writer.specs.declared.Done.{Done}
-use Rattle.writer.specs.Writing.{Fitted, WithinBuffer, wrapped, Progress, LensBehind, WritesBehind, WritesNext}
+use Rattle.plains.specs.declared.Done.{Done}
+use Rattle.plains.specs.Writing.{Fitted, WithinBuffer, wrapped, Progress, LensBehind, WritesBehind}
 
 -- ---- Two steps, one behind the other
 
@@ -68,7 +67,7 @@ full-stays s t before mid after r first second =
     (second .buffer-is ∙ sym (whole .buffer-is), second .answer-is ∙ sym (whole .answer-is))
 
 -- a count is not that the buffer was too short
-not-full : {answer : Wrote} {n : ℕ} → answer ≡ Count n → ¬ (answer ≡ Full)
+pub not-full : {answer : Wrote} {n : ℕ} → answer ≡ Count n → ¬ (answer ≡ Full)
 not-full p q = let z : _≡_ {A = ℕ} 0 1 = cc in omega arith
 
 -- ---- Whatever the buffer holds, some text was written there
@@ -95,17 +94,6 @@ more-written out =
 some-written : (wrote : Wrote) (out : Text) → Fitted wrote out → (text : Text) × Writes text out out wrote
 some-written (Count n) out within = (take n out, front-written n out (within .within n refl))
 some-written Full out within = (out ++ (0 ∷ []), more-written out)
-
--- so what is written behind it lies within the buffer
-pub next-within :
-    {bytes : Text} {node : ℕ} {old : Option Text} {new mid after : Text} {wrote r : Wrote} (l : Lens)
-    → treeAt (trees bytes) node ≡ lens l
-    → Fitted wrote mid
-    → WritesNext bytes node old new wrote mid after r
-    → Fitted r after
-next-within {old = old} {new = new} {mid = mid} {after = after} {wrote = wrote} l e within w =
-    let (text, before) = some-written wrote mid within in
-    record { within = λ n is. writes-within (text ++ plain l old new) mid after n (rw is at (w .writes l e text mid before)) }
 
 -- What a writer leaves: a book with the entries that it was given, and what was written lies within the buffer.
 pub record Left (done : Done) (after : Text) (r : Done) : Type 0 where

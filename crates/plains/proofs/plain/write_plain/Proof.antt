@@ -1,13 +1,13 @@
--- `writer::plain::write_plain` meets its contract. Assumes nothing.
-use Rattle.writer.proofs.Given.{given-at}
-use Rattle.writer.proofs.Behind.{old-put, old-created}
+-- `plains::plain::write_plain` meets its contract. Assumes nothing.
+use Rattle.plains.proofs.Given.{given-at}
+use Rattle.plains.proofs.Behind.{old-put, old-created}
 use borrow.Author.Needs.{needs}
-use Rattle.writer.proofs.plain.write_plain.Statement.{statement}
-use Rattle.writer.proofs.plain.write_plain.Tie as tie
-use Rattle.writer.proofs.plain.write_plain.Reads as reads
-use Rattle.writer.proofs.plain.write_plain.Lts as lts
-use Rattle.writer.proofs.plain.create_plain.Reads as create-plain-reads
-use Rattle.writer.proofs.plain.put_plain.Reads as put-plain-reads
+use Rattle.plains.proofs.plain.write_plain.Statement.{statement}
+use Rattle.plains.proofs.plain.write_plain.Tie as tie
+use Rattle.plains.proofs.plain.write_plain.Reads as reads
+use Rattle.plains.proofs.plain.write_plain.Lts as lts
+use Rattle.plains.proofs.plain.create_plain.Reads as create-plain-reads
+use Rattle.plains.proofs.plain.put_plain.Reads as put-plain-reads
 
 enum-known-old : tie.Need-enum-known-old
 enum-known-old c = search needs
