@@ -1,9 +1,9 @@
 // The automata of every node of a table, built lowest node first, from those of its children.
+use crate::build::CLASS_ROWS;
 use crate::build::alias;
 use crate::build::build_alt;
-use crate::build::build_concat;
-use crate::build::CLASS_ROWS;
 use crate::build::build_class;
+use crate::build::build_concat;
 use crate::build::build_star;
 use crate::build::build_word;
 use automaton::Side;

@@ -6,26 +6,26 @@ use mathlib.Core.Logic.{_↔_, Iff·trans, ⊎-elim}
 use Prim.Native.Nat.{ℕ, suc, _+_, _≤_, _<_}
 use native.Mathlib.Numerals.{add-one}
 use native.Mathlib.Omega.{arith}
-use borrow.Author.Tests.{ltb-true, ltb-false, eqb-true, eqb-false}
-use lib.Dec.{ltb, eqb}
+use borrow.Author.Tests.{ltb-true, ltb-false, eqb-true, eqb-false, le-leb, lt-leb}
+use lib.Dec.{ltb, eqb, leb}
 use lib.ListN.{length, getD, take, drop, set}
 use lib.Seq.{take-all, take-suc, take-set-le, getD-set-same, lt-length-set, drop-cons, drop-length}
 use Rattle.semantics.specs.Text.{Text}
 use Rattle.semantics.specs.Pattern.{Pattern, In, nullable, matches}
 use Rattle.semantics.specs.Table.{positions}
-use Rattle.laws.specs.Basics.{not-both, false-of-not-true, and-both, and-of, bool-cases}
+use Rattle.laws.specs.Basics.{not-both, false-of-not-true, and-both, and-of, bool-cases, cond-true, cond-false}
 use Rattle.laws.specs.Membership.{matches-in, in-matches, in-nullable, nullable-in}
 use Rattle.laws.specs.PositionAutomaton.{standsAt, firstAt, lastAt, followAt, restAt, ReadsAt, first-law, follow-law, last-law}
 use Rattle.laws.specs.Paths.{LeastStep}
 use Rattle.positions.specs.declared.Set.{Set}
 use Rattle.positions.specs.Positions.{holds, Removed, Met, FirstFrom}
 use Rattle.automaton.specs.declared.Automaton.{Automaton}
-use Rattle.automaton.specs.Rows.{standsIn, Room, Describes}
+use Rattle.automaton.specs.Rows.{standsIn, Room, Describes, followOf}
 use Rattle.language.specs.Runs.{Behind}
 use Rattle.language.proofs.Gathering.{LeftFrom, left-begins, left-first, left-next, left-on}
 use Rattle.language.proofs.Steps.{stands-is, counted}
 use Rattle.paths.specs.declared.Walk.{Walk}
-use Rattle.paths.specs.Walking.{Reads, Lowest, Alone, Past, ReadsOn, Walked, PathFound}
+use Rattle.paths.specs.Walking.{Reads, Lowest, Alone, Past, ReadsOn, Walked, PathFound, walkAt}
 
 -- a text belongs exactly if it can be read on from the first positions
 whole-reads : (r : Pattern) (t : Text) → In r t ↔ ReadsOn r (nullable r) (firstAt r) t
@@ -139,6 +139,27 @@ module _ {prepared : List ℕ} {a : Automaton} {text path : List ℕ} where
       tells : (r : Pattern) {ends : Bool} (here : Bool) → here ≡ ends → In r text ↔ (ends ≡ true) → here ≡ matches r text
       tells r true is iff = sym (in-matches r text (iff .1 (sym is)))
       tells r false is iff = sym (false-of-not-true (matches r text) (λ e. not-both (iff .0 (matches-in r text e)) (sym is)))
+
+-- A walk that passed no position yet begins, and one that passed p last has come past it.
+pub walk-none : (a : Automaton) (at passed : ℕ) (set : Set) → 128 ≤ passed → _≡_ {A = Walk} (record { at = at; here = a .nullable; set = set }) (walkAt a at passed set)
+walk-none a at passed set h =
+    λ k. record { at = at; here = sym (cond-true (leb 128 passed) (a .nullable) (holds (a .last) passed) (le-leb 128 passed h)) k; set = set }
+
+pub walk-passed :
+    (a : Automaton) (at passed : ℕ) (set : Set) {here : Bool} → passed < 128 → here ≡ holds (a .last) passed
+    → _≡_ {A = Walk} (record { at = at; here = here; set = set }) (walkAt a at passed set)
+walk-passed a at passed set h is =
+    λ k. record { at = at; here = (is ∙ sym (cond-false (leb 128 passed) (a .nullable) (holds (a .last) passed) (lt-leb 128 passed h))) k; set = set }
+
+pub past-at :
+    {prepared : List ℕ} {a : Automaton} {p at : ℕ} {set : Set} → Room a prepared → p < a .count → set ≡ followOf prepared (a .start + p)
+    → Past prepared a p at (walkAt a at p set)
+past-at {a = a} {p} {at} room l is =
+    record {
+      at-is = refl;
+      here-is = λ r d. cond-false (leb 128 p) (a .nullable) (holds (a .last) p) (lt-leb 128 p (omega (arith, room .few))) ∙ d .last-is p;
+      set-is = λ r d q. rw is (d .row-is p (counted room d p l) .follow-is q);
+    }
 
 -- ---- The positions of a set, one after the other
 

@@ -1,10 +1,11 @@
 -- A path is found byte by byte: which positions a step chooses from, what a set kept behind a byte holds, and what is known of the text so far.
 use mathlib.Core.Path.{_≡_}
-use mathlib.Core.Bool.{Bool, true, false}
+use mathlib.Core.Bool.{Bool, true, false, cond}
 use mathlib.Core.List.{List, [], _∷_, _++_}
 use mathlib.Core.Logic.{_↔_}
 use Prim.Native.Nat.{ℕ, suc, _+_, _-_, _*_, _/_, _≤_, _<_, min}
 use native.Mathlib.Omega.{arith}
+use lib.Dec.{leb}
 use lib.ListN.{length, take, drop}
 use Rattle.semantics.specs.Text.{Text}
 use Rattle.semantics.specs.Pattern.{Pattern, In, matches}
@@ -40,6 +41,10 @@ pub record Past (prepared : List ℕ) (a : Automaton) (p at : ℕ) (walk : Walk)
   pub at-is : walk .at ≡ at
   pub here-is : (r : Pattern) → Describes r a prepared → walk .here ≡ lastAt r p
   pub set-is : (r : Pattern) → Describes r a prepared → (q : ℕ) → holds (walk .set) q ≡ followAt r p q
+
+-- the walk that has passed a position last, or none yet if it is 128 or more
+abbrev pub walkAt : Automaton → ℕ → ℕ → Set → Walk
+walkAt a at passed set = record { at = at; here = cond (leb 128 passed) (a .nullable) (holds (a .last) passed); set = set }
 
 -- ---- Sets that are kept
 

@@ -15,7 +15,7 @@ ghost use Rattle.laws.specs.Paths.{border, goesLeft, firstLoop};
 ghost use Rattle.positions.specs.Positions.{holds, Moved};
 ghost use Rattle.automaton.specs.Rows.{Room};
 ghost use Rattle.language.specs.Sets.{NoLeads, Leads};
-ghost use Rattle.paths.specs.Walking.{Lowest, Alone, Past, Filled, BehindAt, blockEnd, Marked, MarksRoom, Walked, WalkedTo, PathFound};
+ghost use Rattle.paths.specs.Walking.{Lowest, Alone, Past, walkAt, Filled, BehindAt, blockEnd, Marked, MarksRoom, Walked, WalkedTo, PathFound};
 
 // The sets behind a text are kept block by block.
 const BLOCK: usize = 256;
@@ -91,29 +91,45 @@ fn past(prepared: &[u64], a: Automaton, p: usize, at: usize) -> Walk
 
 // ---- Forward, as long as there is one way to go
 
+// A walk that has passed a position last; `Set::SIZE` if it has passed none. So it is asked once, at the walk's end, whether the text may end there.
+fn walk_at(a: Automaton, at: usize, passed: usize, set: Set) -> Walk
+    ensures { λ walk. ⌜ walk ≡ walkAt a at passed set ⌝ }
+{
+    if Set::SIZE <= passed {
+        return Walk {
+            at,
+            here: a.nullable,
+            set,
+        };
+    }
+    let last = a.last;
+    Walk {
+        at,
+        here: last.has(passed),
+        set,
+    }
+}
+
 // The path up to the first byte at which there is a choice, or none can be made.
 fn walk_alone(prepared: &[u64], a: Automaton, text: &[u8], path: &mut [u8]) -> Walk
     requires { ⌜ Room a (now prepared) ⌝ }
     requires { ⌜ length (now path) ≡ length (now text) ⌝ }
     ensures { λ walk. ⌜ Walked (now (prepared .entry)) a (now (text .entry)) (now (path .exit)) walk ⌝ }
 {
-    let first = a.first;
-    let mut walk = Walk {
-        at: 0,
-        here: a.nullable,
-        set: first,
-    };
-    while walk.at < text.len() {
-        let i = walk.at;
-        let due = walk.set;
+    let mut due = a.first;
+    let mut passed = Set::SIZE;
+    let mut i = 0;
+    while i < text.len() {
         let p = alone(prepared, a, due, text[i]);
         if Set::SIZE <= p {
-            return walk;
+            return walk_at(a, i, passed, due);
         }
         path[i] = p as u8;
-        walk = past(prepared, a, p, i + 1);
+        i += 1;
+        passed = p;
+        due = automaton::follow(prepared, a.start + p);
     }
-    walk
+    walk_at(a, i, passed, due)
 }
 
 // ---- Backward, block by block

@@ -7,7 +7,7 @@ use Prim.Native.Nat.{ℕ}
 use lib.Dec.{leb}
 use Rattle.semantics.specs.Text.{Text, joined, All, somePasses}
 
--- Document 02 (ii): 'a first and a last byte, both included'
+-- Document 02 (ii), of a pair: 'a first and a last byte, both included'
 pub record Run : Type 0 where
   pub first : ℕ
   pub last : ℕ
@@ -16,7 +16,7 @@ pub record Run : Type 0 where
 abbrev pub Class : Type 0
 Class = List Run
 
--- the class of one run
+-- the class of one run: a range
 unfoldable pub range : ℕ → ℕ → Class
 range first last = record { first = first; last = last } ∷ []
 
@@ -28,8 +28,8 @@ inRun byte r = leb (r .first) byte && leb byte (r .last)
 unfoldable pub inClass : Class → ℕ → Bool
 inClass c byte = somePasses (inRun byte) c
 
--- A pattern, written out as a tree. `oneOf` is a text of one byte of a class: a range, whose class is one run, or a set. Document 01's pattern join, union and repeat are `concat`, `alt` and `star`, the names that they
--- have for regular expressions; a lens has its own join, union and repeat.
+-- A pattern, written out as a tree. `oneOf` is one byte of a class: a range, whose class is one run, or a set. Document 01's pattern join,
+-- union and repeat are `concat`, `alt` and `star`, the names that they have for regular expressions; a lens has its own join, union and repeat.
 pub data Pattern : Type 0 where
   word : Text → Pattern
   oneOf : Class → Pattern

@@ -134,7 +134,7 @@ wordAt ts k = wordOf (treeAt ts k)
 unfoldable pub provided : Bool → Option Tree → Tree
 provided keeps t = cond keeps (orElse broken t) broken
 
--- Document 02 (ii): 'pool start in a (high) and b (low), and c pairs .. each a first and a last byte'; the pairs of a part of the pool
+-- Document 02 (ii): 'pairs .. each a first and a last byte', as they stand in the pool
 unfoldable pub runsOf : Text → Class
 runsOf [] = []
 runsOf (first ∷ []) = []
@@ -144,6 +144,7 @@ runsOf (first ∷ last ∷ more) = record { first = first; last = last } ∷ run
 unfoldable pub reversed : Run → Bool
 reversed r = ltb (r .last) (r .first)
 
+-- 'pool start in a (high) and b (low), and c pairs'
 unfoldable pub setPart : Text → ℕ → ℕ → ℕ → Class
 setPart bytes a b c = runsOf (take (2 * c) (drop (two a b) bytes))
 

@@ -1,19 +1,19 @@
--- `paths::walk_alone` meets its contract. The loop's invariant: the path has come as far as the walk says. Assumes nothing.
+-- `paths::walk_alone` meets its contract. The loop's invariant: the path has come as far as the walk that passed `passed` last. Assumes nothing.
 use mathlib.Core.Path.{_≡_, _∙_}
 use Prim.Native.Nat.{_-_}
 use native.Mathlib.Omega.{arith}
-use borrow.Author.Needs.{needs}
 use lib.ListN.{length, length-set}
-use Rattle.paths.specs.Walking.{Walked}
-use Rattle.paths.proofs.Stepping.{walked-begins, walked-more, takes-alone}
+use borrow.Author.Needs.{needs}
+use Rattle.paths.specs.Walking.{Walked, walkAt}
+use Rattle.paths.proofs.Stepping.{walked-begins, walked-more, past-at, takes-alone}
 use Rattle.paths.proofs.walk_alone.Statement.{statement}
 use Rattle.paths.proofs.walk_alone.Tie as tie
 
 abbrev Inv-loop : tie.InvT-loop
-Inv-loop prepared a text path₀ walk₀ path walk = (length path ≡ length path₀) × Walked prepared a text path walk
+Inv-loop prepared a text path₀ due₀ passed₀ i₀ path due passed i = (length path ≡ length path₀) × Walked prepared a text path (walkAt a i passed due)
 
 abbrev μ-loop : tie.MeasureT-loop
-μ-loop prepared a text path₀ walk₀ path walk = length text - walk .at
+μ-loop prepared a text path₀ due₀ passed₀ i₀ path due passed i = length text - i
 
 loop-holds : tie.Need-loop-holds Inv-loop μ-loop
 loop-holds c = (search needs, walked-begins)
@@ -24,11 +24,14 @@ shared-slice-read-alone c = search needs
 alone-requires : tie.Need-alone-requires Inv-loop μ-loop
 alone-requires c κs = search needs
 
+walk-at-requires : tie.Need-walk-at-requires Inv-loop μ-loop
+walk-at-requires c κs = search needs
+
 same-length : tie.Need-same-length Inv-loop μ-loop
 same-length c = search needs
 
 returns : tie.Need-returns Inv-loop μ-loop
-returns c = c .before .before .before .before .before .before .loop .inv .1
+returns c = rw (c .walk-at .ensures) (c .before .before .before .before .before .loop .inv .1)
 
 cast-path : tie.Need-cast-path Inv-loop μ-loop
 cast-path c = search needs
@@ -36,23 +39,29 @@ cast-path c = search needs
 slice-write-path : tie.Need-slice-write-path Inv-loop μ-loop
 slice-write-path c = search needs
 
-add-past : tie.Need-add-past Inv-loop μ-loop
-add-past c = search needs
+add-i : tie.Need-add-i Inv-loop μ-loop
+add-i c = search needs
 
-past-requires : tie.Need-past-requires Inv-loop μ-loop
-past-requires c κs = (c .before .before .before .before .before .before .before .before .before .before .before .pre .0, c .before .alone .ensures .reads (c .if2 .left) .inside)
+add-follow : tie.Need-add-follow Inv-loop μ-loop
+add-follow c = search needs
+
+follow-requires : tie.Need-follow-requires Inv-loop μ-loop
+follow-requires c κs = c .before .before .before .before .before .before .before .before .before .before .pre .0 .rows _ (c .before .before .alone .ensures .reads (c .before .if1 .left) .inside) .inside
 
 loop-less : tie.Need-loop-less Inv-loop μ-loop
-loop-less c = omega (arith, c .past .ensures .at-is)
+loop-less c = search needs
 
 loop-again : tie.Need-loop-again Inv-loop μ-loop
-loop-again c = (simp length-set (omega (arith, c .before .before .before .before .before .before .before .loop .inv .0)), walked-more (c .before .before .before .before .before .before .before .loop .inv .1) (c .before .before .before .before .before .if1 .taken) (c .before .before .before .before .before .before .before .loop .inv .0 ∙ c .before .before .before .before .before .before .before .before .before .before .before .before .pre .1) (c .past .ensures) (λ r d. takes-alone (c .before .before .before .before .before .before .before .before .before .before .before .before .pre .0) d _ (c .before .before .before .before .before .before .before .loop .inv .1 .so-far r d .set-is) (c .before .before .alone .ensures .reads (c .before .if2 .left)) (c .before .before .alone .ensures .no-other (c .before .if2 .left))))
+loop-again c = (simp length-set (omega (arith, c .before .before .before .before .before .before .loop .inv .0)), walked-more (c .before .before .before .before .before .before .loop .inv .1) (c .before .before .before .before .before .loop-test .taken) (c .before .before .before .before .before .before .loop .inv .0 ∙ c .before .before .before .before .before .before .before .before .before .before .before .pre .1) (past-at (c .before .before .before .before .before .before .before .before .before .before .before .pre .0) (c .before .before .before .alone .ensures .reads (c .before .before .if1 .left) .inside) (c .follow .ensures)) (λ r d. takes-alone (c .before .before .before .before .before .before .before .before .before .before .before .pre .0) d _ (c .before .before .before .before .before .before .loop .inv .1 .so-far r d .set-is) (c .before .before .before .alone .ensures .reads (c .before .before .if1 .left)) (c .before .before .before .alone .ensures .no-other (c .before .before .if1 .left))))
+
+walk-at-requires-2 : tie.Need-walk-at-requires-2 Inv-loop μ-loop
+walk-at-requires-2 c κs = search needs
 
 same-length-2 : tie.Need-same-length-2 Inv-loop μ-loop
 same-length-2 c = search needs
 
 returns-2 : tie.Need-returns-2 Inv-loop μ-loop
-returns-2 c = c .before .before .loop .inv .1
+returns-2 c = rw (c .walk-at2 .ensures) (c .before .before .loop .inv .1)
 
 pub walk-alone-spec : {M : Type 1} → statement M
 walk-alone-spec =
@@ -63,13 +72,16 @@ walk-alone-spec =
     loop-holds
     shared-slice-read-alone
     alone-requires
+    walk-at-requires
     same-length
     returns
     cast-path
     slice-write-path
-    add-past
-    past-requires
+    add-i
+    add-follow
+    follow-requires
     loop-less
     loop-again
+    walk-at-requires-2
     same-length-2
     returns-2)
