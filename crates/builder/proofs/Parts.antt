@@ -19,6 +19,7 @@ use Rattle.positions.specs.declared.Set.{Set}
 use Rattle.positions.specs.Positions.{holds, holdsMoved, Empty, Moved}
 use Rattle.automaton.specs.Rows.{sideIndex, rowAt, heldOf, followOf, standsIn, automatonAt, ClassBelow, RowIs, Describes}
 use Rattle.automaton.specs.Rows as R
+use Rattle.automaton.proofs.Standing.{stands-letter, stands-class}
 use Rattle.classes.specs.Classes.{holdsByte}
 use Rattle.classes.specs.declared.Class.{Class as Bits}
 use Rattle.builder.specs.Build.{countAt, Counted, Kept, SideBuilt, BuiltAlone, BuiltRepeat, BuiltPair, Aliased, ClassPut, RowPut, HeaderPut, SameBelow, RowCopied, Copied, Lettered, TwoOf, RowsJoined}
@@ -111,14 +112,12 @@ alt-two r s =
 -- ---- What tells the bytes of a row
 
 -- a number that is a letter tells that letter
-letter-stands : (l : List ℕ) (row letter byte : ℕ) → letter < 256 → heldOf l row ≡ letter → standsIn l row byte ≡ eqb byte letter
-unfolding standsIn
-letter-stands l row letter byte small is = rw is (cond-true (ltb letter 256) (eqb byte letter) _ (lt-ltb letter 256 small))
+told-letter : (l : List ℕ) (row letter byte : ℕ) → letter < 256 → heldOf l row ≡ letter → standsIn l row byte ≡ eqb byte letter
+told-letter l row letter byte small is = stands-letter l row (omega arith) byte ∙ ap (eqb byte) is
 
 -- and any other the class that stands there
-class-stands : (l : List ℕ) (row held byte : ℕ) → 256 ≤ held → heldOf l row ≡ held → standsIn l row byte ≡ holdsByte (R.classAt l held) byte
-unfolding standsIn
-class-stands l row held byte large is = rw is (cond-false (ltb held 256) (eqb byte held) _ (le-ltb held 256 large))
+told-class : (l : List ℕ) (row held byte : ℕ) → 256 ≤ held → heldOf l row ≡ held → standsIn l row byte ≡ holdsByte (R.classAt l held) byte
+told-class l row held byte large is = stands-class l row (omega arith) byte ∙ ap (λ (n : ℕ). holdsByte (R.classAt l n) byte) is
 
 -- four numbers that are as they were are the same class
 class-same :
@@ -136,11 +135,11 @@ class-same before after i same =
 module _ (before after : List ℕ) (from to : ℕ) (held-is : heldOf after to ≡ heldOf before from) (same : SameBelow from before after) where
   same-bytes : ClassBelow before from → (byte : ℕ) → standsIn after to byte ≡ standsIn before from byte
   same-bytes (inl letter) byte =
-      letter-stands after to _ byte letter held-is ∙ sym (letter-stands before from _ byte letter refl)
+      told-letter after to _ byte letter held-is ∙ sym (told-letter before from _ byte letter refl)
   same-bytes (inr (large, below)) byte =
-      class-stands after to _ byte (omega arith) held-is
+      told-class after to _ byte (omega arith) held-is
       ∙ ap (λ (c : Bits). holdsByte c byte) (class-same before after _ (λ j x y. same j (omega arith) (omega arith)))
-      ∙ sym (class-stands before from _ byte (omega arith) refl)
+      ∙ sym (told-class before from _ byte (omega arith) refl)
 
   -- and its class stands below it too, where it stands above the other
   class-stays : from ≤ to → ClassBelow before from → ClassBelow after to
@@ -376,7 +375,7 @@ lettered-more row p w l₀ l₁ l₂ next small next-is so-far put =
     this : RowIs (word w) row p l₂
     this =
         record {
-          bytes-are = λ byte. letter-stands l₂ (row + p) (getD w p 0) byte small (put .held-put) ∙ letter-class (getD w p 0) byte;
+          bytes-are = λ byte. told-letter l₂ (row + p) (getD w p 0) byte small (put .held-put) ∙ letter-class (getD w p 0) byte;
           class-below = inl (omega (arith, put .held-put));
           follow-is = λ q. ap (λ (s : Set). holds s q) (put .follow-put) ∙ next-is q;
         }
@@ -455,7 +454,7 @@ class-built node side row c class l₀ l₁ l₂ l₃ none zero a-node class-is 
     -- the class is still there once the row is put
     bytes-are : (byte : ℕ) → standsIn l₂ (row + 2) byte ≡ inClass c byte
     bytes-are byte =
-        class-stands l₂ (row + 2) (rowAt row) byte (omega arith) (put .held-put)
+        told-class l₂ (row + 2) (rowAt row) byte (omega arith) (put .held-put)
         ∙ ap (λ (k : Bits). holdsByte k byte) (class-same l₁ l₂ (rowAt row) (λ j x y. put .rest .kept j (omega arith)) ∙ class-put .class-put)
         ∙ class-is byte
 
