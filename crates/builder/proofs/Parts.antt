@@ -1,6 +1,6 @@
 -- The automaton of a pattern from those of its parts: what its rows and its sets hold, position by position. Assumes nothing.
 use mathlib.Core.Path.{_≡_, refl, sym, ap, ap₂, subst, _∙_}
-use mathlib.Core.Bool.{Bool, true, false, _&&_, _||_, cond, and-true}
+use mathlib.Core.Bool.{Bool, true, false, _&&_, _||_, and-true}
 use mathlib.Core.List.{List, [], _∷_}
 use mathlib.Core.Logic.{inl, inr, ⊎-elim}
 use Prim.Native.Nat.{ℕ, _+_, _-_, _*_, _≤_, _<_}
@@ -12,7 +12,7 @@ use borrow.Author.Tests.{ltb-true, ltb-false, lt-ltb, le-ltb, le-leb, lt-leb, eq
 use Rattle.semantics.specs.Text.{Text}
 use Rattle.semantics.specs.Pattern.{Class, range, inClass, Pattern, word, oneOf, concat, alt, star, nullable}
 use Rattle.semantics.specs.Table.{positions}
-use Rattle.laws.specs.Basics.{bool-cases, not-both, false-of-not-true, cond-true, cond-false, and-both}
+use Rattle.laws.specs.Basics.{bool-cases, not-both, false-of-not-true, cond-false, and-both}
 use Rattle.laws.specs.Classes.{one-byte, only-byte}
 use Rattle.laws.specs.PositionAutomaton.{split, split-left, classAt, standsAt, firstAt, lastAt, followAt, first-within, last-within, follow-within}
 use Rattle.positions.specs.declared.Set.{Set}

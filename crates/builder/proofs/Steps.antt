@@ -14,7 +14,7 @@ use Rattle.positions.proofs.Bits.{same-test}
 use Rattle.classes.specs.declared.Class.{Class}
 use Rattle.positions.specs.declared.Set.{Set}
 use Rattle.positions.specs.Positions.{holds, holdsMoved, Empty, Added, Moved, Joined}
-use Rattle.automaton.specs.Rows.{rowAt, setAt, heldOf, classAt, followOf, automatonAt}
+use Rattle.automaton.specs.Rows.{rowAt, setAt, heldOf, followOf, automatonAt}
 use Rattle.builder.specs.Build.{countAt, headerAt, Kept, TwoPut, ClassPut, RowPut, HeaderPut, SameBelow, RowCopied, Copied}
 use Rattle.automaton.specs.declared.Side.{Side}
 
