@@ -76,29 +76,39 @@ fn begin() -> Marked
 }
 
 // Whether some text belongs to both languages.
-pub fn overlap(prepared: &[u64], a: Automaton, b: Automaton) -> bool
+pub fn overlap(
+    prepared: &[u64],
+    a: Automaton,
+    b: Automaton,
+    shares: &mut [u64],
+    led: &mut [u64],
+    cells: &mut [u64],
+) -> bool
     requires { ⌜ Room a (now prepared) ⌝ }
     requires { ⌜ Room b (now prepared) ⌝ }
+    requires { ⌜ (length (now shares) ≡ 256) × (length (now led) ≡ 256) × (length (now cells) ≡ 256) ⌝ }
     ensures { λ res. ⌜ ((r s : Pattern) → Describes r a (now (prepared .entry)) → Describes s b (now (prepared .entry)) → (res ≡ true) ↔ Overlap r s) ⌝ }
 {
-    let mut shares = pairs::blank();
-    let mut led = pairs::blank();
-    let mut cells = pairs::blank();
-    let both = stage(prepared, a, b, begin(), &mut shares, &mut led, &mut cells);
+    let both = stage(prepared, a, b, begin(), shares, led, cells);
     some_final(b, both)
 }
 
 // Whether some text has two cuts into a text of the first language and a text of the second.
-pub fn two_cuts(prepared: &[u64], a: Automaton, b: Automaton) -> bool
+pub fn two_cuts(
+    prepared: &[u64],
+    a: Automaton,
+    b: Automaton,
+    shares: &mut [u64],
+    led: &mut [u64],
+    cells: &mut [u64],
+) -> bool
     requires { ⌜ Room a (now prepared) ⌝ }
     requires { ⌜ Room b (now prepared) ⌝ }
+    requires { ⌜ (length (now shares) ≡ 256) × (length (now led) ≡ 256) × (length (now cells) ≡ 256) ⌝ }
     ensures { λ res. ⌜ ((r s : Pattern) → Describes r a (now (prepared .entry)) → Describes s b (now (prepared .entry)) → (res ≡ true) ↔ TwoCuts r s) ⌝ }
 {
-    let mut shares = pairs::blank();
-    let mut led = pairs::blank();
-    let mut cells = pairs::blank();
-    let first = stage(prepared, a, a, begin(), &mut shares, &mut led, &mut cells);
-    let second = stage(prepared, a, b, first, &mut shares, &mut led, &mut cells);
+    let first = stage(prepared, a, a, begin(), shares, led, cells);
+    let second = stage(prepared, a, b, first, shares, led, cells);
     let at = second.at;
     let third = stage(
         prepared,
@@ -108,9 +118,9 @@ pub fn two_cuts(prepared: &[u64], a: Automaton, b: Automaton) -> bool
             start: false,
             at: at,
         },
-        &mut shares,
-        &mut led,
-        &mut cells,
+        shares,
+        led,
+        cells,
     );
     some_final(b, third)
 }

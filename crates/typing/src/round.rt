@@ -7,6 +7,7 @@ use table::Table;
 use table::parts::node_count;
 ghost use mathlib.Core.Path.{_≡_};
 ghost use Prim.Native.Nat.{ℕ, _<_};
+ghost use lib.ListN.{length};
 ghost use Rattle.semantics.specs.Text.{Text};
 ghost use Rattle.semantics.specs.Pattern.{Pattern, word, star};
 ghost use Rattle.semantics.specs.Lens.{Lens, const, join, union, repeat};
@@ -22,27 +23,45 @@ pub enum TypingAnswer {
 }
 
 // Whether some text has two cuts into a text of one node and a text of another, on that side.
-fn cut_twice(prepared: &[u64], left: usize, right: usize, side: Side) -> bool
+fn cut_twice(
+    prepared: &[u64],
+    left: usize,
+    right: usize,
+    side: Side,
+    shares: &mut [u64],
+    led: &mut [u64],
+    cells: &mut [u64],
+) -> bool
     requires { ⌜ Stands (now prepared) left ⌝ }
     requires { ⌜ Stands (now prepared) right ⌝ }
+    requires { ⌜ (length (now shares) ≡ 256) × (length (now led) ≡ 256) × (length (now cells) ≡ 256) ⌝ }
     ensures { λ res. ⌜ ((r s : Pattern) → Speaks (now (prepared .entry)) left side r → Speaks (now (prepared .entry)) right side s → res ≡ twoCuts r s) ⌝ }
 {
     let a = automaton_of(prepared, left, side);
     let b = automaton_of(prepared, right, side);
-    questions::two_cuts(prepared, a, b)
+    questions::two_cuts(prepared, a, b, shares, led, cells)
 }
 
 // Whether a repeat fails on that side: its child has the empty text, or some text has two cuts into parts.
-fn fails(prepared: &[u64], child: usize, node: usize, side: Side) -> bool
+fn fails(
+    prepared: &[u64],
+    child: usize,
+    node: usize,
+    side: Side,
+    shares: &mut [u64],
+    led: &mut [u64],
+    cells: &mut [u64],
+) -> bool
     requires { ⌜ Stands (now prepared) child ⌝ }
     requires { ⌜ Stands (now prepared) node ⌝ }
+    requires { ⌜ (length (now shares) ≡ 256) × (length (now led) ≡ 256) × (length (now cells) ≡ 256) ⌝ }
     ensures { λ res. ⌜ ((r : Pattern) → Speaks (now (prepared .entry)) child side r → Speaks (now (prepared .entry)) node side (star r) → res ≡ badRepeat r) ⌝ }
 {
     let part = automaton_of(prepared, child, side);
     if part.nullable {
         return true;
     }
-    cut_twice(prepared, child, node, side)
+    cut_twice(prepared, child, node, side, shares, led, cells)
 }
 
 // The number of the first typing line of a const that holds, or 0: its default word is not in its pattern.
@@ -69,27 +88,43 @@ fn const_fault(bytes: &[u8], prepared: &[u64], pattern: usize, default: usize) -
 }
 
 // The same of a join: some text has two cuts, on the source side or on the sheet side.
-fn join_fault(prepared: &[u64], left: usize, right: usize) -> usize
+fn join_fault(
+    prepared: &[u64],
+    left: usize,
+    right: usize,
+    shares: &mut [u64],
+    led: &mut [u64],
+    cells: &mut [u64],
+) -> usize
     requires { ⌜ Stands (now prepared) left ⌝ }
     requires { ⌜ Stands (now prepared) right ⌝ }
+    requires { ⌜ (length (now shares) ≡ 256) × (length (now led) ≡ 256) × (length (now cells) ≡ 256) ⌝ }
     ensures { λ res.
         ⌜
         ((k : ℕ) (l m : Lens) → SpeaksFor (now (prepared .entry)) left l → SpeaksFor (now (prepared .entry)) right m → res ≡ faultOf (typingLines k (join l m)))
         ⌝ }
 {
-    if cut_twice(prepared, left, right, Side::Source) {
+    if cut_twice(prepared, left, right, Side::Source, shares, led, cells) {
         return 7;
     }
-    if cut_twice(prepared, left, right, Side::Sheet) {
+    if cut_twice(prepared, left, right, Side::Sheet, shares, led, cells) {
         return 8;
     }
     0
 }
 
 // The same of a union: some source belongs to both arms.
-fn union_fault(prepared: &[u64], left: usize, right: usize) -> usize
+fn union_fault(
+    prepared: &[u64],
+    left: usize,
+    right: usize,
+    shares: &mut [u64],
+    led: &mut [u64],
+    cells: &mut [u64],
+) -> usize
     requires { ⌜ Stands (now prepared) left ⌝ }
     requires { ⌜ Stands (now prepared) right ⌝ }
+    requires { ⌜ (length (now shares) ≡ 256) × (length (now led) ≡ 256) × (length (now cells) ≡ 256) ⌝ }
     ensures { λ res.
         ⌜
         ((k : ℕ) (l m : Lens) → SpeaksFor (now (prepared .entry)) left l → SpeaksFor (now (prepared .entry)) right m → res ≡ faultOf (typingLines k (union l m)))
@@ -98,34 +133,50 @@ fn union_fault(prepared: &[u64], left: usize, right: usize) -> usize
     let side = Side::Source;
     let a = automaton_of(prepared, left, side);
     let b = automaton_of(prepared, right, side);
-    if questions::overlap(prepared, a, b) {
+    if questions::overlap(prepared, a, b, shares, led, cells) {
         return 9;
     }
     0
 }
 
 // The same of a repeat, whose own automaton reads the list of parts.
-fn repeat_fault(prepared: &[u64], child: usize, node: usize) -> usize
+fn repeat_fault(
+    prepared: &[u64],
+    child: usize,
+    node: usize,
+    shares: &mut [u64],
+    led: &mut [u64],
+    cells: &mut [u64],
+) -> usize
     requires { ⌜ Stands (now prepared) child ⌝ }
     requires { ⌜ Stands (now prepared) node ⌝ }
+    requires { ⌜ (length (now shares) ≡ 256) × (length (now led) ≡ 256) × (length (now cells) ≡ 256) ⌝ }
     ensures { λ res.
         ⌜
         ((k : ℕ) (l : Lens) → SpeaksFor (now (prepared .entry)) child l → SpeaksFor (now (prepared .entry)) node (repeat l) → res ≡ faultOf (typingLines k (repeat l)))
         ⌝ }
 {
-    if fails(prepared, child, node, Side::Source) {
+    if fails(prepared, child, node, Side::Source, shares, led, cells) {
         return 10;
     }
-    if fails(prepared, child, node, Side::Sheet) {
+    if fails(prepared, child, node, Side::Sheet, shares, led, cells) {
         return 11;
     }
     0
 }
 
 // The number of the first of node k's typing lines that holds, or 0.
-fn node_fault(bytes: &[u8], prepared: &[u64], k: usize) -> usize
+fn node_fault(
+    bytes: &[u8],
+    prepared: &[u64],
+    k: usize,
+    shares: &mut [u64],
+    led: &mut [u64],
+    cells: &mut [u64],
+) -> usize
     requires { ⌜ Built (now bytes) (now prepared) ⌝ }
     requires { ⌜ k < nodeCount (now bytes) ⌝ }
+    requires { ⌜ (length (now shares) ≡ 256) × (length (now led) ≡ 256) × (length (now cells) ≡ 256) ⌝ }
     ensures { λ res. ⌜ res ≡ typingFault (now (bytes .entry)) k ⌝ }
 {
     let node = Table::node(bytes, prepared, k);
@@ -143,22 +194,25 @@ fn node_fault(bytes: &[u8], prepared: &[u64], k: usize) -> usize
             default,
         } => const_fault(bytes, prepared, pattern, default),
         Kind::Key { pattern: _ } => 0,
-        Kind::LensJoin { left, right } => join_fault(prepared, left, right),
-        Kind::LensUnion { left, right } => union_fault(prepared, left, right),
-        Kind::LensRepeat { child } => repeat_fault(prepared, child, k),
+        Kind::LensJoin { left, right } => join_fault(prepared, left, right, shares, led, cells),
+        Kind::LensUnion { left, right } => union_fault(prepared, left, right, shares, led, cells),
+        Kind::LensRepeat { child } => repeat_fault(prepared, child, k, shares, led, cells),
         Kind::Match { child: _ } => 0,
     }
 }
 
-// The second round: every node in turn, lowest first.
+// The second round: every node in turn, lowest first. The room for pairs is cleared once for all of them.
 pub fn second_round(bytes: &[u8], prepared: &[u64]) -> TypingAnswer
     requires { ⌜ Built (now bytes) (now prepared) ⌝ }
     ensures { λ res. ⌜ res ≡ typingAnswer (now (bytes .entry)) ⌝ }
 {
     let n = node_count(bytes);
+    let mut shares = pairs::blank();
+    let mut led = pairs::blank();
+    let mut cells = pairs::blank();
     let mut k = 0;
     while k < n {
-        let number = node_fault(bytes, prepared, k);
+        let number = node_fault(bytes, prepared, k, &mut shares, &mut led, &mut cells);
         if number != 0 {
             return TypingAnswer::Refused { number, node: k };
         }

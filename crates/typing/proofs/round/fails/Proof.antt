@@ -15,8 +15,26 @@ returns c r p q = bad-empty r (sym (read-speaks (c .before .automaton-of .ensure
 cut-twice-requires : tie.Need-cut-twice-requires
 cut-twice-requires c κs = search needs
 
+same-length : tie.Need-same-length
+same-length c = search needs
+
+same-length-2 : tie.Need-same-length-2
+same-length-2 c = search needs
+
+same-length-3 : tie.Need-same-length-3
+same-length-3 c = search needs
+
 returns-2 : tie.Need-returns-2
-returns-2 c r p q = bad-cuts r (sym (read-speaks (c .before .before .automaton-of .ensures) p .nullable-is) ∙ c .before .if1 .left) (c .cut-twice .ensures r (star r) p q)
+returns-2 c r p q = bad-cuts r (sym (read-speaks (c .before .before .before .before .before .before .before .before .before .before .before .automaton-of .ensures) p .nullable-is) ∙ c .before .before .before .before .before .before .before .before .before .before .if1 .left) (c .before .before .before .before .before .before .cut-twice .ensures r (star r) p q)
 
 pub fails-spec : {M : Type 1} → statement M
-fails-spec = tie.close (tie.spec automaton-of-requires returns cut-twice-requires returns-2)
+fails-spec =
+    tie.close
+    (tie.spec
+    automaton-of-requires
+    returns
+    cut-twice-requires
+    same-length
+    same-length-2
+    same-length-3
+    returns-2)

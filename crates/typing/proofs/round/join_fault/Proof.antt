@@ -11,27 +11,63 @@ use Rattle.typing.proofs.round.join_fault.Tie as tie
 cut-twice-requires : tie.Need-cut-twice-requires
 cut-twice-requires c κs = search needs
 
+same-length : tie.Need-same-length
+same-length c = search needs
+
+same-length-2 : tie.Need-same-length-2
+same-length-2 c = search needs
+
+same-length-3 : tie.Need-same-length-3
+same-length-3 c = search needs
+
 returns : tie.Need-returns
 unfolding typingLines sideOf
-returns c k l m p q = line-holds 7 k _ _ (sym (c .before .cut-twice .ensures _ _ (p .each Source) (q .each Source)) ∙ c .if1 .taken)
+returns c k l m p q = line-holds 7 k _ _ (sym (c .before .before .before .before .before .before .before .cut-twice .ensures _ _ (p .each Source) (q .each Source)) ∙ c .if1 .taken)
 
 cut-twice-requires-2 : tie.Need-cut-twice-requires-2
-cut-twice-requires-2 c κs = search needs
+cut-twice-requires-2 c κs = (c .before .before .before .before .before .before .before .before .before .before .before .before .before .before .before .before .before .before .pre .0, (c .before .before .before .before .before .before .before .before .before .before .before .before .before .before .before .before .before .before .pre .1 .0, search needs))
+
+same-length-4 : tie.Need-same-length-4
+same-length-4 c = search needs
+
+same-length-5 : tie.Need-same-length-5
+same-length-5 c = search needs
+
+same-length-6 : tie.Need-same-length-6
+same-length-6 c = search needs
 
 returns-2 : tie.Need-returns-2
 unfolding typingLines sideOf
-returns-2 c k l m p q =
-    line-passed 7 k _ _
-    (sym (c .before .before .before .cut-twice .ensures _ _ (p .each Source) (q .each Source)) ∙ c .before .before .if1 .left)
-    (line-holds 8 k _ _ (sym (c .before .cut-twice2 .ensures _ _ (p .each Sheet) (q .each Sheet)) ∙ c .if2 .taken))
+returns-2 c k l m p q = line-passed 7 k _ _ (sym (c .before .before .before .before .before .before .before .before .before .before .before .before .before .before .before .before .before .before .cut-twice .ensures _ _ (p .each Source) (q .each Source)) ∙ c .before .before .before .before .before .before .before .before .before .before .before .if1 .left) (line-holds 8 k _ _ (sym (c .before .before .before .before .before .before .before .cut-twice2 .ensures _ _ (p .each Sheet) (q .each Sheet)) ∙ c .if2 .taken))
+
+same-length-7 : tie.Need-same-length-7
+same-length-7 c = search needs
+
+same-length-8 : tie.Need-same-length-8
+same-length-8 c = search needs
+
+same-length-9 : tie.Need-same-length-9
+same-length-9 c = search needs
 
 returns-3 : tie.Need-returns-3
 unfolding typingLines sideOf
-returns-3 c k l m p q =
-    line-passed 7 k _ _
-    (sym (c .before .before .before .cut-twice .ensures _ _ (p .each Source) (q .each Source)) ∙ c .before .before .if1 .left)
-    (line-passed 8 k _ _ (sym (c .before .cut-twice2 .ensures _ _ (p .each Sheet) (q .each Sheet)) ∙ c .if2 .left) no-line)
+returns-3 c k l m p q = line-passed 7 k _ _ (sym (c .before .before .before .before .before .before .before .before .before .before .before .before .before .before .before .before .before .before .cut-twice .ensures _ _ (p .each Source) (q .each Source)) ∙ c .before .before .before .before .before .before .before .before .before .before .before .if1 .left) (line-passed 8 k _ _ (sym (c .before .before .before .before .before .before .before .cut-twice2 .ensures _ _ (p .each Sheet) (q .each Sheet)) ∙ c .if2 .left) no-line)
 
 pub join-fault-spec : {M : Type 1} → statement M
 join-fault-spec =
-    tie.close (tie.spec cut-twice-requires returns cut-twice-requires-2 returns-2 returns-3)
+    tie.close
+    (tie.spec
+    cut-twice-requires
+    same-length
+    same-length-2
+    same-length-3
+    returns
+    cut-twice-requires-2
+    same-length-4
+    same-length-5
+    same-length-6
+    returns-2
+    same-length-7
+    same-length-8
+    same-length-9
+    returns-3)

@@ -35,9 +35,7 @@ enum-known-kind c = search needs
 
 const-fault-requires : tie.Need-const-fault-requires
 unfolding Shows
-const-fault-requires c κs =
-    let h = shown (c .before .before .before .node .ensures) (c .before .kind .given .1) in
-    (c .before .before .before .before .before .before .pre .0, (omega (arith, h .lower, c .before .before .before .before .before .before .pre .1), omega (arith, h .default-lower, c .before .before .before .before .before .before .pre .1)))
+const-fault-requires c κs = let h = shown (c .before .before .before .node .ensures) (c .before .kind .given .1) in (c .before .before .before .before .before .before .before .before .before .pre .0, (omega (arith, h .lower, c .before .before .before .before .before .before .before .before .before .pre .1 .0), omega (arith, h .default-lower, c .before .before .before .before .before .before .before .before .before .pre .1 .0)))
 
 enum-told-7 : tie.Need-enum-told-7
 enum-told-7 c = search needs
@@ -47,21 +45,21 @@ enum-known-kind-2 c = search needs
 
 join-fault-requires : tie.Need-join-fault-requires
 unfolding Shows
-join-fault-requires c κs = two-stand (c .before .before .before .before .before .before .pre .0) (c .before .before .before .before .before .before .pre .1) (shown (c .before .before .before .node .ensures) (c .before .kind2 .given .1))
+join-fault-requires c κs = let h = two-stand (c .before .before .before .before .before .before .before .before .before .before .before .before .pre .0) (c .before .before .before .before .before .before .before .before .before .before .before .before .pre .1 .0) (shown (c .before .before .before .before .before .before .node .ensures) (c .before .before .before .before .kind2 .given .1)) in (h .0, (h .1, c .before .before .before .before .before .before .before .before .before .before .before .before .pre .1 .1))
 
 enum-known-kind-3 : tie.Need-enum-known-kind-3
 enum-known-kind-3 c = search needs
 
 union-fault-requires : tie.Need-union-fault-requires
 unfolding Shows
-union-fault-requires c κs = two-stand (c .before .before .before .before .before .before .pre .0) (c .before .before .before .before .before .before .pre .1) (shown (c .before .before .before .node .ensures) (c .before .kind3 .given .1))
+union-fault-requires c κs = let h = two-stand (c .before .before .before .before .before .before .before .before .before .before .before .before .pre .0) (c .before .before .before .before .before .before .before .before .before .before .before .before .pre .1 .0) (shown (c .before .before .before .before .before .before .node .ensures) (c .before .before .before .before .kind3 .given .1)) in (h .0, (h .1, c .before .before .before .before .before .before .before .before .before .before .before .before .pre .1 .1))
 
 enum-known-kind-4 : tie.Need-enum-known-kind-4
 enum-known-kind-4 c = search needs
 
 repeat-fault-requires : tie.Need-repeat-fault-requires
 unfolding Shows
-repeat-fault-requires c κs = repeat-stand (c .before .before .before .before .before .before .pre .0) (c .before .before .before .before .before .before .pre .1) (shown (c .before .before .before .node .ensures) (c .before .kind4 .given .1))
+repeat-fault-requires c κs = let h = repeat-stand (c .before .before .before .before .before .before .before .before .before .before .before .before .pre .0) (c .before .before .before .before .before .before .before .before .before .before .before .before .pre .1 .0) (shown (c .before .before .before .before .before .before .node .ensures) (c .before .before .before .before .kind4 .given .1)) in (h .0, (h .1, c .before .before .before .before .before .before .before .before .before .before .before .before .pre .1 .1))
 
 enum-told-8 : tie.Need-enum-told-8
 enum-told-8 c = search needs
@@ -92,45 +90,50 @@ returns-6 c = no-fault (c .before .before .node .ensures) (shown (c .before .bef
 
 returns-7 : tie.Need-returns-7
 unfolding Shows
-returns-7 c =
-    const-fault
-    (c .before .before .before .before .before .before .before .pre .0)
-    (c .before .before .before .before .before .before .before .pre .1)
-    (shown (c .before .before .before .before .node .ensures) (c .before .before .kind .given .1))
-    (c .const-fault .ensures)
+returns-7 c = const-fault (c .before .before .before .before .before .before .before .before .before .before .pre .0) (c .before .before .before .before .before .before .before .before .before .before .pre .1 .0) (shown (c .before .before .before .before .node .ensures) (c .before .before .kind .given .1)) (c .const-fault .ensures)
 
 returns-8 : tie.Need-returns-8
 unfolding Shows treeLines typingLines
 returns-8 c = no-fault (c .before .before .node .ensures) (shown (c .before .before .node .ensures) (c .enum-told7 .given .1) .tree-is) refl
 
+same-length : tie.Need-same-length
+same-length c = search needs
+
+same-length-2 : tie.Need-same-length-2
+same-length-2 c = search needs
+
+same-length-3 : tie.Need-same-length-3
+same-length-3 c = search needs
+
 returns-9 : tie.Need-returns-9
 unfolding Shows
-returns-9 c =
-    two-fault
-    (c .before .before .before .before .before .before .before .pre .0)
-    (c .before .before .before .before .before .before .before .pre .1)
-    {make = join}
-    (shown (c .before .before .before .before .node .ensures) (c .before .before .kind2 .given .1))
-    (c .join-fault .ensures)
+returns-9 c = two-fault (c .before .before .before .before .before .before .before .before .before .before .before .before .before .before .before .before .before .before .before .pre .0) (c .before .before .before .before .before .before .before .before .before .before .before .before .before .before .before .before .before .before .before .pre .1 .0) {make = join} (shown (c .before .before .before .before .before .before .before .before .before .before .before .before .before .node .ensures) (c .before .before .before .before .before .before .before .before .before .before .before .kind2 .given .1)) (c .before .before .before .before .before .before .join-fault .ensures)
+
+same-length-4 : tie.Need-same-length-4
+same-length-4 c = search needs
+
+same-length-5 : tie.Need-same-length-5
+same-length-5 c = search needs
+
+same-length-6 : tie.Need-same-length-6
+same-length-6 c = search needs
 
 returns-10 : tie.Need-returns-10
 unfolding Shows
-returns-10 c =
-    two-fault
-    (c .before .before .before .before .before .before .before .pre .0)
-    (c .before .before .before .before .before .before .before .pre .1)
-    {make = union}
-    (shown (c .before .before .before .before .node .ensures) (c .before .before .kind3 .given .1))
-    (c .union-fault .ensures)
+returns-10 c = two-fault (c .before .before .before .before .before .before .before .before .before .before .before .before .before .before .before .before .before .before .before .pre .0) (c .before .before .before .before .before .before .before .before .before .before .before .before .before .before .before .before .before .before .before .pre .1 .0) {make = union} (shown (c .before .before .before .before .before .before .before .before .before .before .before .before .before .node .ensures) (c .before .before .before .before .before .before .before .before .before .before .before .kind3 .given .1)) (c .before .before .before .before .before .before .union-fault .ensures)
+
+same-length-7 : tie.Need-same-length-7
+same-length-7 c = search needs
+
+same-length-8 : tie.Need-same-length-8
+same-length-8 c = search needs
+
+same-length-9 : tie.Need-same-length-9
+same-length-9 c = search needs
 
 returns-11 : tie.Need-returns-11
 unfolding Shows
-returns-11 c =
-    repeat-fault
-    (c .before .before .before .before .before .before .before .pre .0)
-    (c .before .before .before .before .before .before .before .pre .1)
-    (shown (c .before .before .before .before .node .ensures) (c .before .before .kind4 .given .1))
-    (c .repeat-fault .ensures)
+returns-11 c = repeat-fault (c .before .before .before .before .before .before .before .before .before .before .before .before .before .before .before .before .before .before .before .pre .0) (c .before .before .before .before .before .before .before .before .before .before .before .before .before .before .before .before .before .before .before .pre .1 .0) (shown (c .before .before .before .before .before .before .before .before .before .before .before .before .before .node .ensures) (c .before .before .before .before .before .before .before .before .before .before .before .kind4 .given .1)) (c .before .before .before .before .before .before .repeat-fault .ensures)
 
 returns-12 : tie.Need-returns-12
 unfolding Shows treeLines typingLines
@@ -165,7 +168,16 @@ node-fault-spec =
     returns-6
     returns-7
     returns-8
+    same-length
+    same-length-2
+    same-length-3
     returns-9
+    same-length-4
+    same-length-5
+    same-length-6
     returns-10
+    same-length-7
+    same-length-8
+    same-length-9
     returns-11
     returns-12)
