@@ -2,17 +2,19 @@
 use mathlib.Core.Path.{_≡_, refl, sym, ap, subst, _∙_}
 use mathlib.Core.Bool.{Bool, true, false}
 use mathlib.Core.List.{List, _++_}
+use mathlib.Core.Logic.{⊎-elim}
 use Prim.Native.Nat.{ℕ, _+_, _-_, _≤_}
 use native.Mathlib.Nat.{sub-zero}
 use native.Mathlib.Omega.{arith}
 use lib.ListN.{length, take, drop, length-drop}
 use Rattle.semantics.specs.Text.{Text}
 use Rattle.semantics.specs.Lens.{Lens, copy, const, key, join, union, match, language}
+use Rattle.semantics.specs.Lens.{Side as SideOf}
 use Rattle.semantics.specs.Table.{positions, lens, treeAt, trees}
 use Rattle.laws.specs.Paths.{border, goesLeft}
 use Rattle.table.specs.declared.Kind.the-variants.{Copy, Const, Key, LensJoin, Match}
 use Rattle.table.specs.declared.Node.{Node}
-use Rattle.table.specs.Prepared.{TwoLenses}
+use Rattle.table.specs.Prepared.{OneLens, TwoLenses}
 use Rattle.table.specs.Rules.{NodeRead}
 use Rattle.automaton.specs.declared.Automaton.{Automaton}
 use Rattle.automaton.specs.Rows.{automatonAt, Describes}
@@ -34,10 +36,11 @@ use Rattle.lens.specs.Reading.{
   reading-match,
 }
 use Rattle.lens.specs.Cutting.{rest-lent}
-use Rattle.lens.specs.Emitting.{sideFor, WordIs, LensNode, Emits, EmitsJoin}
+use Rattle.lens.specs.Emitting.{sideFor, WordIs, LensNode, Emits, EmitsJoin, ReadBy}
 use Rattle.lens.specs.Parsed.{
   Parsed,
   ParsedJoin,
+  parsed-match,
   join-length,
   border-few,
   border-inside,
@@ -50,7 +53,7 @@ use Rattle.lens.specs.Parsed.{
   union-right,
   union-not-left,
 }
-use Rattle.lens.specs.Nodes.{same-lens, shown-copy, shown-const, shown-key, shown-join, shown-match, describes-lens, left-below, given-letters}
+use Rattle.lens.specs.Nodes.{same-lens, shown-copy, shown-const, shown-key, shown-join, shown-match, describes-lens, child-below, left-below, given-letters}
 
 -- ---- By the kind of the node
 
@@ -62,6 +65,15 @@ pub its-lens :
     → Emits bytes node mode text before after answer
 its-lens {mode} {text} {before} {after} {answer} l e w =
     record { writes = λ m f. subst (λ k. Writes (reading mode k text) before after answer) (same-lens l m (sym e ∙ f)) w }
+
+-- a match gives what its child gives
+match-emits :
+    {bytes : Text} {node a : ℕ} {mode : Mode} {text before after : Text} {answer : Wrote}
+    → OneLens (trees bytes) node a (λ l. lens (match a l))
+    → Emits bytes a mode text before after answer
+    → Emits bytes node mode text before after answer
+match-emits {a = a} {mode} {text} s w =
+    its-lens (match a (s .child)) (s .tree-is) (rw (reading-match mode a (s .child) text) (w .writes (s .child) (s .at-child)))
 
 module _ {bytes : Text} {node : ℕ} {r : Node} {mode : Mode} {text before after : Text} {answer : Wrote} (read : NodeRead bytes node r) where
   -- a copy gives its text
@@ -97,11 +109,24 @@ module _ {bytes : Text} {node : ℕ} {r : Node} {mode : Mode} {text before after
       let s = shown-join read e in
       its-lens (join (s .left) (s .right)) (s .tree-is) (w .writes (s .left) (s .right) (s .at-left) (s .at-right))
 
-  -- a match gives what its child gives
   pub emits-match : {a : ℕ} → r .kind ≡ Match a → Emits bytes a mode text before after answer → Emits bytes node mode text before after answer
-  emits-match {a} e w =
-      let s = shown-match read e in
-      its-lens (match a (s .child)) (s .tree-is) (rw (reading-match mode a (s .child) text) (w .writes (s .child) (s .at-child)))
+  emits-match e w = match-emits (shown-match read e) w
+
+-- ---- The node by which a lens is read
+
+module _ {bytes : Text} {node r : ℕ} (by : ReadBy bytes node r) where
+  pub read-below : {prepared : List ℕ} → LensNode bytes prepared node → LensNode bytes prepared r
+  read-below known = ⊎-elim (λ e. rw e known) (λ s. child-below known s) (by .is)
+
+  pub read-lower : r ≤ node
+  read-lower = ⊎-elim (λ e. omega arith) (λ s. omega (arith, s .lower)) (by .is)
+
+  pub read-parsed : {side : SideOf} {base : ℕ} {path : List ℕ} {text : Text} → Parsed bytes node side base path text → Parsed bytes r side base path text
+  read-parsed parsed = ⊎-elim (λ e. rw e parsed) (λ s. parsed-match parsed s) (by .is)
+
+  pub read-emits :
+      {mode : Mode} {text before after : Text} {answer : Wrote} → Emits bytes r mode text before after answer → Emits bytes node mode text before after answer
+  read-emits w = ⊎-elim (λ e. rw e at w) (λ s. match-emits s w) (by .is)
 
 -- the arm of a union that the path goes by, where the arms' positions are told apart by the left one's automaton
 module _

@@ -1,14 +1,16 @@
 -- What is read off a text at a node: a sheet, a key or a source.
 use mathlib.Core.Path.{_≡_}
 use mathlib.Core.List.{List}
+use mathlib.Core.Logic.{_⊎_}
 use Prim.Native.Nat.{ℕ, _+_, _*_, _≤_, _<_}
 use lib.ListN.{length}
 use Rattle.semantics.specs.Text.{Text}
 use Rattle.semantics.specs.Pattern.{word, In}
-use Rattle.semantics.specs.Lens.{Lens, join, language}
+use Rattle.semantics.specs.Lens.{Lens, join, match, language}
 use Rattle.semantics.specs.Lens.{Side as SideOf}
 use Rattle.semantics.specs.Table.{nodeCount, pattern, lens, treeAt, trees}
 use Rattle.laws.specs.WellTyped.{WellTyped}
+use Rattle.table.specs.Prepared.{OneLens}
 use Rattle.table.specs.Rules.{AllSized}
 use Rattle.automaton.specs.declared.Side.{Side}
 use Rattle.automaton.specs.declared.Side.the-variants.{Source, Sheet}
@@ -68,3 +70,7 @@ pub record EmitsJoin (bytes : Text) (left right : ℕ) (mode : Mode) (text befor
       → treeAt (trees bytes) left ≡ lens l
       → treeAt (trees bytes) right ≡ lens m
       → Writes (reading mode (join l m) text) before after answer
+
+-- The node r gives what a node gives: it is the node itself, or the node is a match and r its child. Which of the two it is for a match is left open: both give the same.
+pub record ReadBy (bytes : Text) (node r : ℕ) : Type 0 where
+  pub is : (r ≡ node) ⊎ OneLens (trees bytes) node r (λ l. lens (match r l))

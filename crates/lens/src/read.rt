@@ -22,7 +22,7 @@ ghost use Rattle.automaton.specs.Rows.{automatonAt};
 ghost use Rattle.paths.specs.Walking.{MarksRoom};
 ghost use Rattle.lens.specs.Overlay.{Writes};
 ghost use Rattle.lens.specs.Reading.{modeSide, copied, givenWord};
-ghost use Rattle.lens.specs.Emitting.{sideFor, Prepared, WordNode, WordIs, LensNode, Fits, Emits, EmitsJoin};
+ghost use Rattle.lens.specs.Emitting.{sideFor, Prepared, WordNode, WordIs, LensNode, Fits, Emits, EmitsJoin, ReadBy};
 ghost use Rattle.lens.specs.Parsed.{Parsed, ParsedJoin};
 
 // The side of the text that is read.
@@ -179,7 +179,20 @@ fn emit_join(
     Wrote::Count(n + m)
 }
 
-// The parts of a text, one by one, each directly behind the one before.
+// The node by which a text of a lens is read: a match gives what its child gives.
+fn read_by(bytes: &[u8], prepared: &[u64], node: usize) -> usize
+    requires { ⌜ LensNode (now bytes) (now prepared) node ⌝ }
+    ensures { λ r. ⌜ ReadBy (now (bytes .entry)) node r ⌝ }
+{
+    let read = Table::node(bytes, prepared, node);
+    let kind = read.kind;
+    if let Kind::Match { child } = kind {
+        return child;
+    }
+    node
+}
+
+// The parts of a text, one by one, each directly behind the one before. Where the child is a match, its own child is asked for once, and not for each part.
 fn emit_repeat(
     bytes: &[u8],
     prepared: &[u64],
@@ -197,6 +210,7 @@ fn emit_repeat(
     ensures { λ r. ⌜ Emits (now (bytes .entry)) node mode (now (text .entry)) (now (out .entry)) (now (out .exit)) r ⌝ }
 {
     let part = automaton_for(prepared, child, mode);
+    let inner = read_by(bytes, prepared, child);
     let ends = ends_of(part, base);
     let last = ends.last;
     let first = ends.first;
@@ -207,7 +221,7 @@ fn emit_repeat(
         let Wrote::Count(m) = emit(
             bytes,
             prepared,
-            child,
+            inner,
             mode,
             base,
             &text[o..end],

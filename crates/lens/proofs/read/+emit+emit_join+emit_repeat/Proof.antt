@@ -28,6 +28,10 @@ use Rattle.lens.proofs.Emission.{
   emits-key,
   emits-join,
   emits-match,
+  read-below,
+  read-lower,
+  read-parsed,
+  read-emits,
   arm-few,
   left-parsed,
   right-parsed,
@@ -71,6 +75,7 @@ use Rattle.lens.proofs.read.+emit+emit_join+emit_repeat.Lts-emit_repeat
 use Rattle.lens.proofs.read.automaton_for.Reads as automaton-for-reads
 use Rattle.lens.proofs.read.emit_copy.Reads as emit-copy-reads
 use Rattle.lens.proofs.read.given_word.Reads as given-word-reads
+use Rattle.lens.proofs.read.read_by.Reads as read-by-reads
 use Rattle.lens.proofs.read.word_of.Reads as word-of-reads
 use Rattle.lens.proofs.texts.write_text.Reads as write-text-reads
 use Rattle.paths.proofs.border.Reads as border-reads
@@ -152,6 +157,8 @@ abbrev emit-repeat-calls : ℕ → emit-repeat-lts.Claims
 emit-repeat-calls t = (
   automaton-for-reads.Asked,
   automaton-for-reads.Learnt,
+  read-by-reads.Asked,
+  read-by-reads.Learnt,
   ends-of-reads.Asked,
   ends-of-reads.Learnt,
   first-loop-reads.Asked,
@@ -616,28 +623,23 @@ emit-join-returns-3 t c =
     join-next (start .args .mode) known parsed a-is (at-border .border .ensures) first (at-n .n .given .1) second (Count _) (c .before .m .given .1)
 
 abbrev emit-repeat-Inv-loop : emit-repeat-lts.InvT-loop
-emit-repeat-Inv-loop bytes prepared node child mode base text path out₀ last first o₀ n₀ out o n =
+emit-repeat-Inv-loop bytes prepared node child mode base text path out₀ inner last first o₀ n₀ out o n =
     Repeating bytes node child mode base last first path text out₀ out o n
 
 abbrev emit-repeat-μ-loop : emit-repeat-lts.MeasureT-loop
-emit-repeat-μ-loop bytes prepared node child mode base text path out₀ last first o₀ n₀ out o n = length text - o
+emit-repeat-μ-loop bytes prepared node child mode base text path out₀ inner last first o₀ n₀ out o n = length text - o
 
 emit-repeat-automaton-for-requires : (t : ℕ) → emit-repeat-lts.Need-automaton-for-requires (emit-repeat-calls t) (emit-repeat-at t) emit-repeat.Post emit-repeat-Inv-loop emit-repeat-μ-loop
-emit-repeat-automaton-for-requires t c κs =
-    let start = c .before .before .before .before .before in
-    node-prepared (child-below (start .pre .1 .0) (start .pre .1 .1 .0)) _
+emit-repeat-automaton-for-requires t c κs = node-prepared (child-below (c .before .before .before .before .before .pre .1 .0) (c .before .before .before .before .before .pre .1 .1 .0)) _
+
+emit-repeat-read-by-requires : (t : ℕ) → emit-repeat-lts.Need-read-by-requires (emit-repeat-calls t) (emit-repeat-at t) emit-repeat.Post emit-repeat-Inv-loop emit-repeat-μ-loop
+emit-repeat-read-by-requires t c κs = child-below (c .before .before .before .before .before .before .pre .1 .0) (c .before .before .before .before .before .before .pre .1 .1 .0)
 
 emit-repeat-ends-of-requires : (t : ℕ) → emit-repeat-lts.Need-ends-of-requires (emit-repeat-calls t) (emit-repeat-at t) emit-repeat.Post emit-repeat-Inv-loop emit-repeat-μ-loop
 emit-repeat-ends-of-requires t c κs = search needs
 
 emit-repeat-loop-holds : (t : ℕ) → emit-repeat-lts.Need-loop-holds (emit-repeat-calls t) (emit-repeat-at t) emit-repeat.Post emit-repeat-Inv-loop emit-repeat-μ-loop
-emit-repeat-loop-holds t c =
-    let at-ends-of = c .before .before in
-    let at-automaton-for = at-ends-of .before in
-    let start = at-automaton-for .before .before .before .before .before .before in
-    let (known, more) = start .pre .1 in
-    let ends = at-ends-of .ends-of .ensures in
-    repeat-begins known (more .0) (more .1) (at-automaton-for .automaton-for .ensures) (ends .0) (ends .1)
+emit-repeat-loop-holds t c = let (known, more) = c .before .before .before .before .before .before .before .before .before .before .pre .1 in repeat-begins known (more .0) (more .1) (c .before .before .before .before .automaton-for .ensures) (c .before .before .ends-of .ensures .0) (c .before .before .ends-of .ensures .1)
 
 emit-repeat-sub-first-loop : (t : ℕ) → emit-repeat-lts.Need-sub-first-loop (emit-repeat-calls t) (emit-repeat-at t) emit-repeat.Post emit-repeat-Inv-loop emit-repeat-μ-loop
 emit-repeat-sub-first-loop t c = path-within (c .before .loop .inv)
@@ -652,11 +654,7 @@ emit-repeat-first-loop-requires : (t : ℕ) → emit-repeat-lts.Need-first-loop-
 emit-repeat-first-loop-requires t c κs = path-left (c .before .before .loop .inv) (c .before .loop-test .taken)
 
 emit-repeat-add-end : (t : ℕ) → emit-repeat-lts.Need-add-end (emit-repeat-calls t) (emit-repeat-at t) emit-repeat.Post emit-repeat-Inv-loop emit-repeat-μ-loop
-emit-repeat-add-end t c =
-    let at-loop-test = c .before .before in
-    let at-loop = at-loop-test .before in
-    let start = at-loop .before .before .before .before .before .before .before .before .before .before in
-    omega (arith, part-within (at-loop .loop .inv) (at-loop-test .loop-test .taken) (c .first-loop .ensures), start .good)
+emit-repeat-add-end t c = omega (arith, part-within (c .before .before .before .loop .inv) (c .before .before .loop-test .taken) (c .first-loop .ensures), c .before .before .before .before .before .before .before .before .before .before .before .before .before .before .good)
 
 emit-repeat-sub-emit : (t : ℕ) → emit-repeat-lts.Need-sub-emit (emit-repeat-calls t) (emit-repeat-at t) emit-repeat.Post emit-repeat-Inv-loop emit-repeat-μ-loop
 emit-repeat-sub-emit t c = search needs
@@ -689,16 +687,10 @@ emit-repeat-part-emit-end-3 : (t : ℕ) → emit-repeat-lts.Need-part-emit-end-3
 emit-repeat-part-emit-end-3 t c = search needs
 
 emit-repeat-emit-requires : (t : ℕ) → emit-repeat-lts.Need-emit-requires (emit-repeat-calls t) (emit-repeat-at t) emit-repeat.Post emit-repeat-Inv-loop emit-repeat-μ-loop
-emit-repeat-emit-requires t c κs =
-    let at-first-loop = c .before .before .before in
-    let at-loop-test = at-first-loop .before .before in
-    let at-loop = at-loop-test .before in
-    let start = at-loop .before .before .before .before .before .before .before .before .before .before in
-    let s = start .pre .1 .1 .0 in
-    let inv = at-loop .loop .inv in
-    let more = at-loop-test .loop-test .taken in
-    let found = at-first-loop .first-loop .ensures in
-    (omega (arith, s .lower, start .pre .0), (child-below (start .pre .1 .0) s, part-parsed inv more found))
+emit-repeat-emit-requires t c κs = 
+    let by = c .before .before .before .before .before .before .before .before .before .before .read-by .ensures in
+    let s = c .before .before .before .before .before .before .before .before .before .before .before .before .before .before .before .before .before .pre .1 .1 .0 in
+    (omega (arith, s .lower, read-lower by, c .before .before .before .before .before .before .before .before .before .before .before .before .before .before .before .before .before .pre .0), (read-below by (child-below (c .before .before .before .before .before .before .before .before .before .before .before .before .before .before .before .before .before .pre .1 .0) s), read-parsed by (part-parsed (c .before .before .before .before .before .before .loop .inv) (c .before .before .before .before .before .loop-test .taken) (c .before .before .before .first-loop .ensures))))
 
 emit-repeat-enum-known-m : (t : ℕ) → emit-repeat-lts.Need-enum-known-m (emit-repeat-calls t) (emit-repeat-at t) emit-repeat.Post emit-repeat-Inv-loop emit-repeat-μ-loop
 emit-repeat-enum-known-m t c = search needs
@@ -707,38 +699,16 @@ emit-repeat-enum-told : (t : ℕ) → emit-repeat-lts.Need-enum-told (emit-repea
 emit-repeat-enum-told t c = search needs
 
 emit-repeat-same-length : (t : ℕ) → emit-repeat-lts.Need-same-length (emit-repeat-calls t) (emit-repeat-at t) emit-repeat.Post emit-repeat-Inv-loop emit-repeat-μ-loop
-emit-repeat-same-length t c =
-    let at-emit = c .before .before .before .before in
-    let at-first-loop = at-emit .before .before .before .before in
-    let at-loop-test = at-first-loop .before .before in
-    let at-loop = at-loop-test .before in
-    let start = at-loop .before .before .before .before .before .before .before .before .before .before in
-    let inv = at-loop .loop .inv in
-    let more = at-loop-test .loop-test .taken in
-    let found = at-first-loop .first-loop .ensures in
-    emitted-length (start .pre .1 .0) (repeat-full inv more found (at-emit .emit .ensures) (c .enum-told .given .1))
+emit-repeat-same-length t c = emitted-length (c .before .before .before .before .before .before .before .before .before .before .before .before .before .before .before .before .before .before .before .before .before .before .pre .1 .0) (repeat-full (c .before .before .before .before .before .before .before .before .before .before .before .loop .inv) (c .before .before .before .before .before .before .before .before .before .before .loop-test .taken) (c .before .before .before .before .before .before .before .before .first-loop .ensures) (read-emits (c .before .before .before .before .before .before .before .before .before .before .before .before .before .before .before .read-by .ensures) (c .before .before .before .before .emit .ensures)) (c .enum-told .given .1))
 
 emit-repeat-returns : (t : ℕ) → emit-repeat-lts.Need-returns (emit-repeat-calls t) (emit-repeat-at t) emit-repeat.Post emit-repeat-Inv-loop emit-repeat-μ-loop
-emit-repeat-returns t c =
-    let at-emit = c .before .before .before .before in
-    let at-first-loop = at-emit .before .before .before .before in
-    let at-loop-test = at-first-loop .before .before in
-    let at-loop = at-loop-test .before in
-    let inv = at-loop .loop .inv in
-    let more = at-loop-test .loop-test .taken in
-    let found = at-first-loop .first-loop .ensures in
-    repeat-full inv more found (at-emit .emit .ensures) (c .enum-told .given .1)
+emit-repeat-returns t c = repeat-full (c .before .before .before .before .before .before .before .before .before .before .before .loop .inv) (c .before .before .before .before .before .before .before .before .before .before .loop-test .taken) (c .before .before .before .before .before .before .before .before .first-loop .ensures) (read-emits (c .before .before .before .before .before .before .before .before .before .before .before .before .before .before .before .read-by .ensures) (c .before .before .before .before .emit .ensures)) (c .enum-told .given .1)
 
 emit-repeat-add-n : (t : ℕ) → emit-repeat-lts.Need-add-n (emit-repeat-calls t) (emit-repeat-at t) emit-repeat.Post emit-repeat-Inv-loop emit-repeat-μ-loop
-emit-repeat-add-n t c =
-    let at-emit = c .before .before .before .before .before in
-    let at-loop = at-emit .before .before .before .before .before .before .before in
-    let start = at-loop .before .before .before .before .before .before .before .before .before .before in
-    let inv = at-loop .loop .inv in
-    let part = emitted-within (child-below (start .pre .1 .0) (start .pre .1 .1 .0)) (at-emit .emit .ensures) (c .before .m .given .1) in
-    let rest = at-emit .emit .last .1 .1 .1 .1 .1 .1 .1 .0 in
-    let sum = sum-within (at-loop .loop .out) rest (repeat-room inv) part (at-emit .emit .kept .1 .1 .1 .1 .1 .1 .1 .0) in
-    omega (arith, sum, repeat-length inv, start .good)
+emit-repeat-add-n t c = 
+    let part = emitted-within (child-below (c .before .before .before .before .before .before .before .before .before .before .before .before .before .before .before .before .before .before .before .before .before .before .before .pre .1 .0) (c .before .before .before .before .before .before .before .before .before .before .before .before .before .before .before .before .before .before .before .before .before .before .before .pre .1 .1 .0)) (read-emits (c .before .before .before .before .before .before .before .before .before .before .before .before .before .before .before .before .read-by .ensures) (c .before .before .before .before .before .emit .ensures)) (c .before .m .given .1) in
+    let sum = sum-within (c .before .before .before .before .before .before .before .before .before .before .before .before .loop .out) (c .before .before .before .before .before .emit .last .1 .1 .1 .1 .1 .1 .1 .0) (repeat-room (c .before .before .before .before .before .before .before .before .before .before .before .before .loop .inv)) part (c .before .before .before .before .before .emit .kept .1 .1 .1 .1 .1 .1 .1 .0) in
+    omega (arith, sum, repeat-length (c .before .before .before .before .before .before .before .before .before .before .before .before .loop .inv), c .before .before .before .before .before .before .before .before .before .before .before .before .before .before .before .before .before .before .before .before .before .before .before .good)
 
 emit-repeat-loop-less : (t : ℕ) → emit-repeat-lts.Need-loop-less (emit-repeat-calls t) (emit-repeat-at t) emit-repeat.Post emit-repeat-Inv-loop emit-repeat-μ-loop
 emit-repeat-loop-less t c =
@@ -749,15 +719,7 @@ emit-repeat-loop-less t c =
     omega (arith, moves, at-loop-test .loop-test .taken)
 
 emit-repeat-loop-again : (t : ℕ) → emit-repeat-lts.Need-loop-again (emit-repeat-calls t) (emit-repeat-at t) emit-repeat.Post emit-repeat-Inv-loop emit-repeat-μ-loop
-emit-repeat-loop-again t c =
-    let at-emit = c .before .before .before .before .before in
-    let at-first-loop = at-emit .before .before .before .before in
-    let at-loop-test = at-first-loop .before .before in
-    let at-loop = at-loop-test .before in
-    let inv = at-loop .loop .inv in
-    let more = at-loop-test .loop-test .taken in
-    let found = at-first-loop .first-loop .ensures in
-    repeat-next inv more found (at-emit .emit .ensures) (c .before .m .given .1)
+emit-repeat-loop-again t c = repeat-next (c .before .before .before .before .before .before .before .before .before .before .before .before .loop .inv) (c .before .before .before .before .before .before .before .before .before .before .before .loop-test .taken) (c .before .before .before .before .before .before .before .before .before .first-loop .ensures) (read-emits (c .before .before .before .before .before .before .before .before .before .before .before .before .before .before .before .before .read-by .ensures) (c .before .before .before .before .before .emit .ensures)) (c .before .m .given .1)
 
 emit-repeat-same-length-2 : (t : ℕ) → emit-repeat-lts.Need-same-length-2 (emit-repeat-calls t) (emit-repeat-at t) emit-repeat.Post emit-repeat-Inv-loop emit-repeat-μ-loop
 emit-repeat-same-length-2 t c = repeat-length (c .before .loop .inv)
@@ -856,6 +818,7 @@ pub +emit+emit-join+emit-repeat-spec : {M : Type 1} → statement M
     emit-repeat-Inv-loop
     emit-repeat-μ-loop
     (emit-repeat-automaton-for-requires t)
+    (emit-repeat-read-by-requires t)
     (emit-repeat-ends-of-requires t)
     (emit-repeat-loop-holds t)
     (emit-repeat-sub-first-loop t)
