@@ -6,7 +6,7 @@ use mathlib.Core.Logic.{_↔_}
 use Prim.Native.Nat.{ℕ, suc, _+_, _-_, _*_, _/_, _≤_, _<_, min}
 use native.Mathlib.Omega.{arith}
 use lib.Dec.{leb}
-use lib.ListN.{length, take, drop}
+use lib.ListN.{length, getD, take, drop}
 use Rattle.semantics.specs.Text.{Text}
 use Rattle.semantics.specs.Pattern.{Pattern, In, matches}
 use Rattle.laws.specs.PositionAutomaton.{lastAt, followAt, ReadsAt}
@@ -14,7 +14,7 @@ use Rattle.laws.specs.Paths.{LeastFrom, LeastPath}
 use Rattle.positions.specs.declared.Set.{Set}
 use Rattle.positions.specs.Positions.{holds}
 use Rattle.automaton.specs.declared.Automaton.{Automaton}
-use Rattle.automaton.specs.Rows.{setAt, standsIn, Describes}
+use Rattle.automaton.specs.Rows.{setAt, standsIn, followOf, Describes}
 use Rattle.language.specs.Runs.{Behind}
 use Rattle.paths.specs.declared.Walk.{Walk}
 
@@ -45,6 +45,25 @@ pub record Past (prepared : List ℕ) (a : Automaton) (p at : ℕ) (walk : Walk)
 -- the walk that has passed a position last, or none yet if it is 128 or more
 abbrev pub walkAt : Automaton → ℕ → ℕ → Set → Walk
 walkAt a at passed set = record { at = at; here = cond (leb 128 passed) (a .nullable) (holds (a .last) passed); set = set }
+
+-- ---- Steps that are kept
+
+-- The set has the positions that may follow the one passed last; where none was passed yet, that is 128.
+pub record DueBehind (prepared : List ℕ) (a : Automaton) (passed : ℕ) (due : Set) : Type 0 where
+  pub bounded : passed ≤ 128
+  pub due-is : passed < 128 → due ≡ followOf prepared (a .start + passed)
+
+-- Of the first 32 positions and each byte, the slice may have the step from that position by that byte, as a number that is one more. 0 says that none is kept.
+pub record StepsKept (prepared : List ℕ) (a : Automaton) (steps : List ℕ) : Type 0 where
+  pub few : length steps ≤ 8192
+  pub kept-is :
+      (passed byte step : ℕ) → byte < 256 → 256 * passed + byte < length steps → getD steps (256 * passed + byte) 0 ≡ step + 1
+      → (step < 128) × Alone prepared a (followOf prepared (a .start + passed)) byte step
+
+-- No step is kept.
+pub record NoSteps (steps : List ℕ) : Type 0 where
+  pub few : length steps ≤ 8192
+  pub none-kept : (i : ℕ) → i < length steps → getD steps i 0 ≡ 0
 
 -- ---- Sets that are kept
 

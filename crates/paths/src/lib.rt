@@ -15,7 +15,7 @@ ghost use Rattle.laws.specs.Paths.{border, goesLeft, firstLoop};
 ghost use Rattle.positions.specs.Positions.{holds, Moved};
 ghost use Rattle.automaton.specs.Rows.{Room};
 ghost use Rattle.language.specs.Sets.{NoLeads, Leads};
-ghost use Rattle.paths.specs.Walking.{Lowest, Alone, Past, walkAt, Filled, BehindAt, blockEnd, Marked, MarksRoom, Walked, WalkedTo, PathFound};
+ghost use Rattle.paths.specs.Walking.{Lowest, Alone, Past, walkAt, DueBehind, NoSteps, StepsKept, Filled, BehindAt, blockEnd, Marked, MarksRoom, Walked, WalkedTo, PathFound};
 
 // The sets behind a text are kept block by block.
 const BLOCK: usize = 256;
@@ -110,17 +110,66 @@ fn walk_at(a: Automaton, at: usize, passed: usize, set: Set) -> Walk
     }
 }
 
+// ---- Steps that are kept
+
+// How many steps there is room for: one for each byte behind each of the first 32 positions.
+const STEPS: usize = 8192;
+
+// Room for steps, with none kept.
+fn no_steps() -> [u8; STEPS]
+    ensures { λ r. ⌜ NoSteps r ⌝ }
+{
+    [0u8; STEPS]
+}
+
+// The only one of the positions at which the byte may stand, as `alone` tells it; `due` has those that may follow the position passed last. A step that was
+// found stands behind that position, as a number that is one more, and is not asked for again.
+fn step_alone(
+    prepared: &[u64],
+    a: Automaton,
+    passed: usize,
+    due: Set,
+    byte: u8,
+    steps: &mut [u8],
+) -> usize
+    requires { ⌜ Room a (now prepared) ⌝ }
+    requires { ⌜ DueBehind (now prepared) a passed due ⌝ }
+    requires { ⌜ StepsKept (now prepared) a (now steps) ⌝ }
+    ensures { λ p. ⌜ Alone (now (prepared .entry)) a due byte p × StepsKept (now (prepared .entry)) a (now (steps .exit)) ⌝ }
+{
+    let i = 256 * passed + byte as usize;
+    if steps.len() <= i {
+        return alone(prepared, a, due, byte);
+    }
+    let kept = steps[i] as usize;
+    if 0 < kept {
+        return kept - 1;
+    }
+    let p = alone(prepared, a, due, byte);
+    if p < Set::SIZE {
+        steps[i] = (p + 1) as u8;
+    }
+    p
+}
+
 // The path up to the first byte at which there is a choice, or none can be made.
-fn walk_alone(prepared: &[u64], a: Automaton, text: &[u8], path: &mut [u8]) -> Walk
+fn walk_alone(
+    prepared: &[u64],
+    a: Automaton,
+    text: &[u8],
+    path: &mut [u8],
+    steps: &mut [u8],
+) -> Walk
     requires { ⌜ Room a (now prepared) ⌝ }
     requires { ⌜ length (now path) ≡ length (now text) ⌝ }
+    requires { ⌜ StepsKept (now prepared) a (now steps) ⌝ }
     ensures { λ walk. ⌜ Walked (now (prepared .entry)) a (now (text .entry)) (now (path .exit)) walk ⌝ }
 {
     let mut due = a.first;
     let mut passed = Set::SIZE;
     let mut i = 0;
     while i < text.len() {
-        let p = alone(prepared, a, due, text[i]);
+        let p = step_alone(prepared, a, passed, due, text[i], steps);
         if Set::SIZE <= p {
             return walk_at(a, i, passed, due);
         }
@@ -130,6 +179,29 @@ fn walk_alone(prepared: &[u64], a: Automaton, text: &[u8], path: &mut [u8]) -> W
         due = automaton::follow(prepared, a.start + p);
     }
     walk_at(a, i, passed, due)
+}
+
+// The same for a text that is long enough for kept steps to be worth their room.
+fn walk_long(prepared: &[u64], a: Automaton, text: &[u8], path: &mut [u8]) -> Walk
+    requires { ⌜ Room a (now prepared) ⌝ }
+    requires { ⌜ length (now path) ≡ length (now text) ⌝ }
+    ensures { λ walk. ⌜ Walked (now (prepared .entry)) a (now (text .entry)) (now (path .exit)) walk ⌝ }
+{
+    let mut steps = no_steps();
+    walk_alone(prepared, a, text, path, &mut steps)
+}
+
+// The path from the beginning of a text, up to the first choice.
+fn walk_first(prepared: &[u64], a: Automaton, text: &[u8], path: &mut [u8]) -> Walk
+    requires { ⌜ Room a (now prepared) ⌝ }
+    requires { ⌜ length (now path) ≡ length (now text) ⌝ }
+    ensures { λ walk. ⌜ Walked (now (prepared .entry)) a (now (text .entry)) (now (path .exit)) walk ⌝ }
+{
+    if BLOCK <= text.len() {
+        return walk_long(prepared, a, text, path);
+    }
+    let mut none = [0u8; 1];
+    walk_alone(prepared, a, text, path, &mut none)
 }
 
 // ---- Backward, block by block
@@ -409,7 +481,7 @@ pub fn find_path(
     requires { ⌜ length (now path) ≡ length (now text) ⌝ }
     ensures { λ found. ⌜ PathFound (now (prepared .entry)) a (now (text .entry)) (now (path .exit)) found ⌝ }
 {
-    let walk = walk_alone(prepared, a, text, path);
+    let walk = walk_first(prepared, a, text, path);
     if walk.at == text.len() {
         return walk.here;
     }

@@ -5,17 +5,17 @@ use borrow.Author.Needs.{needs}
 use Rattle.paths.proofs.find_path.Statement.{statement}
 use Rattle.paths.proofs.find_path.Tie as tie
 
-walk-alone-requires : tie.Need-walk-alone-requires
-walk-alone-requires c κs = search needs
+walk-first-requires : tie.Need-walk-first-requires
+walk-first-requires c κs = search needs
 
 same-length : tie.Need-same-length
 same-length c = search needs
 
 returns : tie.Need-returns
-returns c = walked-all (c .before .before .before .before .walk-alone .ensures) (c .if1 .taken) (c .before .before .before .before .walk-alone .kept .1 .1 .1 .0 ∙ c .before .before .before .before .before .before .before .before .before .before .pre .1 .1)
+returns c = walked-all (c .before .before .before .before .walk-first .ensures) (c .if1 .taken) (c .before .before .before .before .walk-first .kept .1 .1 .1 .0 ∙ c .before .before .before .before .before .before .before .before .before .before .pre .1 .1)
 
 choose-way-requires : tie.Need-choose-way-requires
-choose-way-requires c κs = (c .before .before .before .before .before .before .before .before .before .before .before .before .pre .0, (c .before .before .before .before .before .before .before .before .before .before .before .before .pre .1 .0, (c .before .before .before .before .before .before .walk-alone .kept .1 .1 .1 .0 ∙ c .before .before .before .before .before .before .before .before .before .before .before .before .pre .1 .1, c .before .before .before .before .before .before .walk-alone .ensures)))
+choose-way-requires c κs = (c .before .before .before .before .before .before .before .before .before .before .before .before .pre .0, (c .before .before .before .before .before .before .before .before .before .before .before .before .pre .1 .0, (c .before .before .before .before .before .before .walk-first .kept .1 .1 .1 .0 ∙ c .before .before .before .before .before .before .before .before .before .before .before .before .pre .1 .1, c .before .before .before .before .before .before .walk-first .ensures)))
 
 same-length-2 : tie.Need-same-length-2
 same-length-2 c = search needs
@@ -30,7 +30,7 @@ pub find-path-spec : {M : Type 1} → statement M
 find-path-spec =
     tie.close
     (tie.spec
-    walk-alone-requires
+    walk-first-requires
     same-length
     returns
     choose-way-requires
