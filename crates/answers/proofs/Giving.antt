@@ -18,7 +18,7 @@ use Rattle.automaton.specs.declared.Automaton.{Automaton}
 use Rattle.automaton.specs.declared.Side.{Side as SideOf}
 use Rattle.automaton.specs.Rows.{sideOf, automatonAt, Room, Describes}
 use Rattle.automaton.specs.Built.{treeLanguage}
-use Rattle.paths.specs.Walking.{PathFound}
+use Rattle.paths.specs.Finding.{PathFound}
 use Rattle.lens.specs.declared.Wrote.{Wrote}
 use Rattle.lens.specs.declared.Wrote.the-variants.{Count, Full}
 use Rattle.lens.specs.Overlay.{Writes, overlay, overlay-length, overlay-fits, count-fits, full-over, writes-within}

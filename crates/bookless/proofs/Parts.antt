@@ -15,7 +15,7 @@ use Rattle.positions.specs.declared.Set.{Set}
 use Rattle.positions.specs.Positions.{holds}
 use Rattle.table.specs.Prepared.{OneLens}
 use Rattle.automaton.specs.declared.Side.the-variants.{Source, Sheet}
-use Rattle.paths.specs.declared.Ends.{Ends}
+use Rattle.cuts.specs.declared.Ends.{Ends}
 use Rattle.lens.specs.declared.Wrote.{Wrote}
 use Rattle.lens.specs.declared.Wrote.the-variants.{Count, Full}
 use Rattle.lens.specs.Overlay.{Writes, overlay-length, writes-full, writes-nothing, writes-within}

@@ -6,7 +6,7 @@ use lens::Mode;
 use lens::Wrote;
 use lens::read::emit;
 use lens::texts::write_text;
-use paths::first_loop;
+use cuts::first_loop;
 use steps::Spot;
 use steps::behind;
 use steps::choose;

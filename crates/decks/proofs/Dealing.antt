@@ -18,7 +18,7 @@ use Rattle.semantics.specs.Table.{nodeCount, Trees, trees, treeAt, lensAt, lens
 use Rattle.laws.specs.NodeTrees.{lens-below, tree-length}
 use Rattle.laws.specs.WellTyped.{WellTyped}
 use Rattle.laws.specs.GetPut.{get-in, get-length}
-use Rattle.paths.specs.Walking.{less-marks}
+use Rattle.paths.specs.Finding.{less-marks}
 use Rattle.automaton.specs.declared.Side.the-variants.{Sheet}
 use Rattle.automaton.specs.Rows.{sideOf, automatonAt}
 use Rattle.automaton.specs.Built.{Built, treeLanguage}

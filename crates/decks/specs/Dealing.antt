@@ -6,7 +6,7 @@ use lib.ListN.{length, take, drop, getD, set}
 use Rattle.semantics.specs.Text.{Text}
 use Rattle.semantics.specs.Lens.{Lens, get, keyOf}
 use Rattle.semantics.specs.Table.{trees, treeAt, lens}
-use Rattle.paths.specs.Walking.{MarksRoom}
+use Rattle.paths.specs.Finding.{MarksRoom}
 use Rattle.lens.specs.declared.Wrote.{Wrote}
 use Rattle.lens.specs.declared.Wrote.the-variants.{Count, Full}
 use Rattle.books.specs.declared.Book.{Book}

@@ -2,10 +2,10 @@
 use automaton::Side;
 use automaton::automaton_of;
 use books::Book;
-use paths::border;
-use paths::ends_of;
-use paths::first_loop;
-use paths::goes_left;
+use cuts::border;
+use cuts::ends_of;
+use cuts::first_loop;
+use cuts::goes_left;
 use table::Kind;
 use table::Table;
 ghost use Prim.Native.Nat.{_+_, _≤_, _<_};

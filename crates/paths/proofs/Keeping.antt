@@ -1,8 +1,8 @@
 -- Sets that are kept beside a text, byte by byte and block by block: what the loops backward cite. Assumes nothing.
-use mathlib.Core.Path.{_≡_, refl, subst, _∙_}
+use mathlib.Core.Path.{_≡_, refl, subst}
 use mathlib.Core.List.{List}
 use mathlib.Core.Logic.{⊎-elim}
-use Prim.Native.Nat.{ℕ, suc, _+_, _-_, _*_, _≤_, _<_, min}
+use Prim.Native.Nat.{ℕ, suc, _-_, _*_, _≤_, _<_, min}
 use native.Mathlib.Omega.{arith}
 use borrow.Author.Tests.{eqb-true, eqb-false}
 use lib.Dec.{eqb}
@@ -16,7 +16,7 @@ use Rattle.automaton.specs.Rows.{Room}
 use Rattle.language.specs.Runs.{Behind, SteppedBack}
 use Rattle.language.proofs.Steps.{behind-begins}
 use Rattle.language.specs.Sets.{Stored}
-use Rattle.paths.specs.Walking.{Filled, BehindAt, blockEnd, Marked}
+use Rattle.paths.specs.Finding.{Filled, BehindAt, blockEnd, Marked}
 
 module _ {prepared : List ℕ} {a : Automaton} {text : Text} where
   -- Behind the whole text stands nothing.

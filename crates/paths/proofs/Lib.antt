@@ -1,5 +1,3 @@
 -- What the proofs of this crate's functions cite.
-pub mod Stepping
-pub mod Keeping
-pub mod Steps
-pub mod Readings
+mod Keeping
+mod Ending

@@ -1,2 +1,2 @@
--- What the steps of a path are given and answer, and what is known of a text whose path is being found.
-pub mod Walking
+-- What the functions of this crate say of their results.
+pub mod Finding

@@ -1,4 +1,4 @@
-// The least path of a text through an automaton, and what is read off a path: where a join is cut, the arm of a union, the parts of a repeat.
+// The least path of a text through an automaton: forward as long as there is one way to go, and from the first choice on by the sets behind the text's bytes.
 use automaton::Automaton;
 use automaton::set_at;
 use language::fill_leads;
@@ -7,202 +7,23 @@ use language::no_leads;
 use language::step_back;
 use positions::Set;
 use table::Table;
+use walks::Walk;
+use walks::lowest;
+use walks::past;
+use walks::walk_first;
 ghost use mathlib.Core.Path.{_≡_};
-ghost use mathlib.Core.Bool.{_&&_};
 ghost use Prim.Native.Nat.{_+_, _-_, _*_, _/_, _≤_, _<_};
 ghost use lib.ListN.{length, take};
-ghost use Rattle.laws.specs.Paths.{border, goesLeft, firstLoop};
-ghost use Rattle.positions.specs.Positions.{holds, Moved};
 ghost use Rattle.automaton.specs.Rows.{Room};
 ghost use Rattle.language.specs.Sets.{NoLeads, Leads};
-ghost use Rattle.paths.specs.Walking.{Lowest, Alone, Past, walkAt, DueBehind, NoSteps, StepsKept, Filled, BehindAt, blockEnd, Marked, MarksRoom, Walked, WalkedTo, PathFound};
+ghost use Rattle.walks.specs.Walking.{Walked};
+ghost use Rattle.paths.specs.Finding.{Filled, BehindAt, blockEnd, Marked, MarksRoom, WalkedTo, PathFound};
 
 // The sets behind a text are kept block by block.
 const BLOCK: usize = 256;
 
 // The last byte of a block.
 const LAST: usize = BLOCK - 1;
-
-// How far a path has come: so many bytes are read, whether the text may end here, and at which positions the next byte can stand.
-pub struct Walk {
-    pub at: usize,
-    pub here: bool,
-    pub set: Set,
-}
-
-// ---- One step
-
-// The lowest of the positions at which the byte may stand; `Set::SIZE` if there is none.
-fn lowest(prepared: &[u64], a: Automaton, due: Set, byte: u8) -> usize
-    requires { ⌜ Room a (now prepared) ⌝ }
-    ensures { λ p. ⌜ Lowest (now (prepared .entry)) a due byte p ⌝ }
-{
-    let count = a.count;
-    let mut left = due;
-    let mut p = left.first_from(0);
-    while p < count {
-        let row = a.start + p;
-        if automaton::stands(prepared, row, byte) {
-            return p;
-        }
-        left = left.rest();
-        p = left.first_from(0);
-    }
-    Set::SIZE
-}
-
-// The only one of the positions at which the byte may stand; `Set::SIZE` if there is none or more than one.
-fn alone(prepared: &[u64], a: Automaton, due: Set, byte: u8) -> usize
-    requires { ⌜ Room a (now prepared) ⌝ }
-    ensures { λ p. ⌜ Alone (now (prepared .entry)) a due byte p ⌝ }
-{
-    let count = a.count;
-    let mut left = due;
-    let mut found = Set::SIZE;
-    let mut p = left.first_from(0);
-    while p < count {
-        let row = a.start + p;
-        if automaton::stands(prepared, row, byte) {
-            if found < Set::SIZE {
-                return Set::SIZE;
-            }
-            found = p;
-        }
-        left = left.rest();
-        p = left.first_from(0);
-    }
-    found
-}
-
-// The path comes past position p.
-fn past(prepared: &[u64], a: Automaton, p: usize, at: usize) -> Walk
-    requires { ⌜ Room a (now prepared) ⌝ }
-    requires { ⌜ p < a .count ⌝ }
-    ensures { λ walk. ⌜ Past (now (prepared .entry)) a p at walk ⌝ }
-{
-    let last = a.last;
-    let row = a.start + p;
-    Walk {
-        at,
-        here: last.has(p),
-        set: automaton::follow(prepared, row),
-    }
-}
-
-// ---- Forward, as long as there is one way to go
-
-// A walk that has passed a position last; `Set::SIZE` if it has passed none. So it is asked once, at the walk's end, whether the text may end there.
-fn walk_at(a: Automaton, at: usize, passed: usize, set: Set) -> Walk
-    ensures { λ walk. ⌜ walk ≡ walkAt a at passed set ⌝ }
-{
-    if Set::SIZE <= passed {
-        return Walk {
-            at,
-            here: a.nullable,
-            set,
-        };
-    }
-    let last = a.last;
-    Walk {
-        at,
-        here: last.has(passed),
-        set,
-    }
-}
-
-// ---- Steps that are kept
-
-// How many steps there is room for: one for each byte behind each of the first 32 positions.
-const STEPS: usize = 8192;
-
-// Room for steps, with none kept.
-fn no_steps() -> [u8; STEPS]
-    ensures { λ r. ⌜ NoSteps r ⌝ }
-{
-    [0u8; STEPS]
-}
-
-// The only one of the positions at which the byte may stand, as `alone` tells it; `due` has those that may follow the position passed last. A step that was
-// found stands behind that position, as a number that is one more, and is not asked for again.
-fn step_alone(
-    prepared: &[u64],
-    a: Automaton,
-    passed: usize,
-    due: Set,
-    byte: u8,
-    steps: &mut [u8],
-) -> usize
-    requires { ⌜ Room a (now prepared) ⌝ }
-    requires { ⌜ DueBehind (now prepared) a passed due ⌝ }
-    requires { ⌜ StepsKept (now prepared) a (now steps) ⌝ }
-    ensures { λ p. ⌜ Alone (now (prepared .entry)) a due byte p × StepsKept (now (prepared .entry)) a (now (steps .exit)) ⌝ }
-{
-    let i = 256 * passed + byte as usize;
-    if steps.len() <= i {
-        return alone(prepared, a, due, byte);
-    }
-    let kept = steps[i] as usize;
-    if 0 < kept {
-        return kept - 1;
-    }
-    let p = alone(prepared, a, due, byte);
-    if p < Set::SIZE {
-        steps[i] = (p + 1) as u8;
-    }
-    p
-}
-
-// The path up to the first byte at which there is a choice, or none can be made.
-fn walk_alone(
-    prepared: &[u64],
-    a: Automaton,
-    text: &[u8],
-    path: &mut [u8],
-    steps: &mut [u8],
-) -> Walk
-    requires { ⌜ Room a (now prepared) ⌝ }
-    requires { ⌜ length (now path) ≡ length (now text) ⌝ }
-    requires { ⌜ StepsKept (now prepared) a (now steps) ⌝ }
-    ensures { λ walk. ⌜ Walked (now (prepared .entry)) a (now (text .entry)) (now (path .exit)) walk ⌝ }
-{
-    let mut due = a.first;
-    let mut passed = Set::SIZE;
-    let mut i = 0;
-    while i < text.len() {
-        let p = step_alone(prepared, a, passed, due, text[i], steps);
-        if Set::SIZE <= p {
-            return walk_at(a, i, passed, due);
-        }
-        path[i] = p as u8;
-        i += 1;
-        passed = p;
-        due = automaton::follow(prepared, a.start + p);
-    }
-    walk_at(a, i, passed, due)
-}
-
-// The same for a text that is long enough for kept steps to be worth their room.
-fn walk_long(prepared: &[u64], a: Automaton, text: &[u8], path: &mut [u8]) -> Walk
-    requires { ⌜ Room a (now prepared) ⌝ }
-    requires { ⌜ length (now path) ≡ length (now text) ⌝ }
-    ensures { λ walk. ⌜ Walked (now (prepared .entry)) a (now (text .entry)) (now (path .exit)) walk ⌝ }
-{
-    let mut steps = no_steps();
-    walk_alone(prepared, a, text, path, &mut steps)
-}
-
-// The path from the beginning of a text, up to the first choice.
-fn walk_first(prepared: &[u64], a: Automaton, text: &[u8], path: &mut [u8]) -> Walk
-    requires { ⌜ Room a (now prepared) ⌝ }
-    requires { ⌜ length (now path) ≡ length (now text) ⌝ }
-    ensures { λ walk. ⌜ Walked (now (prepared .entry)) a (now (text .entry)) (now (path .exit)) walk ⌝ }
-{
-    if BLOCK <= text.len() {
-        return walk_long(prepared, a, text, path);
-    }
-    let mut none = [0u8; 1];
-    walk_alone(prepared, a, text, path, &mut none)
-}
 
 // ---- Backward, block by block
 
@@ -486,73 +307,4 @@ pub fn find_path(
         return walk.here;
     }
     choose_way(prepared, a, text, walk, marks, path)
-}
-
-// ---- What is read off a path
-
-// How many positions at the path's front are below n: where a join is cut.
-pub fn border(path: &[u8], n: usize) -> usize
-    ensures { λ r. ⌜ r ≡ border n (now (path .entry)) ⌝ }
-{
-    let mut i = 0;
-    while i < path.len() {
-        if n <= path[i] as usize {
-            return i;
-        }
-        i += 1;
-    }
-    i
-}
-
-// Whether the path of a union goes by the left arm, whose positions are those below n; `empty` tells whether that arm holds the empty text.
-pub fn goes_left(path: &[u8], n: usize, empty: bool) -> bool
-    ensures { λ r. ⌜ r ≡ goesLeft n empty (now (path .entry)) ⌝ }
-{
-    if path.len() == 0 {
-        return empty;
-    }
-    (path[0] as usize) < n
-}
-
-// The length of the first part of a repeat: up to the first step from one of its child's last positions to one of the first.
-pub fn first_loop(path: &[u8], last: Set, first: Set) -> usize
-    requires { ⌜ 0 < length (now path) ⌝ }
-    ensures { λ r. ⌜ r ≡ firstLoop (holds last) (holds first) (now (path .entry)) ⌝ }
-{
-    let mut i = 1;
-    while i < path.len() {
-        if loops(last, first, path[i - 1], path[i]) {
-            return i;
-        }
-        i += 1;
-    }
-    i
-}
-
-// Whether a step goes from a last position to a first one.
-fn loops(last: Set, first: Set, from: u8, to: u8) -> bool
-    ensures { λ r. ⌜ r ≡ (holds last from && holds first to) ⌝ }
-{
-    if first.has(to as usize) {
-        return last.has(from as usize);
-    }
-    false
-}
-
-// The positions at which the parts of a repeat end, and those at which they begin.
-pub struct Ends {
-    pub last: Set,
-    pub first: Set,
-}
-
-// Those of the automaton of a repeat's child, whose positions are numbered from `base` on.
-pub fn ends_of(a: Automaton, base: usize) -> Ends
-    ensures { λ r. ⌜ Moved (a .last) base (r .last) × Moved (a .first) base (r .first) ⌝ }
-{
-    let ends = a.last;
-    let begins = a.first;
-    Ends {
-        last: ends.moved(base),
-        first: begins.moved(base),
-    }
 }

@@ -17,7 +17,7 @@ use Rattle.positions.specs.declared.Set.{Set}
 use Rattle.positions.specs.Positions.{holds}
 use Rattle.table.specs.Prepared.{OneLens}
 use Rattle.automaton.specs.declared.Side.the-variants.{Sheet}
-use Rattle.paths.specs.declared.Ends.{Ends}
+use Rattle.cuts.specs.declared.Ends.{Ends}
 use Rattle.lens.specs.Reading.{firstPart, parts-none, parts-next}
 use Rattle.lens.specs.Cutting.{rest-lent, part-length}
 use Rattle.lens.specs.Emitting.{LensNode}

@@ -14,7 +14,7 @@ use Rattle.automaton.specs.declared.Automaton.{Automaton}
 use Rattle.automaton.specs.declared.Side.{Side}
 use Rattle.automaton.specs.declared.Side.the-variants.{Sheet}
 use Rattle.automaton.specs.Rows.{automatonAt, Describes}
-use Rattle.paths.specs.Walking.{PathFound}
+use Rattle.paths.specs.Finding.{PathFound}
 use Rattle.lens.specs.Emitting.{Prepared}
 use Rattle.books.specs.Looking.{trailOf}
 use Rattle.steps.specs.Steps.{Refitted}

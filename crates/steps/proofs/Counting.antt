@@ -13,7 +13,7 @@ use Rattle.laws.specs.Paths.{firstLoop, loop-within, loop-some}
 use Rattle.positions.specs.Positions.{holds}
 use Rattle.table.specs.Prepared.{OneLens}
 use Rattle.automaton.specs.declared.Side.the-variants.{Sheet}
-use Rattle.paths.specs.declared.Ends.{Ends}
+use Rattle.cuts.specs.declared.Ends.{Ends}
 use Rattle.lens.specs.Reading.{firstPart, parts-none, parts-next}
 use Rattle.lens.specs.Emitting.{LensNode}
 use Rattle.lens.specs.Parsed.{Parsed, ParsedFrom, parsed-length, parsed-begin, loop-rest-from, loop-is-part-from}

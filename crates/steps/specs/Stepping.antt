@@ -18,7 +18,7 @@ use Rattle.table.specs.Prepared.{OneLens}
 use Rattle.positions.specs.Positions.{holds}
 use Rattle.automaton.specs.declared.Side.the-variants.{Source, Sheet}
 use Rattle.automaton.specs.Rows.{automatonAt}
-use Rattle.paths.specs.declared.Ends.{Ends}
+use Rattle.cuts.specs.declared.Ends.{Ends}
 use Rattle.lens.specs.declared.Wrote.{Wrote}
 use Rattle.lens.specs.declared.Wrote.the-variants.{Count, Full}
 use Rattle.lens.specs.declared.Mode.the-variants.{Get, Key}

@@ -19,7 +19,7 @@ use Rattle.positions.specs.Positions.{holds, Moved}
 use Rattle.automaton.specs.declared.Side.{Side}
 use Rattle.automaton.specs.declared.Side.the-variants.{Source, Sheet}
 use Rattle.automaton.specs.Rows.{automatonAt, Describes}
-use Rattle.paths.specs.declared.Ends.{Ends}
+use Rattle.cuts.specs.declared.Ends.{Ends}
 use Rattle.lens.specs.declared.Wrote.{Wrote}
 use Rattle.lens.specs.declared.Wrote.the-variants.{Count, Full}
 use Rattle.lens.specs.Emitting.{LensNode}

@@ -7,11 +7,11 @@ use books::Old;
 use books::Place;
 use language::belongs;
 use lens::Wrote;
-use paths::Ends;
-use paths::border;
+use cuts::Ends;
+use cuts::border;
 use paths::find_path;
-use paths::first_loop;
-use paths::goes_left;
+use cuts::first_loop;
+use cuts::goes_left;
 ghost use mathlib.Core.Path.{_≡_};
 ghost use Prim.Native.Nat.{_+_, _*_, _≤_};
 ghost use lib.ListN.{length};
@@ -206,7 +206,7 @@ pub fn ends_of(prepared: &[u64], child: usize, side: Side, base: usize) -> Ends
     ensures { λ r. ⌜ EndsAre (now (prepared .entry)) child side base r ⌝ }
 {
     let part = automaton_of(prepared, child, side);
-    paths::ends_of(part, base)
+    cuts::ends_of(part, base)
 }
 
 // The positions of an old text's node begin there; at no place, if there is none.

@@ -13,7 +13,7 @@ use Rattle.semantics.specs.Table.{trees, treeAt, lens}
 use Rattle.semantics.specs.Tally.{Meeting, meetParts, met}
 use Rattle.laws.specs.Bookless.{plain, Unasked, unasked-writes}
 use Rattle.table.specs.Prepared.{OneLens}
-use Rattle.paths.specs.declared.Ends.{Ends}
+use Rattle.cuts.specs.declared.Ends.{Ends}
 use Rattle.lens.specs.declared.Wrote.{Wrote}
 use Rattle.lens.specs.Nodes.{same-lens}
 use Rattle.books.specs.declared.Book.{Book}

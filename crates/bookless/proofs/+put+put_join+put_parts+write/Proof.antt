@@ -78,7 +78,7 @@ use Rattle.bookless.proofs.write.Kinds as write-kinds
 use Rattle.bookless.proofs.+put+put_join+put_parts+write.Lts-write as write-lts
 use Rattle.lens.proofs.read.emit.Reads as emit-reads
 use Rattle.lens.proofs.texts.write_text.Reads as write-text-reads
-use Rattle.paths.proofs.first_loop.Reads as first-loop-reads
+use Rattle.cuts.proofs.first_loop.Reads as first-loop-reads
 use Rattle.steps.proofs.behind.Reads as behind-reads
 use Rattle.steps.proofs.choose.Reads as choose-reads
 use Rattle.steps.proofs.cut_sheet.Reads as cut-sheet-reads

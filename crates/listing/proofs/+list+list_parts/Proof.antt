@@ -25,10 +25,10 @@ use Rattle.listing.proofs.+list+list_parts.Lts-list_parts as list-parts
 use Rattle.automaton.proofs.automaton_of.Reads as automaton-of-reads
 use Rattle.listing.proofs.list_match.Reads as list-match-reads
 use Rattle.listing.proofs.list_matches.Reads as list-matches-reads
-use Rattle.paths.proofs.border.Reads as border-reads
-use Rattle.paths.proofs.ends_of.Reads as ends-of-reads
-use Rattle.paths.proofs.first_loop.Reads as first-loop-reads
-use Rattle.paths.proofs.goes_left.Reads as goes-left-reads
+use Rattle.cuts.proofs.border.Reads as border-reads
+use Rattle.cuts.proofs.ends_of.Reads as ends-of-reads
+use Rattle.cuts.proofs.first_loop.Reads as first-loop-reads
+use Rattle.cuts.proofs.goes_left.Reads as goes-left-reads
 use Rattle.table.proofs.Table.node.Reads as node-reads
 use Rattle.listing.proofs.+list+list_parts.{statement}
 use Rattle.listing.proofs.+list+list_parts.Tie.{close}

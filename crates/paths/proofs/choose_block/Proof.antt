@@ -2,7 +2,7 @@
 use mathlib.Core.Path.{sym, _∙_}
 use mathlib.Core.Bool.{false≢true}
 use native.Mathlib.Omega.{arith}
-use Rattle.paths.proofs.Stepping.{walked-all}
+use Rattle.paths.proofs.Ending.{walked-all}
 use Rattle.paths.proofs.Keeping.{behind-end}
 use borrow.Author.Needs.{needs}
 use Rattle.paths.proofs.choose_block.Statement.{statement}

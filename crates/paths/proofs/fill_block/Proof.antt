@@ -5,7 +5,7 @@ use Prim.Native.Nat.{_≤_}
 use native.Mathlib.Omega.{arith}
 use lib.ListN.{length}
 use borrow.Author.Needs.{needs}
-use Rattle.paths.specs.Walking.{BehindAt, Filled}
+use Rattle.paths.specs.Finding.{BehindAt, Filled}
 use Rattle.paths.proofs.Keeping.{behind-more, filled-none, filled-more, filled-all}
 use Rattle.paths.proofs.fill_block.Statement.{statement}
 use Rattle.paths.proofs.fill_block.Tie as tie

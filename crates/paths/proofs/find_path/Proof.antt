@@ -1,6 +1,6 @@
 -- `paths::find_path` meets its contract. Assumes nothing.
 use mathlib.Core.Path.{_∙_}
-use Rattle.paths.proofs.Stepping.{walked-all}
+use Rattle.paths.proofs.Ending.{walked-all}
 use borrow.Author.Needs.{needs}
 use Rattle.paths.proofs.find_path.Statement.{statement}
 use Rattle.paths.proofs.find_path.Tie as tie

@@ -5,7 +5,7 @@ use Prim.Native.Nat.{_+_, _*_, _/_, _≤_, min}
 use native.Mathlib.Omega.{arith}
 use lib.ListN.{length}
 use borrow.Author.Needs.{needs}
-use Rattle.paths.specs.Walking.{BehindAt, Marked}
+use Rattle.paths.specs.Finding.{BehindAt, Marked}
 use Rattle.paths.proofs.Keeping.{behind-end, behind-whole, behind-start, behind-block, marked-none, marked-more, marked-from}
 use Rattle.paths.proofs.mark_blocks.Statement.{statement}
 use Rattle.paths.proofs.mark_blocks.Tie as tie

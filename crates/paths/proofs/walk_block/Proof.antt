@@ -4,8 +4,8 @@ use Prim.Native.Nat.{_-_, _≤_}
 use native.Mathlib.Omega.{arith}
 use borrow.Author.Needs.{needs}
 use lib.ListN.{length, length-set}
-use Rattle.paths.specs.Walking.{Walked}
-use Rattle.paths.proofs.Stepping.{walked-more, walked-stuck, takes-lowest, takes-none}
+use Rattle.walks.specs.Walking.{Walked}
+use Rattle.walks.proofs.Stepping.{walked-more, walked-stuck, takes-lowest, takes-none}
 use Rattle.paths.proofs.walk_block.Statement.{statement}
 use Rattle.paths.proofs.walk_block.Tie as tie
 

@@ -5,8 +5,9 @@ use Prim.Native.Nat.{_-_, _/_}
 use native.Mathlib.Omega.{arith}
 use lib.ListN.{length}
 use borrow.Author.Needs.{needs}
-use Rattle.paths.specs.Walking.{Walked, Marked}
-use Rattle.paths.proofs.Stepping.{walked-all}
+use Rattle.walks.specs.Walking.{Walked}
+use Rattle.paths.specs.Finding.{Marked}
+use Rattle.paths.proofs.Ending.{walked-all}
 use Rattle.paths.proofs.Keeping.{marked-from}
 use Rattle.paths.proofs.walk_blocks.Statement.{statement}
 use Rattle.paths.proofs.walk_blocks.Tie as tie

@@ -1,5 +1,5 @@
 -- `steps::refit` meets its contract: a sheet that belongs has a path. Assumes nothing.
-use Rattle.paths.specs.Walking.{short-marks}
+use Rattle.paths.specs.Finding.{short-marks}
 use borrow.Author.Tests.{not-true, not-false}
 use Rattle.steps.proofs.Answers.{not-fitted, is-fitted}
 use borrow.Author.Needs.{needs}

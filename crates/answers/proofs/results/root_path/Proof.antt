@@ -1,5 +1,5 @@
 -- `answers::results::root_path` meets its contract: the root's automaton is that of its language. Assumes nothing.
-use Rattle.paths.specs.Walking.{short-marks}
+use Rattle.paths.specs.Finding.{short-marks}
 use Rattle.answers.proofs.Giving.{root-words, root-room, path-of-root}
 use borrow.Author.Needs.{needs}
 use Rattle.answers.proofs.results.root_path.Statement.{statement}

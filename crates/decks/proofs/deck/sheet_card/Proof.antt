@@ -4,7 +4,7 @@ use mathlib.Core.List.{_++_}
 use Prim.Native.Nat.{ℕ, _-_, _≤_}
 use native.Mathlib.Omega.{arith}
 use lib.ListN.{length, take, drop, length-take}
-use Rattle.paths.specs.Walking.{less-marks}
+use Rattle.paths.specs.Finding.{less-marks}
 use Rattle.lens.specs.Reading.{modeSide}
 use Rattle.lens.specs.Parsed.{parsed-fits}
 use Rattle.decks.proofs.Sealing.{card-long, emits-behind}

@@ -78,10 +78,10 @@ use Rattle.lens.proofs.read.given_word.Reads as given-word-reads
 use Rattle.lens.proofs.read.read_by.Reads as read-by-reads
 use Rattle.lens.proofs.read.word_of.Reads as word-of-reads
 use Rattle.lens.proofs.texts.write_text.Reads as write-text-reads
-use Rattle.paths.proofs.border.Reads as border-reads
-use Rattle.paths.proofs.ends_of.Reads as ends-of-reads
-use Rattle.paths.proofs.first_loop.Reads as first-loop-reads
-use Rattle.paths.proofs.goes_left.Reads as goes-left-reads
+use Rattle.cuts.proofs.border.Reads as border-reads
+use Rattle.cuts.proofs.ends_of.Reads as ends-of-reads
+use Rattle.cuts.proofs.first_loop.Reads as first-loop-reads
+use Rattle.cuts.proofs.goes_left.Reads as goes-left-reads
 use Rattle.table.proofs.Table.node.Reads as node-reads
 use Rattle.lens.proofs.read.+emit+emit_join+emit_repeat.{statement}
 use Rattle.lens.proofs.read.+emit+emit_join+emit_repeat.Tie.{close}

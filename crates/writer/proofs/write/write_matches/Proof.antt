@@ -19,7 +19,7 @@ use Rattle.writer.proofs.write.write_matches.Reads as reads
 use Rattle.writer.proofs.write.write_matches.Lts as lts
 use Rattle.books.proofs.Book.take.Reads as take-reads
 use Rattle.decks.proofs.cards.card_of.Reads as card-of-reads
-use Rattle.paths.proofs.first_loop.Reads as first-loop-reads
+use Rattle.cuts.proofs.first_loop.Reads as first-loop-reads
 use Rattle.plains.proofs.plain.next_plain.Reads as next-plain-reads
 
 abbrev Inv-loop : tie.InvT-loop
