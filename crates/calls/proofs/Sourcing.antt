@@ -33,7 +33,7 @@ use Rattle.lens.specs.Emitting.{Emits}
 use Rattle.books.specs.declared.Book.{Book}
 use Rattle.books.specs.Listed.{Sized, entryAt, unusedFrom, unused, unused-none, fits-none, in-order-none, in-order-more}
 use Rattle.books.specs.Looking.{BookOver, Dealt, EntriesParsed, OldParsed, partAt, over-more, unused-dealt, entries-parsed-deck, same-all}
-use Rattle.decks.specs.Below.{BelowIs}
+use Rattle.below.specs.Below.{BelowIs}
 use Rattle.decks.specs.declared.deck.Dealing.{Dealing}
 use Rattle.decks.specs.Dealing.{PathRoom, DealtTo, DealtOn}
 use Rattle.listing.specs.declared.Listing.{Listing}

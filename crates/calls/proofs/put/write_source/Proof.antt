@@ -11,7 +11,7 @@ use Rattle.answers.proofs.results.root_of.Reads as root-of-reads
 use Rattle.calls.proofs.put.first_desk.Reads as first-desk-reads
 use Rattle.calls.proofs.put.no_below.Reads as no-below-reads
 use Rattle.calls.proofs.put.write_at.Reads as write-at-reads
-use Rattle.decks.proofs.below.fill_below.Reads as fill-below-reads
+use Rattle.below.proofs.fill_below.Reads as fill-below-reads
 
 no-below-requires : tie.Need-no-below-requires
 no-below-requires c κs = search needs
