@@ -7,6 +7,7 @@ use lib.ListN.{length}
 use Rattle.semantics.specs.Text.{Text}
 use Rattle.semantics.specs.Pattern.{matches}
 use Rattle.semantics.specs.Lens.{Lens, language}
+use Rattle.semantics.specs.Lens.{Side as SideOf}
 use Rattle.semantics.specs.Table.{nodeCount}
 use Rattle.semantics.specs.Calls.{gives, program, maxText, output}
 use Rattle.automaton.specs.declared.Side.{Side}
@@ -36,6 +37,11 @@ pub record Finishes (wrote : Wrote) (result before after : Text) (answer : Answe
 pub record RootPath (bytes : Text) (side : Side) (text : Text) (path : List ℕ) (answer : Bool) : Type 0 where
   pub decides : (l : Lens) → program bytes ≡ gives l → answer ≡ matches (language (sideOf side) l) text
   pub parsed : answer ≡ true → Parsed bytes (nodeCount bytes - 1) (sideOf side) 0 path text
+
+-- A text of at most 4,096 bytes that belongs to the root on a side, and its least path.
+pub record TextReady (bytes : Text) (side : SideOf) (text : Text) (path : List ℕ) : Type 0 where
+  pub short : length text ≤ maxText
+  pub parsed : Parsed bytes (nodeCount bytes - 1) side 0 path text
 
 -- What the root makes is written into a slice.
 pub record Makes (bytes : Text) (make : Lens → Text) (before after : Text) (wrote : Wrote) : Type 0 where

@@ -1,3 +1,3 @@
 -- What the proofs of several functions cite.
-pub mod Lines
-pub mod Sourcing
+mod Listed
+mod Replying

@@ -1,3 +1,2 @@
--- What the calls make of an accepted program.
-pub mod Line
-pub mod Sources
+-- What a put makes of an accepted program.
+pub mod Puts

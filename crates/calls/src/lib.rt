@@ -1,7 +1,2 @@
-// What each call does with an accepted and prepared program.
-pub mod create;
-pub mod get;
-pub mod line;
+// What a put does with an accepted and prepared program.
 pub mod put;
-mod reading;
-mod tally;

@@ -13,7 +13,7 @@ use Rattle.answers.specs.declared.Answer.{Answer}
 use Rattle.answers.specs.declared.Answer.the-variants.{Result, Refusal}
 use Rattle.answers.specs.Contracts.{answerFor, GivesText}
 use Rattle.lines.specs.Line.{refusedLine}
-use Rattle.calls.proofs.Lines.{refused-line}
+use Rattle.readings.proofs.Lines.{refused-line}
 use Rattle.commands.specs.Replies.{checkOutcome, printed, numberOf, answerNumber, Replies, Finishes}
 
 -- a result

@@ -40,7 +40,7 @@ use Rattle.decks.specs.declared.cards.Card.{Card}
 use Rattle.decks.specs.declared.deck.Dealing.{Dealing}
 use Rattle.decks.specs.declared.deck.Tried.{Tried}
 use Rattle.decks.specs.declared.deck.Tried.the-variants.{Made, Long}
-use Rattle.decks.specs.Below.{unionAt, BelowIs}
+use Rattle.below.specs.Below.{unionAt, BelowIs}
 use Rattle.decks.specs.Dealing.{Sealed, PathRoom, CardTried, HeadPut, CardIn, DealtTo}
 use Rattle.decks.proofs.Sealing.{card-length, writes-front, behindHead, withBehind, sealed-at}
 use Rattle.decks.proofs.Heads.{head-long, head-front, head-behind, head-prints, head-places, head-print, head-place}

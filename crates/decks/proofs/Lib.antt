@@ -1,5 +1,4 @@
 -- What the proofs of this crate share.
-mod Lower
 mod Printing
 mod Sealing
 mod Heads

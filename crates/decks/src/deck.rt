@@ -1,8 +1,8 @@
 // The deck: the old source, in the first 4,096 bytes; its path, in the next 4,096; for each of 256 entries one byte of its key's fingerprint, and three for where
 // its card stands; and then the cards, one behind the other. A sheet that is made for its key stands, until it has its card, where the card will.
-use crate::below::has_union;
 use crate::cards::Card;
 use crate::cards::seal;
+use below::has_union;
 use books::Book;
 use lens::Mode;
 use lens::Wrote;
@@ -20,7 +20,7 @@ ghost use Rattle.lens.specs.Parsed.{Parsed};
 ghost use Rattle.books.specs.declared.Book.{Book};
 ghost use Rattle.books.specs.Listed.{InOrder};
 ghost use Rattle.books.specs.Looking.{BookOver, EntriesParsed};
-ghost use Rattle.decks.specs.Below.{BelowIs};
+ghost use Rattle.below.specs.Below.{BelowIs};
 ghost use Rattle.decks.specs.Dealing.{PathRoom, CardTried, HeadPut, DealtTo, Begun, MovedTo, DealtOn};
 
 // How far the cards of a book have come: so many entries have theirs, and the last one ends at `at`.

@@ -1,4 +1,3 @@
 // What a put looks its entries up in: the deck, with the old source, its path, and the cards of its entries' keys.
-pub mod below;
 pub mod cards;
 pub mod deck;

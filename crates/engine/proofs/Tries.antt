@@ -13,7 +13,7 @@ use Rattle.engine.specs.declared.rooms.Call.{Call}
 use Rattle.engine.specs.declared.rooms.Call.the-variants.{Check, Get, Put, Create, Line}
 use Rattle.engine.specs.declared.rooms.Tried.{Tried}
 use Rattle.engine.specs.declared.rooms.Tried.the-variants.{Done, Small}
-use Rattle.calls.specs.Line.{lineCall}
+use Rattle.readings.specs.Line.{lineCall}
 use Rattle.engine.specs.Rooms.{Owed, Owes, NoRoom, TriedIs, Tries}
 
 -- the case that the call is

@@ -16,7 +16,7 @@ use Rattle.engine.specs.declared.rooms.Room.the-variants.{Small, Middle,
 use Rattle.engine.specs.declared.rooms.Tried.{Tried}
 use Rattle.engine.specs.declared.rooms.Tried.the-variants.{Done}
 use Rattle.engine.specs.declared.rooms.Tried.the-variants as T
-use Rattle.calls.specs.Line.{lineCall}
+use Rattle.readings.specs.Line.{lineCall}
 
 -- Check answers, and changes no buffer.
 pub record Checks (bytes before after : Text) (answer : Answer) : Type 0 where

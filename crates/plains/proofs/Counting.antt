@@ -13,8 +13,8 @@ use Rattle.semantics.specs.Tally.{met}
 use Rattle.table.specs.Prepared.{OneLens}
 use Rattle.lens.specs.Emitting.{LensNode}
 use Rattle.lens.specs.Nodes.{same-lens, child-below}
-use Rattle.decks.specs.Below.{countAt, BelowIs}
-use Rattle.decks.specs.Counts.{repeat-met}
+use Rattle.below.specs.Below.{countAt, BelowIs}
+use Rattle.below.specs.Counts.{repeat-met}
 use Rattle.plains.specs.Writing.{MeetsThere}
 
 -- a count for each part of a sheet is a small number

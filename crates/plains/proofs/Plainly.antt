@@ -21,7 +21,7 @@ use Rattle.lens.specs.Nodes.{same-lens, child-below, left-below, right-below}
 use Rattle.books.specs.declared.Book.{Book}
 use Rattle.books.specs.Listed.{fits-none}
 use Rattle.books.specs.Looking.{BookOver}
-use Rattle.decks.specs.Below.{BelowIs}
+use Rattle.below.specs.Below.{BelowIs}
 use Rattle.steps.specs.declared.Spot.{Spot}
 use Rattle.steps.specs.Steps.{ArmIs}
 use Rattle.plains.specs.declared.plain.Plain.{Plain}

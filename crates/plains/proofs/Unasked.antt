@@ -31,7 +31,7 @@ use Rattle.lens.specs.Nodes.{same-lens, lens-read}
 use Rattle.books.specs.declared.Book.{Book}
 use Rattle.books.specs.Listed.{entryAt, unusedFrom, unused}
 use Rattle.books.specs.Looking.{BookOver}
-use Rattle.decks.specs.Below.{BelowIs}
+use Rattle.below.specs.Below.{BelowIs}
 use Rattle.plains.specs.Writing.{AsksNone, MeetsThere, NoMatch}
 
 -- what holds of the child of each entry that was not taken holds of those of the book

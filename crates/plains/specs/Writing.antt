@@ -19,7 +19,7 @@ use Rattle.lens.specs.Emitting.{LensNode}
 use Rattle.books.specs.declared.Book.{Book}
 use Rattle.books.specs.Listed.{unused}
 use Rattle.books.specs.Looking.{BookOver, SameEntries}
-use Rattle.decks.specs.Below.{BelowIs}
+use Rattle.below.specs.Below.{BelowIs}
 use Rattle.plains.specs.declared.Done.{Done}
 use Rattle.plains.specs.declared.plain.Plain.{Plain}
 

@@ -11,7 +11,7 @@ use Rattle.lens.specs.Emitting.{LensNode}
 use Rattle.books.specs.declared.Book.{Book}
 use Rattle.books.specs.declared.Lookup.{Lookup}
 use Rattle.books.specs.Looking.{BookOver, CardsFit, placeAt, OldParsed, LookedUp}
-use Rattle.decks.specs.Below.{BelowIs}
+use Rattle.below.specs.Below.{BelowIs}
 use Rattle.plains.specs.declared.Done.{Done}
 use Rattle.plains.specs.Writing.{LensBehind, WritesBehind}
 

@@ -3,13 +3,13 @@
 // Each function on the way down holds the book twice, as it came and as it comes back: so `done` is written over where two calls follow each other, and what every node does with an old
 // text or none is no function of its own.
 use automaton::Side;
+use below::VARIES;
+use below::asks_none;
+use below::count_at;
 use books::Book;
 use books::Lookup;
 use books::Old;
 use books::Place;
-use decks::below::VARIES;
-use decks::below::asks_none;
-use decks::below::count_at;
 use decks::cards::card_of;
 use cuts::Ends;
 use cuts::first_loop;

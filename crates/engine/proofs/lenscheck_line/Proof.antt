@@ -4,7 +4,7 @@ use native.Mathlib.Omega.{arith}
 use denote.Ref.{now}
 use Rattle.engine.specs.Rooms.{Owed}
 use Rattle.lines.proofs.Texts.{puts-as, puts-start}
-use Rattle.calls.proofs.Lines.{line-result, line-refusal, refused-line}
+use Rattle.readings.proofs.Lines.{line-result, line-refusal, refused-line}
 use Rattle.engine.proofs.lenscheck_line.Statement.{statement}
 use Rattle.engine.proofs.lenscheck_line.Tie as tie
 

@@ -1,7 +1,7 @@
 -- `calls::put::entries_of` meets its contract: the root lists into an empty book. Assumes nothing.
 use borrow.Author.Needs.{needs}
 use Rattle.answers.proofs.Giving.{root-node}
-use Rattle.calls.proofs.Sourcing.{to-list, lists-root}
+use Rattle.calls.proofs.Listed.{to-list, lists-root}
 use Rattle.calls.proofs.put.entries_of.Statement.{statement}
 use Rattle.calls.proofs.put.entries_of.Tie as tie
 

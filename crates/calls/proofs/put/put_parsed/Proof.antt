@@ -1,4 +1,4 @@
-use Rattle.calls.proofs.Sourcing.{counts-fit, tally-same, no-result}
+use Rattle.calls.proofs.Replying.{counts-fit, tally-same, no-result}
 use mathlib.Core.Path.{sym, _∙_}
 use native.Mathlib.Omega.{arith}
 use lib.ListN.{length-take}
@@ -13,8 +13,8 @@ use Rattle.answers.proofs.results.no_text.Reads as no-text-reads
 use Rattle.answers.proofs.results.room_in.Reads as room-in-reads
 use Rattle.calls.proofs.put.entries_of.Reads as entries-of-reads
 use Rattle.calls.proofs.put.refuse_put.Reads as refuse-put-reads
-use Rattle.calls.proofs.put.write_source.Reads as write-source-reads
-use Rattle.calls.proofs.tally.tally_of.Reads as tally-of-reads
+use Rattle.sources.proofs.write_source.Reads as write-source-reads
+use Rattle.counts.proofs.tally_of.Reads as tally-of-reads
 
 entries-of-requires : tie.Need-entries-of-requires
 entries-of-requires c κs = search needs

@@ -6,7 +6,8 @@ use lib.ListN.{length-take}
 use Rattle.semantics.specs.Calls.{putCall}
 use Rattle.automaton.specs.Rows.{sideOf}
 use Rattle.answers.proofs.Giving.{program-gives, refused, passed, not-of}
-use Rattle.calls.proofs.Sourcing.{refused-replies, put-replies, text-ready, first-long, second-long, neither-long}
+use Rattle.calls.proofs.Replying.{refused-replies, put-replies, first-long, second-long, neither-long}
+use Rattle.answers.proofs.Texts.{text-ready}
 use borrow.Author.Needs.{needs}
 use Rattle.calls.proofs.put.put_with.Statement.{statement}
 use Rattle.calls.proofs.put.put_with.Tie as tie

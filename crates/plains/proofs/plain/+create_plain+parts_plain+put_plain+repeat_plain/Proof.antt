@@ -35,7 +35,7 @@ use Rattle.plains.proofs.plain.+create_plain+parts_plain+put_plain+repe
 use Rattle.plains.proofs.plain.repeat_plain.Reads as repeat-plain
 use Rattle.plains.proofs.plain.repeat_plain.Kinds as repeat-plain-kinds
 use Rattle.plains.proofs.plain.+create_plain+parts_plain+put_plain+repeat_plain.Lts-repeat_plain as repeat-plain-lts
-use Rattle.decks.proofs.below.count_at.Reads as count-at-reads
+use Rattle.below.proofs.count_at.Reads as count-at-reads
 use Rattle.cuts.proofs.first_loop.Reads as first-loop-reads
 use Rattle.steps.proofs.choose.Reads as choose-reads
 use Rattle.steps.proofs.choose_new.Reads as choose-new-reads

@@ -35,7 +35,7 @@ use Rattle.writer.proofs.write.+create+put+write_match+write_parts+writ
 use Rattle.writer.proofs.write.write_repeat.Reads as write-repeat
 use Rattle.writer.proofs.write.write_repeat.Kinds as write-repeat-kinds
 use Rattle.writer.proofs.write.+create+put+write_match+write_parts+write_repeat.Lts-write_repeat as write-repeat-lts
-use Rattle.decks.proofs.below.asks_none.Reads as asks-none-reads
+use Rattle.below.proofs.asks_none.Reads as asks-none-reads
 use Rattle.cuts.proofs.first_loop.Reads as first-loop-reads
 use Rattle.std.proofs.num.wrapping_add_usize.Reads as wrapping-add-usize-reads
 use Rattle.steps.proofs.choose.Reads as choose-reads

@@ -8,7 +8,7 @@ use Rattle.writer.proofs.write.plain_behind.Statement.{statement}
 use Rattle.writer.proofs.write.plain_behind.Tie as tie
 use Rattle.writer.proofs.write.plain_behind.Reads as reads
 use Rattle.writer.proofs.write.plain_behind.Lts as lts
-use Rattle.decks.proofs.below.count_at.Reads as count-at-reads
+use Rattle.below.proofs.count_at.Reads as count-at-reads
 use Rattle.plains.proofs.plain.next_counted.Reads as next-counted-reads
 use Rattle.plains.proofs.plain.write_plain.Reads as write-plain-reads
 

@@ -1,0 +1,3 @@
+-- What the functions of this crate are given and owe, in terms of the definitions.
+pub mod Below
+pub mod Counts

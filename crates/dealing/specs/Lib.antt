@@ -1,0 +1,2 @@
+-- What the functions of this crate are given, in terms of the definitions.
+pub mod Books

@@ -1,0 +1,2 @@
+-- What the proofs of several functions cite.
+mod Sourcing
