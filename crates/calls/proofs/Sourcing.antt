@@ -40,7 +40,8 @@ use Rattle.listing.specs.declared.Listing.{Listing}
 use Rattle.listing.specs.Listing.{treeEntries, entries-of, ToList, StandsIn, Untaken, Lists, PutBehind}
 use Rattle.bookless.specs.Bookless.{Given}
 use Rattle.plains.specs.declared.Done.{Done as Did}
-use Rattle.plains.specs.Writing.{WritesBehind, Fitted, wrapped, Progress}
+use Rattle.counted.specs.Counted.{Fitted}
+use Rattle.plains.specs.Writing.{WritesBehind, wrapped, Progress}
 use Rattle.plains.proofs.Behind.{not-full}
 use Rattle.writer.specs.WithBook.{Ready as ToWrite}
 use Rattle.answers.specs.declared.Answer.{Answer}

@@ -1,13 +1,13 @@
-use Rattle.plains.proofs.Behind.{front-written}
+use Rattle.counted.proofs.Front.{front-written}
 use Rattle.steps.specs.Stepping.{writes-behind, behind-fits}
 use Rattle.lens.specs.Overlay.{writes-full}
 use Rattle.laws.specs.Bookless.{plain}
 use native.Mathlib.Omega.{arith}
 use borrow.Author.Needs.{needs}
-use Rattle.plains.proofs.plain.next_plain.Statement.{statement}
-use Rattle.plains.proofs.plain.next_plain.Tie as tie
-use Rattle.plains.proofs.plain.next_plain.Reads as reads
-use Rattle.plains.proofs.plain.next_plain.Lts as lts
+use Rattle.counted.proofs.next_plain.Statement.{statement}
+use Rattle.counted.proofs.next_plain.Tie as tie
+use Rattle.counted.proofs.next_plain.Reads as reads
+use Rattle.counted.proofs.next_plain.Lts as lts
 use Rattle.bookless.proofs.write.Reads as write-reads
 use Rattle.steps.proofs.behind.Reads as behind-reads
 
