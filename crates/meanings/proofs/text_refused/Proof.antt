@@ -1,10 +1,10 @@
--- `commands::meanings::text_refused` meets its contract, by the number. Assumes nothing.
+-- `meanings::text_refused` meets its contract, by the number. Assumes nothing.
 use borrow.Author.Needs.{needs}
 use denote.Ref.{now}
 use mathlib.Core.Path.{_∙_}
-use Rattle.commands.proofs.TextBytes.{refused-else, refused-sizes}
-use Rattle.commands.proofs.meanings.text_refused.Statement.{statement}
-use Rattle.commands.proofs.meanings.text_refused.Tie as tie
+use Rattle.meanings.proofs.TextBytes.{refused-else, refused-sizes}
+use Rattle.meanings.proofs.text_refused.Statement.{statement}
+use Rattle.meanings.proofs.text_refused.Tie as tie
 
 returns : tie.Need-returns
 returns c = refused-else (c .before .before .args .number) (now (c .before .before .args .table)) (c .if1 .taken)

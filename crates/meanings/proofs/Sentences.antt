@@ -5,7 +5,7 @@ use Prim.Native.Nat.{ℕ, _≤_, _<_}
 use native.Mathlib.Omega.{arith}
 use borrow.Author.Tests.{leb-true, leb-false, le-leb, lt-leb}
 use lib.Dec.{leb}
-use Rattle.commands.specs.Sentences.{hasSentence}
+use Rattle.meanings.specs.Sentences.{hasSentence}
 
 -- one of them
 pub has : (first number : ℕ) → first ≤ number → number ≤ 16 → hasSentence first number ≡ true

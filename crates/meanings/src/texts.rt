@@ -1,6 +1,6 @@
 // Which files are texts: one that stands where the table should was most likely meant to be assembled first.
 ghost use mathlib.Core.Path.{_≡_};
-ghost use Rattle.commands.specs.Texts.{isText, isTextByte};
+ghost use Rattle.meanings.specs.Texts.{isText, isTextByte};
 
 pub fn is_text(bytes: &[u8]) -> bool
     ensures { λ r. ⌜ r ≡ isText (now (bytes .entry)) ⌝ }

@@ -1,12 +1,12 @@
--- `commands::texts::is_text` meets its contract. The loop's invariant: the bytes are a text if they are from byte i on. Assumes nothing.
+-- `meanings::texts::is_text` meets its contract. The loop's invariant: the bytes are a text if they are from byte i on. Assumes nothing.
 use borrow.Author.Needs.{needs}
 use borrow.Author.Tests.{not-true, not-false}
 use mathlib.Core.Path.{sym, _∙_}
 use Prim.Native.Nat.{_-_}
 use lib.ListN.{length}
-use Rattle.commands.proofs.TextBytes.{Seen, seen-none, seen-more, seen-other, seen-all}
-use Rattle.commands.proofs.texts.is_text.Statement.{statement}
-use Rattle.commands.proofs.texts.is_text.Tie as tie
+use Rattle.meanings.proofs.TextBytes.{Seen, seen-none, seen-more, seen-other, seen-all}
+use Rattle.meanings.proofs.texts.is_text.Statement.{statement}
+use Rattle.meanings.proofs.texts.is_text.Tie as tie
 
 abbrev Inv-loop : tie.InvT-loop
 Inv-loop bytes i₀ i = Seen bytes i

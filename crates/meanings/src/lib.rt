@@ -2,8 +2,10 @@
 use crate::texts::is_text;
 ghost use mathlib.Core.Bool.{true};
 ghost use mathlib.Core.Path.{_≡_};
-ghost use Rattle.commands.specs.Sentences.{hasSentence};
-ghost use Rattle.commands.specs.Texts.{textRefused};
+ghost use Rattle.meanings.specs.Sentences.{hasSentence};
+ghost use Rattle.meanings.specs.Texts.{textRefused};
+
+mod texts;
 
 // Writes the sentence of a refusal of a call with this table, and says whether the number has one. Whether the system could write it is left open,
 // since no contract can say what is read or written. A text in the table's place has a sentence of its own: its sizes are not what is to be mended.
@@ -19,7 +21,7 @@ pub fn explain_for(fd: i32, number: usize, table: &[u8]) -> bool
     explain(fd, number)
 }
 
-// Every text is refused with number 1 (`text-outcome` of specs/Texts.antt). The number comes first, so that only a refused table is read again.
+// Every text is refused with number 1 (`text-program` of specs/Texts.antt). The number comes first, so that only a refused table is read again.
 fn text_refused(number: usize, table: &[u8]) -> bool
     ensures { λ r. ⌜ r ≡ textRefused number (now (table .entry)) ⌝ }
 {

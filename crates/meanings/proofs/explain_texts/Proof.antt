@@ -1,10 +1,10 @@
--- `commands::meanings::explain_texts` meets its contract, arm by arm. Assumes nothing.
+-- `meanings::explain_texts` meets its contract, arm by arm. Assumes nothing.
 use borrow.Author.Needs.{needs}
 use mathlib.Core.Path.{sym, _∙_}
 use native.Mathlib.Omega.{arith}
-use Rattle.commands.proofs.Sentences.{has, has-none}
-use Rattle.commands.proofs.meanings.explain_texts.Statement.{statement}
-use Rattle.commands.proofs.meanings.explain_texts.Tie as tie
+use Rattle.meanings.proofs.Sentences.{has, has-none}
+use Rattle.meanings.proofs.explain_texts.Statement.{statement}
+use Rattle.meanings.proofs.explain_texts.Tie as tie
 
 slice-aggregate-said : tie.Need-slice-aggregate-said
 slice-aggregate-said c = search needs

@@ -10,9 +10,9 @@ use lib.Seq.{drop-cons}
 use borrow.Author.Tests.{eqb-true, eq-eqb, ne-eqb}
 use Rattle.semantics.specs.Text.{Text}
 use Rattle.laws.specs.Basics.{and-both}
-use Rattle.commands.specs.Sentences.{hasSentence}
-use Rattle.commands.specs.Texts.{isTextByte, isText, textRefused}
-use Rattle.commands.proofs.Sentences.{has}
+use Rattle.meanings.specs.Sentences.{hasSentence}
+use Rattle.meanings.specs.Texts.{isTextByte, isText, textRefused}
+use Rattle.meanings.proofs.Sentences.{has}
 
 -- tab, newline and carriage return, each by its own test
 pub byte-tab : (byte : ℕ) → byte ≡ 9 → true ≡ isTextByte byte

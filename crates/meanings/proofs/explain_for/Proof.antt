@@ -1,10 +1,10 @@
--- `commands::meanings::explain_for` meets its contract: where a text was refused, the number is 1. Assumes nothing.
+-- `meanings::explain_for` meets its contract: where a text was refused, the number is 1. Assumes nothing.
 use borrow.Author.Needs.{needs}
 use denote.Ref.{now}
 use mathlib.Core.Path.{sym, _∙_}
-use Rattle.commands.proofs.TextBytes.{refused-has}
-use Rattle.commands.proofs.meanings.explain_for.Statement.{statement}
-use Rattle.commands.proofs.meanings.explain_for.Tie as tie
+use Rattle.meanings.proofs.TextBytes.{refused-has}
+use Rattle.meanings.proofs.explain_for.Statement.{statement}
+use Rattle.meanings.proofs.explain_for.Tie as tie
 
 text-refused-requires : tie.Need-text-refused-requires
 text-refused-requires c κs = search needs

@@ -1,10 +1,10 @@
--- `commands::meanings::explain` meets its contract, arm by arm. Assumes nothing.
+-- `meanings::explain` meets its contract, arm by arm. Assumes nothing.
 use borrow.Author.Needs.{needs}
 use mathlib.Core.Path.{sym, _∙_}
 use native.Mathlib.Omega.{arith}
-use Rattle.commands.proofs.Sentences.{has, has-later}
-use Rattle.commands.proofs.meanings.explain.Statement.{statement}
-use Rattle.commands.proofs.meanings.explain.Tie as tie
+use Rattle.meanings.proofs.Sentences.{has, has-later}
+use Rattle.meanings.proofs.explain.Statement.{statement}
+use Rattle.meanings.proofs.explain.Tie as tie
 
 slice-aggregate-said : tie.Need-slice-aggregate-said
 slice-aggregate-said c = search needs

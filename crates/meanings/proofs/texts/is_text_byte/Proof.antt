@@ -1,8 +1,8 @@
--- `commands::texts::is_text_byte` meets its contract, test by test. Assumes nothing.
+-- `meanings::texts::is_text_byte` meets its contract, test by test. Assumes nothing.
 use mathlib.Core.Logic.{⊎-elim}
-use Rattle.commands.proofs.TextBytes.{byte-tab, byte-newline, byte-return, byte-other}
-use Rattle.commands.proofs.texts.is_text_byte.Statement.{statement}
-use Rattle.commands.proofs.texts.is_text_byte.Tie as tie
+use Rattle.meanings.proofs.TextBytes.{byte-tab, byte-newline, byte-return, byte-other}
+use Rattle.meanings.proofs.texts.is_text_byte.Statement.{statement}
+use Rattle.meanings.proofs.texts.is_text_byte.Tie as tie
 
 returns : tie.Need-returns
 returns c =

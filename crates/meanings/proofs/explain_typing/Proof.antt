@@ -1,10 +1,10 @@
--- `commands::meanings::explain_typing` meets its contract, arm by arm. Assumes nothing.
+-- `meanings::explain_typing` meets its contract, arm by arm. Assumes nothing.
 use borrow.Author.Needs.{needs}
 use mathlib.Core.Path.{sym, _∙_}
 use native.Mathlib.Omega.{arith}
-use Rattle.commands.proofs.Sentences.{has, has-later}
-use Rattle.commands.proofs.meanings.explain_typing.Statement.{statement}
-use Rattle.commands.proofs.meanings.explain_typing.Tie as tie
+use Rattle.meanings.proofs.Sentences.{has, has-later}
+use Rattle.meanings.proofs.explain_typing.Statement.{statement}
+use Rattle.meanings.proofs.explain_typing.Tie as tie
 
 slice-aggregate-said : tie.Need-slice-aggregate-said
 slice-aggregate-said c = search needs
