@@ -425,7 +425,7 @@ class Words(unittest.TestCase):
     """What is written down here and elsewhere is the same."""
 
     def test_sentences_are_those_of_the_command_line(self) -> None:
-        text = (ROOT / "crates/commands/src/meanings.rt").read_text("utf-8")
+        text = (ROOT / "crates/meanings/src/lib.rt").read_text("utf-8")
         found = re.findall(r'(\d+) => said\(\s*fd,\s*b"(.*)\\n",\s*\)', text)
         said = {int(number): words for number, words in found}
         self.assertEqual(list(said), list(range(1, 17)))

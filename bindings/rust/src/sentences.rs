@@ -1,5 +1,5 @@
 //! What each refusal means and what to do, in a sentence: the words that the
-//! proved program `sheet` has for them (`crates/commands/src/meanings.rt`).
+//! proved program `sheet` has for them (`crates/meanings/src/lib.rt`).
 
 /// The sentence of a refusal, without a newline.
 pub fn sentence(number: u64) -> Option<&'static str> {

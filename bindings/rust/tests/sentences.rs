@@ -5,7 +5,7 @@ use std::path::Path;
 
 /// The sentences of the program `sheet`, with their numbers, out of its source.
 fn of_sheet() -> Vec<(u64, String)> {
-    let file = Path::new(env!("CARGO_MANIFEST_DIR")).join("../../crates/commands/src/meanings.rt");
+    let file = Path::new(env!("CARGO_MANIFEST_DIR")).join("../../crates/meanings/src/lib.rt");
     let source = std::fs::read_to_string(file).expect("the crate is there");
     let arms = source.split(" => said(").zip(source.split(" => said(").skip(1));
     arms.map(|(before, behind)| {

@@ -1,5 +1,3 @@
 -- What the proofs of several functions cite.
 mod CommandLines
 mod Outcomes
-mod Sentences
-mod TextBytes

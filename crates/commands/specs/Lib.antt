@@ -2,5 +2,4 @@
 pub mod Commands
 pub mod Files
 pub mod Replies
-pub mod Sentences
 pub mod Texts

@@ -2,7 +2,5 @@
 // Reading and writing stand apart, since no contract can say what is read or written.
 mod command;
 mod files;
-pub mod meanings;
 mod replies;
 pub mod run;
-mod texts;

@@ -1,5 +1,2 @@
--- What the proofs of several functions cite.
+-- What the proofs of several functions cite, also those of the crates `chosen` and `afresh`.
 pub mod Following
-pub mod Parting
-pub mod Gathering
-pub mod Counting

@@ -1,5 +1,5 @@
--- What the functions of this crate promise: which calls they make, and demand 3's clauses about what those gave. `Gave after answer text` says that a
--- call answered a result, whose text is that.
+-- What the functions of this crate, of `chosen` and of `afresh` promise: which calls they make, and demand 3's clauses about what those gave.
+-- `Gave after answer text` says that a call answered a result, whose text is that.
 use mathlib.Core.Path.{_≡_}
 use mathlib.Core.List.{List, map}
 use Prim.Native.Nat.{ℕ, _≤_}
@@ -15,8 +15,8 @@ use Rattle.answers.specs.Contracts.{GivesText, GivesSource, untallied}
 use Rattle.engine.specs.Demand3.{Gave}
 use Rattle.noontrough.specs.Exports.{ExportsText, ExportsSource}
 use Rattle.demands.specs.declared.trips.TwoCalls.{TwoCalls}
-use Rattle.demands.specs.declared.chosen.Chosen.{Chosen}
-use Rattle.demands.specs.declared.linked.LinkedCalls.{LinkedCalls}
+use Rattle.demands.specs.declared.Chosen.{Chosen}
+use Rattle.demands.specs.declared.LinkedCalls.{LinkedCalls}
 
 -- the buffer that each call gets
 unfoldable pub blank : Text

@@ -1,5 +1,3 @@
--- Demand 3 and document 02, (i), about functions that make the calls.
+-- Demand 3, about functions that make the calls.
 pub mod Demands
 pub mod Following
-pub mod Parting
-pub mod Counting

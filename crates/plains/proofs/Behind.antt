@@ -2,11 +2,11 @@
 use mathlib.Core.Path.{_≡_, refl, sym, ap, subst, subst₂, _∙_}
 use mathlib.Core.List.{[], _∷_, _++_, append-assoc, append-nil}
 use mathlib.Core.Option.{Option, none, some}
-use Prim.Native.Nat.{ℕ, _+_, _%_, _^_, _≤_, _<_}
+use Prim.Native.Nat.{ℕ, _+_, _%_, _^_, _<_}
 use native.Mathlib.Nat.{add-zero, mod-add-mod}
 use native.Mathlib.Omega.{arith}
-use lib.ListN.{length, take, length-append, take-append-drop}
-use lib.Seq.{take-append-seam, length-take-le}
+use lib.ListN.{length, take, length-append}
+use lib.Seq.{take-append-seam}
 use Rattle.semantics.specs.Text.{Text}
 use Rattle.semantics.specs.Lens.{Lens, Written, andThen, write}
 use Rattle.semantics.specs.Lens.{Book as Entries}
@@ -14,7 +14,7 @@ use Rattle.semantics.specs.Table.{trees, treeAt, lens}
 use Rattle.semantics.specs.Tally.{met}
 use Rattle.lens.specs.declared.Wrote.{Wrote}
 use Rattle.lens.specs.declared.Wrote.the-variants.{Count, Full}
-use Rattle.lens.specs.Overlay.{Writes, overlay-fits, overlay-over, wrote-fits, wrote-over, writes-within, writes-full}
+use Rattle.lens.specs.Overlay.{Writes, overlay-over, wrote-over, writes-within, writes-full}
 use Rattle.lens.specs.Nodes.{same-lens}
 use Rattle.books.specs.declared.Book.{Book}
 use Rattle.books.specs.declared.Old.{Old}
@@ -22,8 +22,10 @@ use Rattle.books.specs.declared.Old.the-variants.{At, Nothing}
 use Rattle.books.specs.declared.Place.{Place}
 use Rattle.books.specs.Listed.{unused}
 use Rattle.books.specs.Looking.{partAt, oldText, BookOver, SameEntries, same-all, same-then}
+use Rattle.counted.specs.Counted.{Fitted}
+use Rattle.counted.proofs.Front.{front-written}
 use Rattle.plains.specs.declared.Done.{Done}
-use Rattle.plains.specs.Writing.{Fitted, WithinBuffer, wrapped, Progress, LensBehind, WritesBehind}
+use Rattle.plains.specs.Writing.{WithinBuffer, wrapped, Progress, LensBehind, WritesBehind}
 
 -- ---- Two steps, one behind the other
 
@@ -71,16 +73,6 @@ pub not-full : {answer : Wrote} {n : ℕ} → answer ≡ Count n → ¬ (answer 
 not-full p q = let z : _≡_ {A = ℕ} 0 1 = cc in omega arith
 
 -- ---- Whatever the buffer holds, some text was written there
-
--- what stands in front of a place
-pub front-written : (n : ℕ) (out : Text) → n ≤ length out → Writes (take n out) out out (Count n)
-front-written n out h =
-    let long : length (take n out) ≡ n = length-take-le n out h in
-    let fits : length (take n out) ≤ length out = omega (arith, long, h) in
-    record {
-      buffer-is = sym (overlay-fits (take n out) out fits ∙ rw long (take-append-drop n out));
-      answer-is = sym (wrote-fits (take n out) out fits ∙ ap Count long);
-    }
 
 -- one byte more than it holds
 more-written : (out : Text) → Writes (out ++ (0 ∷ [])) out out Full

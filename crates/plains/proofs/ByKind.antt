@@ -19,7 +19,8 @@ use Rattle.books.specs.Looking.{BookOver, same-all}
 use Rattle.steps.specs.declared.Spot.{Spot}
 use Rattle.steps.specs.Steps.{ArmIs}
 use Rattle.plains.specs.declared.Done.{Done}
-use Rattle.plains.specs.Writing.{MeetsThere, LensBehind, WritesBehind, WritesNext}
+use Rattle.counted.specs.Counted.{MeetsThere, WritesNext}
+use Rattle.plains.specs.Writing.{LensBehind, WritesBehind}
 use Rattle.plains.proofs.Behind.{then-same, then-again, progress-is, at-node, behind-same, text-behind}
 
 -- what it writes, from where the sheet and the old text are cut

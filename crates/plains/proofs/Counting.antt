@@ -15,7 +15,7 @@ use Rattle.lens.specs.Emitting.{LensNode}
 use Rattle.lens.specs.Nodes.{same-lens, child-below}
 use Rattle.below.specs.Below.{countAt, BelowIs}
 use Rattle.below.specs.Counts.{repeat-met}
-use Rattle.plains.specs.Writing.{MeetsThere}
+use Rattle.counted.specs.Counted.{MeetsThere}
 
 -- a count for each part of a sheet is a small number
 pub product-small : {r : ℕ} (n : ℕ) → r < 65536 → n ≤ 4096 → r * n ≤ 268435456

@@ -24,8 +24,9 @@ use Rattle.books.specs.Looking.{BookOver}
 use Rattle.below.specs.Below.{BelowIs}
 use Rattle.steps.specs.declared.Spot.{Spot}
 use Rattle.steps.specs.Steps.{ArmIs}
-use Rattle.plains.specs.declared.plain.Plain.{Plain}
-use Rattle.plains.specs.Writing.{AsksNone, MeetsThere, Fitted, PlainReady, MeetsNext, WritesPlainly}
+use Rattle.counted.specs.declared.Plain.{Plain}
+use Rattle.counted.specs.Counted.{MeetsThere, Fitted, MeetsNext}
+use Rattle.plains.specs.Writing.{AsksNone, PlainReady, WritesPlainly}
 use Rattle.plains.proofs.Behind.{behind-left}
 use Rattle.plains.proofs.Unasked.{none-asked}
 use Rattle.plains.proofs.ByKind.{one-met, plain-writes}

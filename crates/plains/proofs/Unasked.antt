@@ -32,7 +32,8 @@ use Rattle.books.specs.declared.Book.{Book}
 use Rattle.books.specs.Listed.{entryAt, unusedFrom, unused}
 use Rattle.books.specs.Looking.{BookOver}
 use Rattle.below.specs.Below.{BelowIs}
-use Rattle.plains.specs.Writing.{AsksNone, MeetsThere, NoMatch}
+use Rattle.counted.specs.Counted.{MeetsThere}
+use Rattle.plains.specs.Writing.{AsksNone, NoMatch}
 
 -- what holds of the child of each entry that was not taken holds of those of the book
 left-children :

@@ -1,27 +1,26 @@
 -- What put and create owe, in terms of the definitions' `write`, and what they are given where they have no book.
 use mathlib.Core.Path.{_≡_}
 use mathlib.Core.Bool.{false}
-use mathlib.Core.List.{List, _++_}
+use mathlib.Core.List.{List}
 use mathlib.Core.Option.{Option}
-use Prim.Native.Nat.{ℕ, _+_, _*_, _%_, _^_, _≤_}
+use Prim.Native.Nat.{ℕ, _+_, _*_, _%_, _^_}
 use lib.ListN.{length}
 use Rattle.semantics.specs.Text.{Text}
 use Rattle.semantics.specs.Lens.{Lens, Written, andThen, write}
 use Rattle.semantics.specs.Table.{trees, treeAt, lens, holdsMatch}
 use Rattle.semantics.specs.Tally.{met}
-use Rattle.laws.specs.Bookless.{plain}
 use Rattle.positions.specs.Positions.{Shared}
 use Rattle.automaton.specs.Rows.{setAt}
-use Rattle.lens.specs.declared.Wrote.{Wrote}
-use Rattle.lens.specs.declared.Wrote.the-variants.{Count, Full}
+use Rattle.lens.specs.declared.Wrote.the-variants.{Full}
 use Rattle.lens.specs.Overlay.{Writes}
 use Rattle.lens.specs.Emitting.{LensNode}
 use Rattle.books.specs.declared.Book.{Book}
 use Rattle.books.specs.Listed.{unused}
 use Rattle.books.specs.Looking.{BookOver, SameEntries}
 use Rattle.below.specs.Below.{BelowIs}
+use Rattle.counted.specs.declared.Plain.{Plain}
+use Rattle.counted.specs.Counted.{Fitted}
 use Rattle.plains.specs.declared.Done.{Done}
-use Rattle.plains.specs.declared.plain.Plain.{Plain}
 
 -- ---- What a writer is given
 
@@ -29,18 +28,11 @@ use Rattle.plains.specs.declared.plain.Plain.{Plain}
 pub record AsksNone (below : List ℕ) (node : ℕ) (b : Book) : Type 0 where
   pub none-shared : ¬ Shared (setAt below (4 * node)) (b .left)
 
--- So many matches are met at a node.
-pub record MeetsThere (bytes : Text) (node : ℕ) (old : Option Text) (new : Text) (matches : ℕ) : Type 0 where
-  pub meets : (l : Lens) → treeAt (trees bytes) node ≡ lens l → length (met l old new) ≡ matches
-
 -- No match stands there or below.
 pub record NoMatch (bytes : Text) (node : ℕ) : Type 0 where
   pub holds-none : (l : Lens) → treeAt (trees bytes) node ≡ lens l → holdsMatch l ≡ false
 
 -- What was written lies within the buffer.
-pub record Fitted (wrote : Wrote) (out : Text) : Type 0 where
-  pub within : (n : ℕ) → wrote ≡ Count n → n ≤ length out
-
 abbrev pub WithinBuffer : Done → Text → Type 0
 WithinBuffer done out = Fitted (done .wrote) out
 
@@ -69,26 +61,12 @@ pub record LensBehind (bytes deck : Text) (l : Lens) (old : Option Text) (new : 
 pub record WritesBehind (bytes : Text) (node : ℕ) (deck : Text) (old : Option Text) (new : Text) (done : Done) (mid after : Text) (r : Done) : Type 0 where
   pub writes : (l : Lens) → treeAt (trees bytes) node ≡ lens l → LensBehind bytes deck l old new done mid after r
 
--- What a node writes where no entry answers, behind whatever was written before.
-pub record WritesNext (bytes : Text) (node : ℕ) (old : Option Text) (new : Text) (wrote : Wrote) (mid after : Text) (r : Wrote) : Type 0 where
-  pub writes :
-      (l : Lens)
-      → treeAt (trees bytes) node ≡ lens l
-      → (text before : Text)
-      → Writes text before mid wrote
-      → Writes (text ++ plain l old new) before after r
-
 -- ---- Without the book
 
 -- A node that is a lens, and what stands below each node.
 pub record PlainReady (bytes : Text) (prepared : List ℕ) (node : ℕ) (below : List ℕ) : Type 0 where
   pub lens-node : LensNode bytes prepared node
   pub below-is : BelowIs bytes below
-
--- What a node that meets so many matches writes where no entry answers.
-pub record MeetsNext (bytes : Text) (node : ℕ) (old : Option Text) (new : Text) (matches : ℕ) (plain : Plain) (mid after : Text) (r : Plain) : Type 0 where
-  pub next : WritesNext bytes node old new (plain .wrote) mid after (r .wrote)
-  pub counted : r .met ≡ (plain .met + matches) % 2 ^ 64
 
 -- with a book
 abbrev pub doneWith : Plain → Book → Done

@@ -1,17 +1,15 @@
 // What a lens writes behind what was written where none of its matches can find an entry, and how many matches it meets. No book is needed for that, so none is handed on: `put_plain` onto
 // an old text, `create_plain` without one. The two call each other, and the node falls at each call.
 use automaton::Side;
-use below::VARIES;
-use below::count_at;
-use bookless::write;
 use books::Old;
 use books::Place;
-use lens::Wrote;
+use counted::Plain;
+use counted::next_counted;
+use below::VARIES;
+use below::count_at;
 use cuts::Ends;
 use cuts::first_loop;
-use std::num::wrapping_add_usize;
 use steps::Spot;
-use steps::behind;
 use steps::choose;
 use steps::choose_new;
 use steps::count_parts;
@@ -27,66 +25,11 @@ ghost use Rattle.semantics.specs.Lens.{repeat};
 ghost use Rattle.semantics.specs.Table.{trees, lens};
 ghost use Rattle.table.specs.Prepared.{OneLens};
 ghost use Rattle.automaton.specs.declared.Side.the-variants.{Sheet};
-ghost use Rattle.lens.specs.Emitting.{LensNode};
 ghost use Rattle.books.specs.Looking.{partAt, oldText};
 ghost use Rattle.bookless.specs.Bookless.{NewGiven, Given, GivenOld};
 ghost use Rattle.steps.specs.Steps.{EndsAre};
-ghost use Rattle.plains.specs.Writing.{MeetsThere, Fitted, WritesNext, PlainReady, MeetsNext, WritesPlainly};
-
-// What was written so far, and how many matches were met, modulo 2^64.
-pub struct Plain {
-    pub wrote: Wrote,
-    pub met: usize,
-}
-
-// What a node writes behind what was written, with no book.
-pub fn next_plain(
-    wrote: Wrote,
-    bytes: &[u8],
-    prepared: &[u64],
-    spot: Spot,
-    new: &[u8],
-    path: &mut [u8],
-    old: Old,
-    deck: &[u8],
-    out: &mut [u8],
-) -> Wrote
-    requires { ⌜ LensNode (now bytes) (now prepared) (spot .node) ⌝ }
-    requires { ⌜ GivenOld (now bytes) spot (now new) (now path) old (now deck) ⌝ }
-    requires { ⌜ Fitted wrote (now out) ⌝ }
-    ensures { λ r. ⌜ WritesNext (now (bytes .entry)) (spot .node) (oldText (now (deck .entry)) old) (now (new .entry)) wrote (now (out .entry)) (now (out .exit)) r ⌝ }
-{
-    let Wrote::Count(n) = wrote else {
-        return wrote;
-    };
-    let rest = &mut out[n..];
-    let more = write(bytes, prepared, spot, new, path, old, deck, rest);
-    behind(n, more)
-}
-
-// The same of a node that meets so many matches.
-pub fn next_counted(
-    plain: Plain,
-    matches: usize,
-    bytes: &[u8],
-    prepared: &[u64],
-    spot: Spot,
-    new: &[u8],
-    path: &mut [u8],
-    old: Old,
-    deck: &[u8],
-    out: &mut [u8],
-) -> Plain
-    requires { ⌜ LensNode (now bytes) (now prepared) (spot .node) ⌝ }
-    requires { ⌜ GivenOld (now bytes) spot (now new) (now path) old (now deck) ⌝ }
-    requires { ⌜ Fitted (plain .wrote) (now out) × MeetsThere (now bytes) (spot .node) (oldText (now deck) old) (now new) matches ⌝ }
-    ensures { λ r. ⌜ MeetsNext (now (bytes .entry)) (spot .node) (oldText (now (deck .entry)) old) (now (new .entry)) matches plain (now (out .entry)) (now (out .exit)) r ⌝ }
-{
-    let met = wrapping_add_usize(plain.met, matches);
-    let wrote = plain.wrote;
-    let more = next_plain(wrote, bytes, prepared, spot, new, path, old, deck, out);
-    Plain { wrote: more, met }
-}
+ghost use Rattle.counted.specs.Counted.{Fitted};
+ghost use Rattle.plains.specs.Writing.{PlainReady, WritesPlainly};
 
 // A sheet is put onto an old text. A node whose count depends on no text is written whole.
 pub fn put_plain(

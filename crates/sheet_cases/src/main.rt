@@ -1,10 +1,10 @@
 // Runs the command lines of a script on standard input as the program `sheet` would, each with what it writes to standard output, and then writes
 // the sentence of each refusal. The results and refusals that are expected are from the papers; the sentences are stored so that a change of one
 // is seen.
-use commands::meanings::explain_for;
 use commands::run::run;
 use libc::STDIN_FILENO;
 use libc::STDOUT_FILENO;
+use meanings::explain_for;
 use script::behind;
 use script::find;
 ghost use Prim.Native.Nat.{_≤_};

@@ -27,7 +27,8 @@ use Rattle.decks.specs.declared.deck.Dealing.{Dealing}
 use Rattle.decks.specs.Dealing.{DealtTo}
 use Rattle.bookless.specs.Bookless.{Given}
 use Rattle.plains.specs.declared.Done.{Done as Did}
-use Rattle.plains.specs.Writing.{WritesBehind, Fitted, wrapped, Progress}
+use Rattle.counted.specs.Counted.{Fitted}
+use Rattle.plains.specs.Writing.{WritesBehind, wrapped, Progress}
 use Rattle.writer.specs.WithBook.{Ready as ToWrite}
 use Rattle.answers.specs.Answers.{Ready}
 use Rattle.answers.specs.Results.{TextReady}

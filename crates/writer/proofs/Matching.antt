@@ -23,7 +23,8 @@ use Rattle.books.specs.Listed.{unused}
 use Rattle.books.specs.Looking.{oldText, LookedUp, same-then}
 use Rattle.steps.specs.Stepping.{OldEnds}
 use Rattle.plains.specs.declared.Done.{Done}
-use Rattle.plains.specs.Writing.{MeetsThere, Progress, LensBehind, WritesBehind, WritesNext}
+use Rattle.counted.specs.Counted.{MeetsThere, WritesNext}
+use Rattle.plains.specs.Writing.{Progress, LensBehind, WritesBehind}
 use Rattle.plains.proofs.Behind.{then-same, counted-more, progress-is, at-node, behind-same, progress-swap, text-behind}
 use Rattle.plains.proofs.ByKind.{one-met}
 use Rattle.writer.specs.WithBook.{EntryFound, WritesMatch, WritesMatches}

@@ -18,7 +18,7 @@ pub struct Program {
 
 /// No table of right sizes is a text, since its second byte, the high byte of
 /// the pool's length, is at most 2. `sheet` tells them apart in the same way, and
-/// that it does so rightly is proved (`crates/commands/specs/Texts.antt`).
+/// that it does so rightly is proved (`crates/meanings/specs/Texts.antt`).
 pub fn is_text(bytes: &[u8]) -> bool {
     bytes.iter().all(|byte| matches!(byte, b'\t' | b'\n' | b'\r' | b' '..))
 }

@@ -46,7 +46,7 @@ use Rattle.steps.proofs.halves_of.Reads as halves-of-reads
 use Rattle.steps.proofs.next_old.Reads as next-old-reads
 use Rattle.steps.proofs.old_base.Reads as old-base-reads
 use Rattle.table.proofs.Table.node.Reads as node-reads
-use Rattle.plains.proofs.plain.next_counted.Reads as next-counted-reads
+use Rattle.counted.proofs.next_counted.Reads as next-counted-reads
 use Rattle.plains.proofs.plain.+create_plain+parts_plain+put_plain+repeat_plain.{statement}
 use Rattle.plains.proofs.plain.+create_plain+parts_plain+put_plain+repeat_plain.Tie.{close}
 

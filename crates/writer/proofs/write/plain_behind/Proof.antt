@@ -9,7 +9,7 @@ use Rattle.writer.proofs.write.plain_behind.Tie as tie
 use Rattle.writer.proofs.write.plain_behind.Reads as reads
 use Rattle.writer.proofs.write.plain_behind.Lts as lts
 use Rattle.below.proofs.count_at.Reads as count-at-reads
-use Rattle.plains.proofs.plain.next_counted.Reads as next-counted-reads
+use Rattle.counted.proofs.next_counted.Reads as next-counted-reads
 use Rattle.plains.proofs.plain.write_plain.Reads as write-plain-reads
 
 count-at-requires : tie.Need-count-at-requires

@@ -20,7 +20,7 @@ use Rattle.writer.proofs.write.write_matches.Lts as lts
 use Rattle.books.proofs.Book.take.Reads as take-reads
 use Rattle.decks.proofs.cards.card_of.Reads as card-of-reads
 use Rattle.cuts.proofs.first_loop.Reads as first-loop-reads
-use Rattle.plains.proofs.plain.next_plain.Reads as next-plain-reads
+use Rattle.counted.proofs.next_plain.Reads as next-plain-reads
 
 abbrev Inv-loop : tie.InvT-loop
 Inv-loop bytes prepared child part new path₀ deck below card₀ out₀ last first book₀ wrote₀ met₀ o₀ path card out book wrote met o =

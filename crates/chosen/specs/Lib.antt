@@ -1,0 +1,2 @@
+-- The parts of a source, and the sheets of chosen ones.
+pub mod Parting

@@ -1,0 +1,3 @@
+-- What the proofs of several functions cite.
+mod Sentences
+mod TextBytes

@@ -1,0 +1,3 @@
+-- Which refusals have a sentence, and which files are texts.
+pub mod Sentences
+pub mod Texts
