@@ -2,11 +2,11 @@
 use automaton::Side;
 use books::Old;
 use books::Place;
+use cuts::first_loop;
 use lens::Mode;
 use lens::Wrote;
 use lens::read::emit;
 use lens::texts::write_text;
-use cuts::first_loop;
 use steps::Spot;
 use steps::behind;
 use steps::choose;

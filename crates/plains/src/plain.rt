@@ -1,12 +1,12 @@
 // What a lens writes behind what was written where none of its matches can find an entry, and how many matches it meets. No book is needed for that, so none is handed on: `put_plain` onto
 // an old text, `create_plain` without one. The two call each other, and the node falls at each call.
 use automaton::Side;
+use below::VARIES;
+use below::count_at;
 use books::Old;
 use books::Place;
 use counted::Plain;
 use counted::next_counted;
-use below::VARIES;
-use below::count_at;
 use cuts::Ends;
 use cuts::first_loop;
 use steps::Spot;
