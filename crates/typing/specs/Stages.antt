@@ -5,6 +5,7 @@ use mathlib.Core.List.{List}
 use mathlib.Core.Logic.{_⊎_, _↔_}
 use mathlib.Core.Option.{none, some}
 use Prim.Native.Nat.{ℕ, _<_}
+use lib.ListN.{length}
 use Rattle.semantics.specs.Pattern.{Pattern}
 use Rattle.laws.specs.Walks.{State, Staged}
 use Rattle.positions.specs.declared.Set.{Set}
@@ -19,6 +20,10 @@ use Rattle.typing.specs.declared.questions.Marked.{Marked}
 abbrev pub In : Marked → State → Type 0
 In m none = m .start ≡ true
 In m (some p) = holds (m .at) p ≡ true
+
+-- Room for the pairs of a stage: which positions share a byte, the pairs that were led on, and those that are reached.
+abbrev pub PairRoom : List ℕ → List ℕ → List ℕ → Type 0
+PairRoom shares led cells = (length shares ≡ 256) × (length led ≡ 256) × (length cells ≡ 256)
 
 -- The marked positions are the automaton's.
 pub record Within (a : Automaton) (m : Marked) : Type 0 where

@@ -4,11 +4,10 @@ use positions::Set;
 ghost use mathlib.Core.Path.{_≡_};
 ghost use mathlib.Core.Bool.{true};
 ghost use mathlib.Core.Logic.{_↔_};
-ghost use lib.ListN.{length};
 ghost use Rattle.semantics.specs.Pattern.{Pattern};
 ghost use Rattle.semantics.specs.Ambiguity.{Overlap, TwoCuts};
 ghost use Rattle.automaton.specs.Rows.{Room, Describes};
-ghost use Rattle.typing.specs.Stages.{Within, StartOnly, NextOf, SomeFinal, StagedBy};
+ghost use Rattle.typing.specs.Stages.{PairRoom, Within, StartOnly, NextOf, SomeFinal, StagedBy};
 
 // States of an automaton: whether its start is among them, and which positions are.
 pub struct Marked {
@@ -49,7 +48,7 @@ fn stage(
 ) -> Marked
     requires { ⌜ (Room a (now prepared)) × (Room b (now prepared)) ⌝ }
     requires { ⌜ Within a marked ⌝ }
-    requires { ⌜ (length (now shares) ≡ 256) × (length (now led) ≡ 256) × (length (now cells) ≡ 256) ⌝ }
+    requires { ⌜ PairRoom (now shares) (now led) (now cells) ⌝ }
     ensures { λ r. ⌜ StagedBy (now (prepared .entry)) a b marked r ⌝ }
 {
     let count = a.count;
@@ -86,7 +85,7 @@ pub fn overlap(
 ) -> bool
     requires { ⌜ Room a (now prepared) ⌝ }
     requires { ⌜ Room b (now prepared) ⌝ }
-    requires { ⌜ (length (now shares) ≡ 256) × (length (now led) ≡ 256) × (length (now cells) ≡ 256) ⌝ }
+    requires { ⌜ PairRoom (now shares) (now led) (now cells) ⌝ }
     ensures { λ res. ⌜ ((r s : Pattern) → Describes r a (now (prepared .entry)) → Describes s b (now (prepared .entry)) → (res ≡ true) ↔ Overlap r s) ⌝ }
 {
     let both = stage(prepared, a, b, begin(), shares, led, cells);
@@ -104,7 +103,7 @@ pub fn two_cuts(
 ) -> bool
     requires { ⌜ Room a (now prepared) ⌝ }
     requires { ⌜ Room b (now prepared) ⌝ }
-    requires { ⌜ (length (now shares) ≡ 256) × (length (now led) ≡ 256) × (length (now cells) ≡ 256) ⌝ }
+    requires { ⌜ PairRoom (now shares) (now led) (now cells) ⌝ }
     ensures { λ res. ⌜ ((r s : Pattern) → Describes r a (now (prepared .entry)) → Describes s b (now (prepared .entry)) → (res ≡ true) ↔ TwoCuts r s) ⌝ }
 {
     let first = stage(prepared, a, a, begin(), shares, led, cells);

@@ -7,7 +7,6 @@ use table::Table;
 use table::parts::node_count;
 ghost use mathlib.Core.Path.{_≡_};
 ghost use Prim.Native.Nat.{ℕ, _<_};
-ghost use lib.ListN.{length};
 ghost use Rattle.semantics.specs.Text.{Text};
 ghost use Rattle.semantics.specs.Pattern.{Pattern, word, star};
 ghost use Rattle.semantics.specs.Lens.{Lens, const, join, union, repeat};
@@ -15,6 +14,7 @@ ghost use Rattle.semantics.specs.Ambiguity.{twoCuts, badRepeat};
 ghost use Rattle.semantics.specs.Table.{nodeCount, treeAt, trees, typingLines};
 ghost use Rattle.semantics.specs.Table as S;
 ghost use Rattle.automaton.specs.Built.{Built};
+ghost use Rattle.typing.specs.Stages.{PairRoom};
 ghost use Rattle.typing.specs.Round.{typingAnswer, typingFault, faultOf, Stands, Speaks, SpeaksFor};
 
 pub enum TypingAnswer {
@@ -34,7 +34,7 @@ fn cut_twice(
 ) -> bool
     requires { ⌜ Stands (now prepared) left ⌝ }
     requires { ⌜ Stands (now prepared) right ⌝ }
-    requires { ⌜ (length (now shares) ≡ 256) × (length (now led) ≡ 256) × (length (now cells) ≡ 256) ⌝ }
+    requires { ⌜ PairRoom (now shares) (now led) (now cells) ⌝ }
     ensures { λ res. ⌜ ((r s : Pattern) → Speaks (now (prepared .entry)) left side r → Speaks (now (prepared .entry)) right side s → res ≡ twoCuts r s) ⌝ }
 {
     let a = automaton_of(prepared, left, side);
@@ -54,7 +54,7 @@ fn fails(
 ) -> bool
     requires { ⌜ Stands (now prepared) child ⌝ }
     requires { ⌜ Stands (now prepared) node ⌝ }
-    requires { ⌜ (length (now shares) ≡ 256) × (length (now led) ≡ 256) × (length (now cells) ≡ 256) ⌝ }
+    requires { ⌜ PairRoom (now shares) (now led) (now cells) ⌝ }
     ensures { λ res. ⌜ ((r : Pattern) → Speaks (now (prepared .entry)) child side r → Speaks (now (prepared .entry)) node side (star r) → res ≡ badRepeat r) ⌝ }
 {
     let part = automaton_of(prepared, child, side);
@@ -98,7 +98,7 @@ fn join_fault(
 ) -> usize
     requires { ⌜ Stands (now prepared) left ⌝ }
     requires { ⌜ Stands (now prepared) right ⌝ }
-    requires { ⌜ (length (now shares) ≡ 256) × (length (now led) ≡ 256) × (length (now cells) ≡ 256) ⌝ }
+    requires { ⌜ PairRoom (now shares) (now led) (now cells) ⌝ }
     ensures { λ res.
         ⌜
         ((k : ℕ) (l m : Lens) → SpeaksFor (now (prepared .entry)) left l → SpeaksFor (now (prepared .entry)) right m → res ≡ faultOf (typingLines k (join l m)))
@@ -124,7 +124,7 @@ fn union_fault(
 ) -> usize
     requires { ⌜ Stands (now prepared) left ⌝ }
     requires { ⌜ Stands (now prepared) right ⌝ }
-    requires { ⌜ (length (now shares) ≡ 256) × (length (now led) ≡ 256) × (length (now cells) ≡ 256) ⌝ }
+    requires { ⌜ PairRoom (now shares) (now led) (now cells) ⌝ }
     ensures { λ res.
         ⌜
         ((k : ℕ) (l m : Lens) → SpeaksFor (now (prepared .entry)) left l → SpeaksFor (now (prepared .entry)) right m → res ≡ faultOf (typingLines k (union l m)))
@@ -150,7 +150,7 @@ fn repeat_fault(
 ) -> usize
     requires { ⌜ Stands (now prepared) child ⌝ }
     requires { ⌜ Stands (now prepared) node ⌝ }
-    requires { ⌜ (length (now shares) ≡ 256) × (length (now led) ≡ 256) × (length (now cells) ≡ 256) ⌝ }
+    requires { ⌜ PairRoom (now shares) (now led) (now cells) ⌝ }
     ensures { λ res.
         ⌜
         ((k : ℕ) (l : Lens) → SpeaksFor (now (prepared .entry)) child l → SpeaksFor (now (prepared .entry)) node (repeat l) → res ≡ faultOf (typingLines k (repeat l)))
@@ -176,7 +176,7 @@ fn node_fault(
 ) -> usize
     requires { ⌜ Built (now bytes) (now prepared) ⌝ }
     requires { ⌜ k < nodeCount (now bytes) ⌝ }
-    requires { ⌜ (length (now shares) ≡ 256) × (length (now led) ≡ 256) × (length (now cells) ≡ 256) ⌝ }
+    requires { ⌜ PairRoom (now shares) (now led) (now cells) ⌝ }
     ensures { λ res. ⌜ res ≡ typingFault (now (bytes .entry)) k ⌝ }
 {
     let node = Table::node(bytes, prepared, k);

@@ -187,6 +187,7 @@ pub fn walk_first(prepared: &[u64], a: Automaton, text: &[u8], path: &mut [u8]) 
     if LONG <= text.len() {
         return walk_long(prepared, a, text, path);
     }
+    // A short text would not earn the clearing of the room: an array has one number at least, and that is all.
     let mut none = [0u8; 1];
     walk_alone(prepared, a, text, path, &mut none)
 }

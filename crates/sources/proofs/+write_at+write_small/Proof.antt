@@ -1,5 +1,5 @@
 -- `sources::write_at` and `write_small` meet their contracts: a small deck that has not every card leads to the large one, once. Assumes nothing.
-use mathlib.Core.Path.{_≡_, refl, ap}
+use mathlib.Core.Path.{_≡_, ap}
 use native.Mathlib.Omega.{arith}
 use Rattle.lens.specs.Parsed.{parsed-length}
 use borrow.Author.Needs.{needs}

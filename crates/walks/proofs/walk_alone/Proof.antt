@@ -57,14 +57,14 @@ loop-less c = search needs
 
 loop-again : tie.Need-loop-again Inv-loop μ-loop
 loop-again c = (
-      simp length-set (omega (arith, c .before .before .before .before .before .before .before .before .before .loop .inv .0)),
-      walked-more (c .before .before .before .before .before .before .before .before .before .loop .inv .1) (c .before .before .before .before .before .before .before .before .loop-test .taken) (c .before .before .before .before .before .before .before .before .before .loop .inv .0 ∙ c .before .before .before .before .before .before .before .before .before .before .before .before .before .before .before .pre .1 .0)
-          (past-at (c .before .before .before .before .before .before .before .before .before .before .before .before .before .before .before .pre .0) (c .before .before .before .before .before .step-alone .ensures .0 .reads (c .before .before .if1 .left) .inside) (c .follow .ensures))
-          (λ r d. takes-alone (c .before .before .before .before .before .before .before .before .before .before .before .before .before .before .before .pre .0) d _ (c .before .before .before .before .before .before .before .before .before .loop .inv .1 .so-far r d .set-is) (c .before .before .before .before .before .step-alone .ensures .0 .reads (c .before .before .if1 .left)) (c .before .before .before .before .before .step-alone .ensures .0 .no-other (c .before .before .if1 .left))),
-      record { bounded = omega (arith, c .before .before .if1 .left); due-is = λ l. c .follow .ensures },
-      c .before .before .before .before .before .step-alone .ensures .1,
-      c .before .before .before .before .before .step-alone .kept .1 .1 .1 .1 .1 .0 ∙ c .before .before .before .before .before .before .before .before .before .loop .inv .4,
-    )
+  simp length-set (omega (arith, c .before .before .before .before .before .before .before .before .before .loop .inv .0)),
+  walked-more (c .before .before .before .before .before .before .before .before .before .loop .inv .1) (c .before .before .before .before .before .before .before .before .loop-test .taken) (c .before .before .before .before .before .before .before .before .before .loop .inv .0 ∙ c .before .before .before .before .before .before .before .before .before .before .before .before .before .before .before .pre .1 .0)
+      (past-at (c .before .before .before .before .before .before .before .before .before .before .before .before .before .before .before .pre .0) (c .before .before .before .before .before .step-alone .ensures .0 .reads (c .before .before .if1 .left) .inside) (c .follow .ensures))
+      (λ r d. takes-alone (c .before .before .before .before .before .before .before .before .before .before .before .before .before .before .before .pre .0) d _ (c .before .before .before .before .before .before .before .before .before .loop .inv .1 .so-far r d .set-is) (c .before .before .before .before .before .step-alone .ensures .0 .reads (c .before .before .if1 .left)) (c .before .before .before .before .before .step-alone .ensures .0 .no-other (c .before .before .if1 .left))),
+  record { bounded = omega (arith, c .before .before .if1 .left); due-is = λ l. c .follow .ensures },
+  c .before .before .before .before .before .step-alone .ensures .1,
+  c .before .before .before .before .before .step-alone .kept .1 .1 .1 .1 .1 .0 ∙ c .before .before .before .before .before .before .before .before .before .loop .inv .4,
+)
 
 walk-at-requires-2 : tie.Need-walk-at-requires-2 Inv-loop μ-loop
 walk-at-requires-2 c κs = search needs

@@ -687,7 +687,7 @@ emit-repeat-part-emit-end-3 : (t : ℕ) → emit-repeat-lts.Need-part-emit-end-3
 emit-repeat-part-emit-end-3 t c = search needs
 
 emit-repeat-emit-requires : (t : ℕ) → emit-repeat-lts.Need-emit-requires (emit-repeat-calls t) (emit-repeat-at t) emit-repeat.Post emit-repeat-Inv-loop emit-repeat-μ-loop
-emit-repeat-emit-requires t c κs = 
+emit-repeat-emit-requires t c κs =
     let by = c .before .before .before .before .before .before .before .before .before .before .read-by .ensures in
     let s = c .before .before .before .before .before .before .before .before .before .before .before .before .before .before .before .before .before .pre .1 .1 .0 in
     (omega (arith, s .lower, read-lower by, c .before .before .before .before .before .before .before .before .before .before .before .before .before .before .before .before .before .pre .0), (read-below by (child-below (c .before .before .before .before .before .before .before .before .before .before .before .before .before .before .before .before .before .pre .1 .0) s), read-parsed by (part-parsed (c .before .before .before .before .before .before .loop .inv) (c .before .before .before .before .before .loop-test .taken) (c .before .before .before .first-loop .ensures))))
@@ -705,7 +705,7 @@ emit-repeat-returns : (t : ℕ) → emit-repeat-lts.Need-returns (emit-repeat-ca
 emit-repeat-returns t c = repeat-full (c .before .before .before .before .before .before .before .before .before .before .before .loop .inv) (c .before .before .before .before .before .before .before .before .before .before .loop-test .taken) (c .before .before .before .before .before .before .before .before .first-loop .ensures) (read-emits (c .before .before .before .before .before .before .before .before .before .before .before .before .before .before .before .read-by .ensures) (c .before .before .before .before .emit .ensures)) (c .enum-told .given .1)
 
 emit-repeat-add-n : (t : ℕ) → emit-repeat-lts.Need-add-n (emit-repeat-calls t) (emit-repeat-at t) emit-repeat.Post emit-repeat-Inv-loop emit-repeat-μ-loop
-emit-repeat-add-n t c = 
+emit-repeat-add-n t c =
     let part = emitted-within (child-below (c .before .before .before .before .before .before .before .before .before .before .before .before .before .before .before .before .before .before .before .before .before .before .before .pre .1 .0) (c .before .before .before .before .before .before .before .before .before .before .before .before .before .before .before .before .before .before .before .before .before .before .before .pre .1 .1 .0)) (read-emits (c .before .before .before .before .before .before .before .before .before .before .before .before .before .before .before .before .read-by .ensures) (c .before .before .before .before .before .emit .ensures)) (c .before .m .given .1) in
     let sum = sum-within (c .before .before .before .before .before .before .before .before .before .before .before .before .loop .out) (c .before .before .before .before .before .emit .last .1 .1 .1 .1 .1 .1 .1 .0) (repeat-room (c .before .before .before .before .before .before .before .before .before .before .before .before .loop .inv)) part (c .before .before .before .before .before .emit .kept .1 .1 .1 .1 .1 .1 .1 .0) in
     omega (arith, sum, repeat-length (c .before .before .before .before .before .before .before .before .before .before .before .before .loop .inv), c .before .before .before .before .before .before .before .before .before .before .before .before .before .before .before .before .before .before .before .before .before .before .before .good)
