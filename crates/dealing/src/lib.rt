@@ -11,6 +11,7 @@ ghost use Rattle.answers.specs.Answers.{Ready};
 ghost use Rattle.below.specs.Below.{BelowIs};
 ghost use Rattle.decks.specs.Dealing.{DealtTo, DealtOn};
 ghost use Rattle.dealing.specs.Books.{BookReady};
+ghost use Rattle.dealing.specs.Reaches.{firstReach};
 
 // The sheets of old entries whose paths there is room for: those that are as long as a text may be, or all.
 pub enum Reach {
@@ -138,7 +139,9 @@ pub fn deal_at(
 }
 
 // The first reach. At most 256 entries have cards, so it is the short one; that it is asked keeps the compiler from laying both rooms into one frame.
-pub fn first_reach(dealt: Dealing) -> Reach {
+pub fn first_reach(dealt: Dealing) -> Reach
+    ensures { λ r. ⌜ r ≡ firstReach (dealt .entries) ⌝ }
+{
     if Book::ENTRIES < dealt.entries {
         Reach::Long
     } else {
