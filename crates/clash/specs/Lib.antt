@@ -1,0 +1,2 @@
+-- Document 02 (iii): what the call Clash gives, and what follows from it.
+pub mod Clash
