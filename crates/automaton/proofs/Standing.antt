@@ -1,6 +1,6 @@
 -- The bytes that may stand at a position: what the functions' proofs, here and in the crates above, cite. Assumes nothing.
 use mathlib.Core.Path.{_≡_, refl, sym, ap, ap₂, _∙_}
-use mathlib.Core.Bool.{Bool, true, _&&_, cond}
+use mathlib.Core.Bool.{Bool, true, false, _&&_, cond}
 use mathlib.Core.List.{List}
 use mathlib.Core.Logic.{_↔_}
 use Prim.Native.Nat.{ℕ, _+_, _-_, _/_, _%_, _≤_, _<_}
@@ -13,9 +13,10 @@ use Rattle.positions.specs.Positions.{bit, holds}
 use Rattle.positions.proofs.Bits.{holds-low, holds-high}
 use Rattle.classes.specs.declared.Class.{Class}
 use Rattle.classes.specs.Classes.{holdsByte, SharedByte, anyBelow}
+use Rattle.classes.specs.Classes as C
 use Rattle.classes.proofs.Anys.{split-at, same-where, any-iff}
 use Rattle.classes.proofs.Bytes.{in-low, in-high, past-high}
-use Rattle.automaton.specs.Rows.{setAt, heldOf, classAt, standsIn, shareIn, alikeIn}
+use Rattle.automaton.specs.Rows.{setAt, heldOf, classAt, standsIn, shareIn, standsOrNone, FirstShared, alikeIn}
 
 -- ---- A class in four numbers
 
@@ -146,3 +147,53 @@ module _ (prepared : List ℕ) (row row′ : ℕ) where
       (λ e.
       let (byte, u, v) = shares .0 e in
       meets .1 (byte, stands-byte prepared row byte u, sym (first byte) ∙ u, sym (second byte) ∙ v))
+
+-- ---- The lowest byte of both
+
+module _ (prepared : List ℕ) (row row′ : ℕ) where
+  -- a letter, where it may stand at the other position, else none
+  pub first-letter :
+      heldOf prepared row < 256 → (r : ℕ) → r ≡ standsOrNone prepared row′ (heldOf prepared row) → FirstShared prepared row row′ r
+  unfolding standsOrNone
+  first-letter h r is = go (standsIn prepared row′ (heldOf prepared row)) refl
+    where
+      go : (b : Bool) → standsIn prepared row′ (heldOf prepared row) ≡ b → FirstShared prepared row row′ r
+      go true e =
+          let same : r ≡ heldOf prepared row = is ∙ cond-true _ _ _ e in
+          record {
+            in-both = λ l. rw same (letter-stands prepared row h, e);
+            none-lower = λ byte l n i j. let only = letter-only prepared row h byte i in omega arith;
+          }
+      go false e =
+          let none : r ≡ 256 = is ∙ cond-false _ _ _ e in
+          record {
+            in-both = λ l. absurd (omega arith);
+            none-lower = λ byte l n i j. not-both (ap (standsIn prepared row′) (sym (letter-only prepared row h byte i)) ∙ j) e;
+          }
+
+  pub first-of-classes :
+      256 ≤ heldOf prepared row
+      → 256 ≤ heldOf prepared row′
+      → {k m : Class}
+      → k ≡ classAt prepared (heldOf prepared row)
+      → m ≡ classAt prepared (heldOf prepared row′)
+      → (r : ℕ)
+      → C.FirstShared k m r
+      → FirstShared prepared row row′ r
+  first-of-classes h h′ {k} {m} k-is m-is r shared =
+      let first : (byte : ℕ) → standsIn prepared row byte ≡ holdsByte k byte =
+      λ byte. stands-class prepared row h byte ∙ ap (λ c. holdsByte c byte) (sym k-is) in
+      let second : (byte : ℕ) → standsIn prepared row′ byte ≡ holdsByte m byte =
+      λ byte. stands-class prepared row′ h′ byte ∙ ap (λ c. holdsByte c byte) (sym m-is) in
+      record {
+        in-both = λ l. let both = shared .in-both l in (first r ∙ both .0, second r ∙ both .1);
+        none-lower = λ byte l n i j. shared .none-lower byte l n (sym (first byte) ∙ i) (sym (second byte) ∙ j);
+      }
+
+-- the other way round it is the same
+pub first-turned : (prepared : List ℕ) (row row′ r : ℕ) → FirstShared prepared row row′ r → FirstShared prepared row′ row r
+first-turned prepared row row′ r shared =
+    record {
+      in-both = λ l. let both = shared .in-both l in (both .1, both .0);
+      none-lower = λ byte l n i j. shared .none-lower byte l n j i;
+    }

@@ -3,7 +3,7 @@
 -- a position: what tells its bytes, and the set of positions that may follow it. A letter is told by itself, a number below 256; any other
 -- number is the place of a class. A range or a set has its class in the two rows in front of its own, and each copy of its row refers to it.
 use mathlib.Core.Path.{_≡_}
-use mathlib.Core.Bool.{Bool, _&&_, cond}
+use mathlib.Core.Bool.{Bool, true, _&&_, cond}
 use mathlib.Core.List.{List}
 use mathlib.Core.Logic.{_⊎_}
 use Prim.Native.Nat.{ℕ, _+_, _*_, _≤_, _<_}
@@ -57,6 +57,15 @@ standsIn prepared row byte =
 -- 'two positions share a byte'
 unfoldable pub shareIn : List ℕ → ℕ → ℕ → Bool
 shareIn prepared row row′ = anyBelow 256 (λ byte. standsIn prepared row byte && standsIn prepared row′ byte)
+
+-- the byte, if it may stand there, else 256
+unfoldable pub standsOrNone : List ℕ → ℕ → ℕ → ℕ
+standsOrNone prepared row byte = cond (standsIn prepared row byte) byte 256
+
+-- r is the lowest byte that two positions share; if it is 256 or more, they share none.
+pub record FirstShared (prepared : List ℕ) (row row′ r : ℕ) : Type 0 where
+  pub in-both : r < 256 → (standsIn prepared row r ≡ true) × (standsIn prepared row′ r ≡ true)
+  pub none-lower : (byte : ℕ) → byte < r → byte < 256 → standsIn prepared row byte ≡ true → ¬ (standsIn prepared row′ byte ≡ true)
 
 -- two positions are told by the same number
 unfoldable pub alikeIn : List ℕ → ℕ → ℕ → Bool

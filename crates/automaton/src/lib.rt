@@ -6,7 +6,7 @@ use table::Table;
 ghost use mathlib.Core.Path.{_≡_};
 ghost use Prim.Native.Nat.{_+_, _*_, _≤_, _<_};
 ghost use lib.ListN.{length};
-ghost use Rattle.automaton.specs.Rows.{rowAt, followOf, classAt, RowRoom, standsIn, shareIn, alikeIn, automatonAt};
+ghost use Rattle.automaton.specs.Rows.{rowAt, followOf, classAt, RowRoom, standsIn, shareIn, standsOrNone, FirstShared, alikeIn, automatonAt};
 
 pub enum Side {
     Source,
@@ -105,6 +105,35 @@ pub fn share(prepared: &[u64], row: usize, other: usize) -> bool
     }
     let class = class_at(prepared, a as usize);
     class.meets(class_at(prepared, b as usize))
+}
+
+// A byte, if it may stand at the position of a row, else 256.
+fn stands_or_none(prepared: &[u64], row: usize, byte: u8) -> usize
+    requires { ⌜ RowRoom (now prepared) row ⌝ }
+    ensures { λ r. ⌜ r ≡ standsOrNone (now (prepared .entry)) row byte ⌝ }
+{
+    if stands(prepared, row, byte) {
+        return byte as usize;
+    }
+    256
+}
+
+// The lowest byte that the positions of two rows share; 256 or more if there is none.
+pub fn first_shared(prepared: &[u64], row: usize, other: usize) -> usize
+    requires { ⌜ RowRoom (now prepared) row ⌝ }
+    requires { ⌜ RowRoom (now prepared) other ⌝ }
+    ensures { λ r. ⌜ FirstShared (now (prepared .entry)) row other r ⌝ }
+{
+    let a = prepared[Table::ROWS + 3 * row];
+    let b = prepared[Table::ROWS + 3 * other];
+    if a < 256 {
+        return stands_or_none(prepared, other, a as u8);
+    }
+    if b < 256 {
+        return stands_or_none(prepared, row, b as u8);
+    }
+    let class = class_at(prepared, a as usize);
+    class.first_shared(class_at(prepared, b as usize))
 }
 
 // Whether the positions of two rows hold the same byte or refer to the same class. Then the same bytes may stand at them.

@@ -1,17 +1,17 @@
 -- The two halves of a class: what the functions' proofs cite. Assumes nothing.
-use mathlib.Core.Path.{_≡_, refl, sym, ap₂, _∙_}
+use mathlib.Core.Path.{_≡_, refl, sym, ap, ap₂, _∙_}
 use mathlib.Core.Bool.{Bool, true, false, not, _&&_}
 use Prim.Native.Nat.{ℕ, _+_, _-_, _≤_, _<_}
 use native.Mathlib.Omega.{arith}
 use borrow.Author.Tests.{lt-ltb, le-ltb, leb-true, leb-false, le-leb, lt-leb}
 use lib.Dec.{ltb, leb}
 use Rattle.semantics.specs.Pattern.{inRun}
-use Rattle.laws.specs.Basics.{cond-true, cond-false}
+use Rattle.laws.specs.Basics.{cond-true, cond-false, not-both, and-both, and-of}
 use Rattle.positions.specs.declared.Set.{Set}
-use Rattle.positions.specs.Positions.{holds, Empty, Shared}
+use Rattle.positions.specs.Positions.{holds, Empty, Shared, Met, FirstFrom}
 use Rattle.positions.proofs.Bits.{holds-past}
 use Rattle.classes.specs.declared.Class.{Class}
-use Rattle.classes.specs.Classes.{holdsByte, SharedByte}
+use Rattle.classes.specs.Classes.{holdsByte, SharedByte, FirstShared}
 use Rattle.classes.proofs.Anys.{split-at}
 
 -- the positions from one on
@@ -119,3 +119,40 @@ module _ (k m : Class) where
       split-at byte 128
       (λ h. low (byte, h, sym (in-low k byte h) ∙ u, sym (in-low m byte h) ∙ v))
       (λ h. high (byte - 128, omega arith, sym (in-high k byte h) ∙ u, sym (in-high m byte h) ∙ v))
+
+-- ---- The lowest byte of both
+
+-- where both hold a position, what they share holds it; so before the first of what they share they share none
+none-before :
+    (s t m : Set) (r : ℕ) → Met s t m → FirstFrom m 0 r → (q : ℕ) → q < r → holds s q ≡ true → ¬ (holds t q ≡ true)
+none-before s t m r met first q h in-s in-t = not-both (met q ∙ and-of _ _ in-s in-t) (first .skipped q (omega arith) h)
+
+module _ (k m : Class) (low : Set) (low-met : Met (k .low) (m .low) low) (below : ℕ) (first-low : FirstFrom low 0 below) where
+  -- the lower halves share a byte: their first one
+  pub shared-below : below < 128 → FirstShared k m below
+  shared-below h =
+      let both = and-both _ _ (sym (low-met below) ∙ first-low .held h) in
+      record {
+        in-both = λ l. (in-low k below h ∙ both .0, in-low m below h ∙ both .1);
+        none-lower = λ byte l n i j. none-before _ _ low below low-met first-low byte l (sym (in-low k byte (omega arith)) ∙ i) (sym (in-low m byte (omega arith)) ∙ j);
+      }
+
+  module _ (high : Set) (high-met : Met (k .high) (m .high) high) (above : ℕ) (first-high : FirstFrom high 0 above) (none-below : 128 ≤ below) where
+    -- the lower ones do not: before the first one of the upper halves there is none
+    none-lower-above : (byte : ℕ) → byte < 128 + above → holdsByte k byte ≡ true → ¬ (holdsByte m byte ≡ true)
+    none-lower-above byte l i j =
+        split-at byte 128
+        (λ h. none-before _ _ low below low-met first-low byte (omega arith) (sym (in-low k byte h) ∙ i) (sym (in-low m byte h) ∙ j))
+        (λ h. none-before _ _ high above high-met first-high (byte - 128) (omega arith) (sym (in-high k byte h) ∙ i) (sym (in-high m byte h) ∙ j))
+
+    pub shared-above : above < 128 → FirstShared k m (128 + above)
+    shared-above h =
+        let both = and-both _ _ (sym (high-met above) ∙ first-high .held h) in
+        let same : 128 + above - 128 ≡ above = omega arith in
+        record {
+          in-both = λ l. (in-high k (128 + above) (omega arith) ∙ ap (holds (k .high)) same ∙ both .0, in-high m (128 + above) (omega arith) ∙ ap (holds (m .high)) same ∙ both .1);
+          none-lower = λ byte l n i j. none-lower-above byte l i j;
+        }
+
+    pub shared-none : 128 ≤ above → FirstShared k m 256
+    shared-none h = record { in-both = λ l. absurd (omega arith); none-lower = λ byte l n i j. none-lower-above byte (omega arith) i j }

@@ -14,6 +14,11 @@ holdsByte c byte = cond (ltb byte 128) (holds (c .low) byte) (holds (c .high) (b
 abbrev pub SharedByte : Class → Class → Type 0
 SharedByte c d = (byte : ℕ) × (byte < 256) × (holdsByte c byte ≡ true) × (holdsByte d byte ≡ true)
 
+-- r is the lowest byte that both hold; if it is 256 or more, there is none.
+pub record FirstShared (c d : Class) (r : ℕ) : Type 0 where
+  pub in-both : r < 256 → (holdsByte c r ≡ true) × (holdsByte d r ≡ true)
+  pub none-lower : (byte : ℕ) → byte < r → byte < 256 → holdsByte c byte ≡ true → ¬ (holdsByte d byte ≡ true)
+
 -- whether the test is true of some number below n
 unfoldable pub anyBelow : ℕ → (ℕ → Bool) → Bool
 anyBelow zero test = false

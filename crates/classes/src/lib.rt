@@ -7,7 +7,7 @@ ghost use Prim.Native.Nat.{ℕ, _≤_};
 ghost use lib.Dec.{ltb, leb};
 ghost use Rattle.semantics.specs.Pattern.{inRun, inClass};
 ghost use Rattle.semantics.specs.Table.{runsOf};
-ghost use Rattle.classes.specs.Classes.{holdsByte, SharedByte};
+ghost use Rattle.classes.specs.Classes.{holdsByte, SharedByte, FirstShared};
 
 // Bytes 0 to 127 are the positions of low; those from 128 on, less 128, are those of high.
 pub struct Class {
@@ -88,6 +88,23 @@ impl Class {
             i += 1;
         }
         class
+    }
+
+    // The lowest byte that the two share; 256 or more if there is none.
+    pub fn first_shared(self, other: Class) -> usize
+        ensures { λ r. ⌜ FirstShared self other r ⌝ }
+    {
+        let low = self.low;
+        let high = self.high;
+        let below = low.intersect(other.low).first_from(0);
+        if below < Set::SIZE {
+            return below;
+        }
+        let above = high.intersect(other.high).first_from(0);
+        if above < Set::SIZE {
+            return Set::SIZE + above;
+        }
+        256
     }
 
     // Whether the two share a byte.
