@@ -2,3 +2,6 @@
 pub mod Clash
 pub mod Twofold
 pub mod Bound
+pub mod Given
+pub mod Computed
+pub mod Calls

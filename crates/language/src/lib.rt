@@ -13,9 +13,9 @@ ghost use Rattle.language.specs.Sets.{Gathered, Grown, Standing, Onward,
 ghost use Rattle.language.specs.Runs.{Stepped, Advanced, SteppedBack};
 
 // A run over a text: whether the part that was read belongs, and the positions by which it can go on.
-struct Run {
-    here: bool,
-    set: Set,
+pub struct Run {
+    pub here: bool,
+    pub set: Set,
 }
 
 // A byte that is read: the positions at which it stands, and those that may follow them.
@@ -61,7 +61,7 @@ fn read(prepared: &[u64], a: Automaton, due: Set, byte: u8) -> Step
 }
 
 // One byte forward.
-fn advance(prepared: &[u64], a: Automaton, run: Run, byte: u8) -> Run
+pub fn advance(prepared: &[u64], a: Automaton, run: Run, byte: u8) -> Run
     requires { ⌜ Room a (now prepared) ⌝ }
     ensures { λ res. ⌜ Advanced (now (prepared .entry)) a byte run res ⌝ }
 {
@@ -145,7 +145,7 @@ fn stand_at(prepared: &[u64], a: Automaton, due: Set, byte: u8, p: usize, set: S
 }
 
 // Those of the positions at which the byte may stand.
-fn standing(prepared: &[u64], a: Automaton, due: Set, byte: u8) -> Set
+pub fn standing(prepared: &[u64], a: Automaton, due: Set, byte: u8) -> Set
     requires { ⌜ Room a (now prepared) ⌝ }
     ensures { λ res. ⌜ Gathered (Standing (now (prepared .entry)) a due byte) (a .count) res ⌝ }
 {

@@ -1,0 +1,2 @@
+-- The definitions, tried on small rules.
+pub mod Cases
