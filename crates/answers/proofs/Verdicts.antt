@@ -3,11 +3,12 @@ use mathlib.Core.Path.{_≡_, refl, sym, ap, _∙_, subst}
 use mathlib.Core.Bool.{Bool, true, false, cond}
 use mathlib.Core.List.{List, [], _∷_, _++_, append-assoc}
 use mathlib.Core.Option.{Option, none, some}
-use Prim.Native.Nat.{ℕ, _-_}
+use Prim.Native.Nat.{ℕ, suc, _-_, _≤_}
 use native.Mathlib.Omega.{arith}
-use Rattle.semantics.specs.Text.{Text}
-use Rattle.semantics.specs.Table.{nodeCount, sizesWrong, nodes, lens, treeAt, trees, Line, line, firstRound, rootOf, rootLine, secondRound, lines, firstThatHolds}
+use Rattle.semantics.specs.Text.{Text, All}
+use Rattle.semantics.specs.Table.{Node, nodeCount, sizesWrong, nodes, lens, Trees, treeAt, trees, Line, line, firstRound, rootOf, rootLine, secondRound, lines, firstThatHolds}
 use Rattle.semantics.specs.Calls.{refuses, verdict, program, withProgram, checkCall}
+use Rattle.laws.specs.Basics.{all-append}
 use Rattle.laws.specs.NodeTrees.{lens-tree}
 use Rattle.laws.specs.Accepted.{Quiet, quiet-iff, gives-iff, accepted-iff}
 use Rattle.table.specs.Prepared.{tableLines, tableAnswer, answerFor}
@@ -85,6 +86,41 @@ table-refuses bytes number node e = go (firstThatHolds (tableLines bytes)) refl 
         let first : firstThatHolds (lines bytes) ≡ some l = rw (lines-are bytes) (first-left (tableLines bytes) (secondRound 0 (trees bytes)) l found) in
         let answer = line-refuses bytes l first in
         cc
+
+-- the lines of the first round have the numbers 1 to 5
+abbrev Low : Line → Type 0
+Low l = l .number ≤ 5
+
+round-low : (k : ℕ) (ns : List Node) (ts : Trees) → All Low (firstRound k ns ts)
+unfolding firstRound line
+round-low k [] ts = tt
+round-low k (n ∷ ns) [] = tt
+round-low k (n ∷ ns) (t ∷ ts) = (omega arith, (omega arith, (omega arith, (omega arith, round-low (suc k) ns ts))))
+
+table-low : (bytes : Text) → All Low (tableLines bytes)
+unfolding tableLines rootLine line
+table-low bytes = (omega arith, all-append Low (firstRound 0 (nodes bytes) (trees bytes)) (rootLine bytes ∷ []) (round-low 0 (nodes bytes) (trees bytes)) (omega arith, tt))
+
+first-low : (ls : List Line) (l : Line) → All Low ls → firstThatHolds ls ≡ some l → Low l
+unfolding firstThatHolds
+first-low [] l all e = never (cc)
+first-low (x ∷ xs) l all e = go (x .holds) e (first-low xs l (all .1))
+  where
+    go : (b : Bool) → cond b (some x) (firstThatHolds xs) ≡ some l → (firstThatHolds xs ≡ some l → Low l) → Low l
+    go true e rec = let same : x ≡ l = cc in subst Low same (all .0)
+    go false e rec = rec e
+
+-- and so has a refusal of it
+pub table-number : (bytes : Text) (number node : ℕ) → T.Refused number node ≡ tableAnswer bytes → number ≤ 5
+unfolding tableAnswer answerFor
+table-number bytes number node e = go (firstThatHolds (tableLines bytes)) refl e
+  where
+    go : (o : Option Line) → firstThatHolds (tableLines bytes) ≡ o → T.Refused number node ≡ answerFor bytes o → number ≤ 5
+    go none found e = never (cc)
+    go (some l) found e =
+        let low = first-low (tableLines bytes) l (table-low bytes) found in
+        let same : number ≡ l .number = cc in
+        rw same low
 
 -- a table that is ready has no line of the first round that holds
 pub ready-none : (bytes : Text) (t : _) → T.Ready t ≡ tableAnswer bytes → firstThatHolds (tableLines bytes) ≡ none

@@ -22,6 +22,11 @@ pub record Ready (bytes : Text) (prepared : List ℕ) : Type 0 where
   pub accepted : IsAccepted bytes
   pub built : Built bytes prepared
 
+-- The program is refused; where it breaks a typing rule from 7 on, it stands in the prepared slice.
+pub record IsRefused (bytes : Text) (prepared : List ℕ) (number node : ℕ) : Type 0 where
+  pub refuses-it : program bytes ≡ refuses number node
+  pub built : 7 ≤ number → Built bytes prepared
+
 -- The program's automata need more rows than a slice of that length has, and no more than a program can have.
 pub record TooSmall (bytes : Text) (size : ℕ) : Type 0 where
   pub no-room : size < rowAt (rowsNeeded bytes)
@@ -30,5 +35,5 @@ pub record TooSmall (bytes : Text) (size : ℕ) : Type 0 where
 -- What checking a program in a lent slice says: it is accepted and built, or refused, or its automata need more room.
 unfoldable pub CheckedIs : Text → Checked → List ℕ → Type 0
 CheckedIs bytes Accepted prepared = Ready bytes prepared
-CheckedIs bytes (Refused number node) prepared = program bytes ≡ refuses number node
+CheckedIs bytes (Refused number node) prepared = IsRefused bytes prepared number node
 CheckedIs bytes Small prepared = TooSmall bytes (length prepared)

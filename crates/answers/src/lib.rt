@@ -29,10 +29,28 @@ pub struct Tally {
     pub dropped: usize,
 }
 
-// What a call came to: its answer and, where a put has a result, its tally.
+// What Clash answers: that no clash exists; a clash with the number and node of its rule, the length of the text that shows it, and its two ends, or a
+// union's two children; or a refusal with its number and node.
+pub enum ClashAnswer {
+    Accepted,
+    Clash {
+        number: usize,
+        node: usize,
+        length: usize,
+        first: usize,
+        second: usize,
+    },
+    Refusal {
+        number: usize,
+        node: usize,
+    },
+}
+
+// What a call came to: its answer and, where a put has a result, its tally; and the answer of Clash.
 pub struct Reply {
     pub answer: Answer,
     pub tally: Tally,
+    pub clash: ClashAnswer,
 }
 
 // What a put answers: a result with its length and its tally, or a refusal with its number and node.

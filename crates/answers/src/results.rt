@@ -1,5 +1,6 @@
 // What the calls that give a text have in common: the root's languages, the room for a result, and the copy into the output buffer.
 use crate::Answer;
+use crate::ClashAnswer;
 use crate::PutAnswer;
 use crate::Reply;
 use crate::Tally;
@@ -113,7 +114,25 @@ pub fn uncounted(answer: Answer) -> Reply
     ensures { λ r. ⌜ r .answer ≡ answer ⌝ }
 {
     let tally = no_tally();
-    Reply { answer, tally }
+    let clash = ClashAnswer::Accepted;
+    Reply {
+        answer,
+        tally,
+        clash,
+    }
+}
+
+// The reply of Clash, whose answer says it all.
+pub fn clashed(clash: ClashAnswer) -> Reply
+    ensures { λ r. ⌜ r .clash ≡ clash ⌝ }
+{
+    let answer = Answer::Result { length: 0 };
+    let tally = no_tally();
+    Reply {
+        answer,
+        tally,
+        clash,
+    }
 }
 
 // The answer of a put, with the tally of its reply.

@@ -1,4 +1,5 @@
 // What Put does with an accepted and prepared program: a source from a sheet and an old source.
+use answers::ClashAnswer;
 use answers::Reply;
 use answers::results::finish;
 use answers::results::no_text;
@@ -94,7 +95,12 @@ fn put_parsed(
     let wrote = source.wrote;
     let tally = tally_of(source, book.count);
     let answer = finish(wrote, made, out);
-    Reply { answer, tally }
+    let clash = ClashAnswer::Accepted;
+    Reply {
+        answer,
+        tally,
+        clash,
+    }
 }
 
 // A refusal has no counts.

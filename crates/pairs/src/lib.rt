@@ -50,7 +50,7 @@ pub fn followers(prepared: &[u64], a: Automaton, set: Set) -> Set
 }
 
 // The positions that share a byte with the position of a row.
-fn sharing(prepared: &[u64], row: usize, b: Automaton) -> Set
+pub fn sharing(prepared: &[u64], row: usize, b: Automaton) -> Set
     requires { ⌜ RowRoom (now prepared) row ⌝ }
     requires { ⌜ Room b (now prepared) ⌝ }
     ensures { λ r. ⌜ Gathered (b .count) (bySharing (now (prepared .entry)) row (b .start)) r ⌝ }

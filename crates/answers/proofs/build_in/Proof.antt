@@ -48,7 +48,7 @@ same-length-3 c = search needs
 
 returns-3 : tie.Need-returns-3
 unfolding CheckedIs
-returns-3 c = typing-refuses (now (c .before .before .before .before .before .before .before .before .before .before .before .before .before .before .args .bytes)) (c .before .before .before .before .before .before .before .before .before .before .before .before .before .before .pre .1) _ _ (sym (c .before .typed .given .1) ∙ c .before .before .before .second-round .ensures)
+returns-3 c = record { refuses-it = typing-refuses (now (c .before .before .before .before .before .before .before .before .before .before .before .before .before .before .args .bytes)) (c .before .before .before .before .before .before .before .before .before .before .before .before .before .before .pre .1) _ _ (sym (c .before .typed .given .1) ∙ c .before .before .before .second-round .ensures); built = λ late. c .before .before .before .before .before .before .before .build-all .ensures }
 
 pub build-in-spec : {M : Type 1} → statement M
 build-in-spec =

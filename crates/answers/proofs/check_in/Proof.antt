@@ -4,7 +4,7 @@ use native.Mathlib.Omega.{arith}
 use denote.Ref.{now}
 use mathlib.Core.Path.{sym, _∙_}
 use Rattle.answers.specs.Answers.{CheckedIs}
-use Rattle.answers.proofs.Verdicts.{ready-none, table-refuses}
+use Rattle.answers.proofs.Verdicts.{ready-none, table-refuses, table-number}
 use Rattle.answers.proofs.check_in.Statement.{statement}
 use Rattle.answers.proofs.check_in.Tie as tie
 
@@ -27,7 +27,10 @@ same-length c = search needs
 
 returns : tie.Need-returns
 unfolding CheckedIs
-returns c = table-refuses (now (c .before .before .before .before .before .before .before .before .before .args .bytes)) _ _ (sym (c .before .read2 .given .1) ∙ c .before .before .before .before .before .read .ensures .answer-is)
+returns c =
+    let answer = sym (c .before .read2 .given .1) ∙ c .before .before .before .before .before .read .ensures .answer-is in
+    let bytes = now (c .before .before .before .before .before .before .before .before .before .args .bytes) in
+    record { refuses-it = table-refuses bytes _ _ answer; built = λ late. let low = table-number bytes _ _ answer in absurd (omega arith) }
 
 same-length-2 : tie.Need-same-length-2
 same-length-2 c = search needs
