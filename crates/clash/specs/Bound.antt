@@ -40,7 +40,7 @@ module _ {A : Type 0} where
   member-split x (y ∷ ys) (inr m) = let r = member-split x ys m in (y ∷ r .0, r .1, ap (λ l. y ∷ l) (r .2))
 
   -- a list without repeats is no longer than a list that holds its members
-  different-length : (xs ys : List A) → Different xs → ((x : A) → Member x xs → Member x ys) → length xs ≤ length ys
+  pub different-length : (xs ys : List A) → Different xs → ((x : A) → Member x xs → Member x ys) → length xs ≤ length ys
   different-length [] ys d f = omega arith
   different-length (x ∷ xs) ys d f =
       let (us, vs, e) = member-split x ys (f x (inl refl)) in

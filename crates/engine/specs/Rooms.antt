@@ -7,10 +7,11 @@ use Rattle.semantics.specs.Calls.{checkCall, getCall, putCall, createCall}
 use Rattle.semantics.specs.Tally.{putTally}
 use Rattle.answers.specs.declared.Answer.{Answer}
 use Rattle.answers.specs.declared.Reply.{Reply}
-use Rattle.answers.specs.Contracts.{answerFor, GivesText, RepliesSource}
+use Rattle.clash.specs.Clash.{clashCall}
+use Rattle.answers.specs.Contracts.{answerFor, GivesText, RepliesSource, GivesClash}
 use Rattle.answers.specs.Answers.{TooSmall}
 use Rattle.engine.specs.declared.rooms.Call.{Call}
-use Rattle.engine.specs.declared.rooms.Call.the-variants.{Check, Get, Put, Create, Line}
+use Rattle.engine.specs.declared.rooms.Call.the-variants.{Check, Get, Put, Create, Line, Clash}
 use Rattle.engine.specs.declared.rooms.Room.{Room}
 use Rattle.engine.specs.declared.rooms.Room.the-variants.{Small, Middle, Full}
 use Rattle.engine.specs.declared.rooms.Tried.{Tried}
@@ -30,6 +31,7 @@ Owed Get bytes sheet source before after reply = GivesText (getCall bytes source
 Owed Put bytes sheet source before after reply = RepliesSource (putCall bytes sheet source (length before)) (putTally bytes sheet source) before after reply
 Owed Create bytes sheet source before after reply = GivesText (createCall bytes sheet (length before)) before after (reply .answer)
 Owed Line bytes sheet source before after reply = GivesText (lineCall bytes (length before)) before after (reply .answer)
+Owed Clash bytes sheet source before after reply = GivesClash (clashCall bytes (length before)) before after (reply .clash)
 
 -- The call answers so, and leaves the buffer so.
 pub record Owes (call : Call) (bytes sheet source before after : Text) (reply : Reply) : Type 0 where

@@ -11,6 +11,7 @@ ghost use lib.ListN.{length, drop};
 ghost use Rattle.semantics.specs.Calls.{checkCall, lenscheckLine};
 ghost use Rattle.answers.specs.Contracts.{answerFor};
 
+pub mod show;
 pub mod create;
 pub mod get;
 pub mod put;

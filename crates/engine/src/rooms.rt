@@ -2,10 +2,13 @@
 // needs. What is added for a call is an arm of `answer_with`.
 use answers::Answer;
 use answers::Checked;
+use answers::ClashAnswer;
 use answers::Reply;
 use answers::check_in;
+use answers::results::clashed;
 use answers::results::uncounted;
 use calls::put::put_with;
+use clashes::clash_refused;
 use readings::create::create_with;
 use readings::get::get_with;
 use readings::line::line_with;
@@ -14,7 +17,8 @@ use table::parts::node_count;
 ghost use mathlib.Core.Path.{_≡_};
 ghost use Prim.Native.Nat.{_≤_};
 ghost use lib.ListN.{length};
-ghost use Rattle.answers.specs.Answers.{Ready};
+ghost use Rattle.semantics.specs.Text.{Text};
+ghost use Rattle.answers.specs.Answers.{Ready, IsRefused};
 ghost use Rattle.engine.specs.Rooms.{Owes, Tries};
 
 // What is asked of an accepted program.
@@ -25,6 +29,7 @@ pub enum Call {
     Create,
     // the line that `lenscheck` prints
     Line,
+    Clash,
 }
 
 // The rooms, by the rows that the automata of a program may take: 128, 2,048, and as many as any program has.
@@ -80,6 +85,29 @@ fn answer_with(
         Call::Put => put_with(bytes, prepared, sheet, source, out),
         Call::Create => uncounted(create_with(bytes, prepared, sheet, out)),
         Call::Line => uncounted(line_with(bytes, prepared, out)),
+        Call::Clash => clashed(ClashAnswer::Accepted),
+    }
+}
+
+// What a call does with a refused program: Clash shows why, and to every other call the program is refused.
+fn refuse_with(
+    call: Call,
+    number: usize,
+    node: usize,
+    bytes: &[u8],
+    prepared: &[u64],
+    out: &mut [u8],
+) -> Reply
+    requires { ⌜ IsRefused (now bytes) (now prepared) number node ⌝ }
+    ensures { λ r. ⌜ ((sheet source : Text) → Owes call (now (bytes .entry)) sheet source (now (out .entry)) (now (out .exit)) r) ⌝ }
+{
+    match call {
+        Call::Check => uncounted(Answer::Refusal { number, node }),
+        Call::Get => uncounted(Answer::Refusal { number, node }),
+        Call::Put => uncounted(Answer::Refusal { number, node }),
+        Call::Create => uncounted(Answer::Refusal { number, node }),
+        Call::Line => uncounted(Answer::Refusal { number, node }),
+        Call::Clash => clashed(clash_refused(bytes, prepared, number, node, out)),
     }
 }
 
@@ -98,10 +126,9 @@ fn try_in(
     let checked = check_in(bytes, prepared);
     match checked {
         Checked::Accepted => Tried::Done(answer_with(call, bytes, prepared, sheet, source, out)),
-        Checked::Refused { number, node } => Tried::Done(uncounted(Answer::Refusal {
-            number,
-            node,
-        })),
+        Checked::Refused { number, node } => {
+            Tried::Done(refuse_with(call, number, node, bytes, prepared, out))
+        }
         Checked::Small => Tried::Small,
     }
 }

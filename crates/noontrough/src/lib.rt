@@ -1,7 +1,9 @@
-// What other languages link: the four calls, each slice a pointer and a length, each answer three numbers, and put's six.
+// What other languages link: the calls, each slice a pointer and a length, each answer three numbers, and those of put and clash six.
 use answers::Answer;
+use answers::ClashAnswer;
 use answers::PutAnswer;
 use engine::check;
+use engine::show::clash;
 use engine::create::create;
 use engine::get::get;
 use engine::put::put;
@@ -77,6 +79,55 @@ fn in_put_numbers(answer: PutAnswer) -> PutNumbers
     }
 }
 
+// Clash's numbers: 0 for no clash, 1 for a clash, 2 for a refusal; then the number and the node of the rule or of the refusal, the length of the text, and its two
+// ends, or a union's two children. What does not apply is 0.
+#[repr(C)]
+pub struct ClashNumbers {
+    pub outcome: u64,
+    pub number: u64,
+    pub node: u64,
+    pub length: u64,
+    pub first: u64,
+    pub second: u64,
+}
+
+fn in_clash_numbers(answer: ClashAnswer) -> ClashNumbers
+    ensures { λ r. ⌜ r ≡ clashNumbersOf answer ⌝ }
+{
+    match answer {
+        ClashAnswer::Accepted => ClashNumbers {
+            outcome: 0,
+            number: 0,
+            node: 0,
+            length: 0,
+            first: 0,
+            second: 0,
+        },
+        ClashAnswer::Clash {
+            number,
+            node,
+            length,
+            first,
+            second,
+        } => ClashNumbers {
+            outcome: 1,
+            number: number as u64,
+            node: node as u64,
+            length: length as u64,
+            first: first as u64,
+            second: second as u64,
+        },
+        ClashAnswer::Refusal { number, node } => ClashNumbers {
+            outcome: 2,
+            number: number as u64,
+            node: node as u64,
+            length: 0,
+            first: 0,
+            second: 0,
+        },
+    }
+}
+
 #[no_mangle]
 pub extern "C" fn noontrough_check(table: &[u8]) -> Numbers
     ensures { λ r. ⌜ r ≡ numbersOf (answerFor (λ (n : ℕ). n) (checkCall (now (table .entry)))) ⌝ }
@@ -108,4 +159,11 @@ pub extern "C" fn noontrough_create(table: &[u8], sheet: &[u8], out: &mut [u8]) 
     ensures { λ r. ⌜ ExportsText (createCall (now (table .entry)) (now (sheet .entry)) (length (now (out .entry)))) (now (out .entry)) (now (out .exit)) r ⌝ }
 {
     in_numbers(create(table, sheet, out))
+}
+
+#[no_mangle]
+pub extern "C" fn noontrough_clash(table: &[u8], out: &mut [u8]) -> ClashNumbers
+    ensures { λ r. ⌜ ExportsClash (clashCall (now (table .entry)) (length (now (out .entry)))) (now (out .entry)) (now (out .exit)) r ⌝ }
+{
+    in_clash_numbers(clash(table, out))
 }
