@@ -13,13 +13,13 @@ unfoldable evaluates : Unit {0}
 unfolding sameText least joined somePasses range inRun inClass nullable before heads matches runsMeet shareByte sameRun sameClass samePattern samePair isEnd firstEnd secondEnd pairs ways ends sameTwofold added kept after next someLeft lowestLeft lowestRead clashed
 evaluates = tt
 
--- the rule is given this text
+-- the text that is given for the rule
 abbrev GivenText : Rule → Text → Type 0
 GivenText rule t = clashed rule ≡ t
 
 -- and the text has these two smallest ends
-abbrev Ends : Pattern → Pattern → Text → ℕ → ℕ → Type 0
-Ends r s t first second = (firstEnd r s t ≡ first) × (secondEnd r s t ≡ second)
+abbrev SmallestEnds : Pattern → Pattern → Text → ℕ → ℕ → Type 0
+SmallestEnds r s t first second = (firstEnd r s t ≡ first) × (secondEnd r s t ≡ second)
 
 -- `abcd`, which {a, ab, abc} and {bcd, cd, d} cut three ways: behind `a` and behind `ab` are the two smallest
 abbrev heading : Pattern
@@ -29,7 +29,7 @@ abbrev trailing : Pattern
 trailing = alt (word (98 ∷ 99 ∷ 100 ∷ [])) (alt (word (99 ∷ 100 ∷ [])) (word (100 ∷ [])))
 
 pub join-cut-thrice :
-    GivenText (oneCut heading trailing) (97 ∷ 98 ∷ 99 ∷ 100 ∷ []) × Ends heading trailing (97 ∷ 98 ∷ 99 ∷ 100 ∷ []) 1 2
+    GivenText (oneCut heading trailing) (97 ∷ 98 ∷ 99 ∷ 100 ∷ []) × SmallestEnds heading trailing (97 ∷ 98 ∷ 99 ∷ 100 ∷ []) 1 2
 unfolding evaluates
 join-cut-thrice = (refl, (refl, refl))
 
@@ -63,6 +63,6 @@ empty-part = refl
 abbrev oneOrTwo : Pattern
 oneOrTwo = alt (word (97 ∷ [])) (word (97 ∷ 97 ∷ []))
 
-pub repeat-cut-twice : GivenText (oneList oneOrTwo) (97 ∷ 97 ∷ []) × Ends oneOrTwo (star oneOrTwo) (97 ∷ 97 ∷ []) 1 2
+pub repeat-cut-twice : GivenText (oneList oneOrTwo) (97 ∷ 97 ∷ []) × SmallestEnds oneOrTwo (star oneOrTwo) (97 ∷ 97 ∷ []) 1 2
 unfolding evaluates
 repeat-cut-twice = (refl, (refl, refl))

@@ -9,61 +9,88 @@ use lib.Dec.{leb, ltb}
 use lib.ListN.{length, take, drop, take-append-drop}
 use borrow.Author.Tests.{ltb-true, ltb-false, lt-ltb, le-ltb, leb-true, leb-false, le-leb, lt-leb}
 use Rattle.semantics.specs.Text.{Text, joined, All}
-use Rattle.semantics.specs.Pattern.{Pattern, In, matches}
+use Rattle.semantics.specs.Pattern.{Pattern, In}
 use Rattle.semantics.specs.Ambiguity.{TwoCuts, Overlap, BadRepeat}
 use Rattle.semantics.specs.Lens.{Lens, copy, const, key, join, union, repeat, match, Side, source, sheet, language}
 use Rattle.semantics.specs.Table.{nodeAt, nodeCount, treeAt, trees}
 use Rattle.semantics.specs.Calls.{Answer, gives, refuses, program, withProgram, checkCall}
-use Rattle.laws.specs.Basics.{never, bool-cases, cond-false, and-of}
-use Rattle.laws.specs.Membership.{in-nullable, in-matches}
+use Rattle.laws.specs.Basics.{never, bool-cases, cond-false}
+use Rattle.laws.specs.Membership.{in-nullable}
 use Rattle.laws.specs.Accepted.{Breaks}
 use Rattle.laws.specs.Refusals.{check-refusal}
 use Rattle.laws.specs.Checked.{check-refuses-iff}
 use Rattle.laws.specs.Bytes.{IsByte, language-bytes}
-use Rattle.clash.specs.Clash.{Rule, oneCut, oneArm, oneList, EndAt, Breaks as ClashBreaks, firstEnd, secondEnd, cutTwice, breaks, clashText, sideOf, ruleFor, ruleAt, endsOf, noClash, clash, refused, shown, clashAt, clashOf, clashCall}
-use Rattle.clash.specs.Given.{first-smallest, second-smallest, two-ends, cutTwice-iff, cut-ends, breaks-broken, broken-breaks}
+use Rattle.clash.specs.Clash.{
+  Rule,
+  oneCut,
+  oneArm,
+  oneList,
+  EndAt,
+  Breaks as BreaksRule,
+  firstEnd,
+  secondEnd,
+  cutTwice,
+  breaks,
+  clashText,
+  sideOf,
+  ruleFor,
+  ruleAt,
+  endsOf,
+  noClash,
+  clash,
+  refused,
+  shown,
+  clashAt,
+  clashOf,
+  clashCall,
+}
+use Rattle.clash.specs.Ends.{first-smallest, second-smallest, two-ends}
+use Rattle.clash.specs.Twofold.{arm-iff, halves-test}
+use Rattle.clash.specs.Given.{breaks-broken, broken-breaks}
 
 -- ---- What each answer of Check leads to
 
 module _ (bytes : Text) (lent number node : ℕ) where
-  -- the text and the ends that are given at the node
+  -- the text that is given at the node
   abbrev textAt : Text
   textAt = clashText (ruleAt (sideOf number) (treeAt (trees bytes) node))
 
+  -- and its ends
   abbrev endsAt : ℕ × ℕ
   endsAt = endsOf (ruleAt (sideOf number) (treeAt (trees bytes) node)) (nodeAt bytes node) textAt
 
   -- a refusal up to 6 comes through
-  early : number ≤ 6 → clashOf bytes lent (refuses number node) ≡ refused number node
+  comes-through : number ≤ 6 → clashOf bytes lent (refuses number node) ≡ refused number node
   unfolding clashOf
-  early h = cond-false (leb 7 number) (clashAt bytes lent number node) (refused number node) (lt-leb 7 number (omega arith))
+  comes-through h = cond-false (leb 7 number) (clashAt bytes lent number node) (refused number node) (lt-leb 7 number (omega arith))
 
-  -- one from 7 on is shown, if the buffer holds the text
-  late-shown : 7 ≤ number → length textAt ≤ lent → clashOf bytes lent (refuses number node) ≡ clash number node textAt endsAt
+  -- one from 7 on is answered with its text, if the buffer holds that
+  text-shown : 7 ≤ number → length textAt ≤ lent → clashOf bytes lent (refuses number node) ≡ clash number node textAt endsAt
   unfolding clashOf clashAt shown
-  late-shown h l = rw (le-leb 7 number h, le-ltb lent (length textAt) l) refl
+  text-shown h l = rw (le-leb 7 number h, le-ltb lent (length textAt) l) refl
 
-  -- and otherwise refused with 17
-  late-long : 7 ≤ number → lent < length textAt → clashOf bytes lent (refuses number node) ≡ refused 17 0
+  -- and otherwise with 17
+  text-long : 7 ≤ number → lent < length textAt → clashOf bytes lent (refuses number node) ≡ refused 17 0
   unfolding clashOf clashAt shown
-  late-long h l = rw (le-leb 7 number h, lt-ltb lent (length textAt) l) refl
+  text-long h l = rw (le-leb 7 number h, lt-ltb lent (length textAt) l) refl
 
-  -- which of the three it is
+  -- the three answers
   abbrev Led : Type 0
   Led =
       ((number ≤ 6) × (clashOf bytes lent (refuses number node) ≡ refused number node))
       ⊎ ((7 ≤ number) × (lent < length textAt) × (clashOf bytes lent (refuses number node) ≡ refused 17 0))
       ⊎ ((7 ≤ number) × (length textAt ≤ lent) × (clashOf bytes lent (refuses number node) ≡ clash number node textAt endsAt))
 
+  -- one of them it is
   led : Led
   led = go (bool-cases (leb 7 number)) (bool-cases (ltb lent (length textAt)))
     where
       go : (leb 7 number ≡ true) ⊎ (leb 7 number ≡ false) → (ltb lent (length textAt) ≡ true) ⊎ (ltb lent (length textAt) ≡ false) → Led
-      go (inr e) f = let l = leb-false 7 number e in let h : number ≤ 6 = omega arith in inl (h, early h)
-      go (inl e) (inl f) = let h = leb-true 7 number e in let l = ltb-true lent (length textAt) f in inr (inl (h, l, late-long h l))
-      go (inl e) (inr f) = let h = leb-true 7 number e in let l = ltb-false lent (length textAt) f in inr (inr (h, l, late-shown h l))
+      go (inr e) f = let l = leb-false 7 number e in let h : number ≤ 6 = omega arith in inl (h, comes-through h)
+      go (inl e) (inl f) = let h = leb-true 7 number e in let l = ltb-true lent (length textAt) f in inr (inl (h, l, text-long h l))
+      go (inl e) (inr f) = let h = leb-true 7 number e in let l = ltb-false lent (length textAt) f in inr (inr (h, l, text-shown h l))
 
--- Check's refusals are the program's
+-- Check refuses exactly where `program` does, with the same number and node
 check-refuses : (bytes : Text) (number node : ℕ) → (checkCall bytes ≡ refuses number node) ↔ (program bytes ≡ refuses number node)
 unfolding checkCall withProgram
 check-refuses bytes number node = (λ e. go (program bytes) e, λ p. rw p refl)
@@ -88,11 +115,12 @@ no-clash-iff bytes lent = (to (program bytes), from (program bytes))
     from (gives l) h = refl
     from (refuses m k) h = never (let e = h .1 in cc)
 
--- where the program is refused from 7 on, what is shown of it
+-- where a clash comes from: a refusal from 7 on, with the text and the ends of its node
 abbrev ClashFrom : Text → ℕ → ℕ → ℕ → Text → ℕ × ℕ → Type 0
 ClashFrom bytes lent number node t ends =
     (program bytes ≡ refuses number node) × (7 ≤ number) × (t ≡ textAt bytes lent number node) × (ends ≡ endsAt bytes lent number node)
 
+-- each clash comes from there
 clash-from :
     (bytes : Text) (lent number node : ℕ) (t : Text) (ends : ℕ × ℕ)
     → clashCall bytes lent ≡ clash number node t ends
@@ -154,7 +182,7 @@ pub other-refusals :
 unfolding clashCall clashOf
 other-refusals bytes lent number node h = (
   λ e. check-refuses bytes number node .1 (go (program bytes) e),
-  λ e. let p = check-refuses bytes number node .0 e in rw p (early bytes lent number node h),
+  λ e. let p = check-refuses bytes number node .0 e in rw p (comes-through bytes lent number node h),
 )
   where
     go : (p : Answer Lens) → clashOf bytes lent p ≡ refused number node → p ≡ refuses number node
@@ -167,23 +195,22 @@ other-refusals bytes lent number node h = (
 
 -- ---- The rule that is broken
 
--- the text passes, or a shorter one does: some text passes
-some-breaks : (rule : Rule) (t : Text) → ClashBreaks rule t → (u : Text) × (breaks rule u ≡ true)
+-- if a text breaks the rule, some text passes the test of the rule
+some-breaks : (rule : Rule) (t : Text) → BreaksRule rule t → (u : Text) × (breaks rule u ≡ true)
 some-breaks rule t h = ⊎-elim (λ e. (t, e)) (λ s. (s .0, s .2)) (broken-breaks rule t h)
 
--- a text by which a lens breaks one of the rules 7 to 11 breaks the rule of that number
+-- some text passes it where a text has two cuts
 cut-breaks : (r s : Pattern) → TwoCuts r s → (u : Text) × (breaks (oneCut r s) u ≡ true)
 unfolding breaks
-cut-breaks r s c = (c .left ++ c .right, cutTwice-iff r s (c .left ++ c .right) .1 (cut-ends r s c))
+cut-breaks r s c = (c .left ++ c .right, halves-test r s c)
 
+-- where a text is of both arms
 arm-breaks : (r s : Pattern) → Overlap r s → (u : Text) × (breaks (oneArm r s) u ≡ true)
-unfolding breaks
-arm-breaks r s o =
-    let t = o .text in
-    (t, and-of (matches r t) (matches s t) (in-matches r t (o .in-left)) (in-matches s t (o .in-right)))
+arm-breaks r s o = (o .text, arm-iff r s (o .text) .1 (o .in-left, o .in-right))
 
+-- and where the empty text is a part, or a text has two lists of parts
 list-breaks : (r : Pattern) → BadRepeat r → (u : Text) × (breaks (oneList r) u ≡ true)
-unfolding breaks ClashBreaks
+unfolding breaks BreaksRule
 list-breaks r (inl i) = ([], in-nullable r i)
 list-breaks r (inr c) =
     some-breaks
@@ -199,6 +226,7 @@ list-breaks r (inr c) =
       other-parts = c .other-parts;
     }
 
+-- so for a lens that breaks one of the rules 7 to 11, with the rule of that number
 lens-breaks : (number : ℕ) (l : Lens) → 7 ≤ number → Breaks number l → (u : Text) × (breaks (ruleFor (sideOf number) l) u ≡ true)
 unfolding Breaks ruleFor sideOf
 lens-breaks number (copy r) h b = absurd b
@@ -211,10 +239,10 @@ lens-breaks number (repeat l) h (inl (e, c)) = rw e (list-breaks (language sourc
 lens-breaks number (repeat l) h (inr (e, c)) = rw e (list-breaks (language sheet l) c)
 lens-breaks number (match n l) h b = absurd b
 
--- a text that breaks the rule is a text of the lens
+-- a text that passes the test of the rule is a text of the lens
 breaks-language :
     (number : ℕ) (l : Lens) (side : Side) → 7 ≤ number → Breaks number l → (u : Text) → breaks (ruleFor side l) u ≡ true → In (language side l) u
-unfolding Breaks ruleFor ClashBreaks language In
+unfolding Breaks ruleFor BreaksRule language In
 breaks-language number (copy r) side h b u e = absurd b
 breaks-language number (const r w d) side h b u e = absurd (omega (arith, b .0))
 breaks-language number (key r) side h b u e = absurd b
@@ -227,20 +255,18 @@ breaks-language number (repeat l) side h b u e =
     (c .parts, sym (c .join-to), c .parts-in)
 breaks-language number (match n l) side h b u e = absurd b
 
--- Where Check refuses with 7 to 11 in a table of bytes, some text breaks the rule.
+-- Where Check refuses with 7 to 11, some text breaks the rule.
 pub rule-broken :
-    (bytes : Text)
-    → All IsByte bytes
-    → (number node : ℕ)
+    (bytes : Text) (number node : ℕ)
     → checkCall bytes ≡ refuses number node
     → 7 ≤ number
     → (t : Text) × (breaks (ruleAt (sideOf number) (treeAt (trees bytes) node)) t ≡ true)
 unfolding ruleAt
-rule-broken bytes all number node e h =
+rule-broken bytes number node e h =
     let b = check-refuses-iff bytes number node (omega arith) .0 e in
     rw (b .at-node) (lens-breaks number (b .lens-there) h (b .breaks))
 
--- and its texts are of bytes
+-- The texts that break it are made of bytes, where the table is.
 pub rule-bytes :
     (bytes : Text)
     → All IsByte bytes

@@ -1,36 +1,48 @@
 -- The text that is given, in a form that computes: two readings of one text, byte by byte.
 use mathlib.Core.Path.{_≡_, refl, sym, ap, _∙_, subst}
 use mathlib.Core.Bool.{Bool, true, false, _&&_, cond, false≢true}
-use mathlib.Core.List.{List, [], _∷_, _++_, map, append-assoc, nil≢cons, head-eq-of-cons-eq, tail-eq-of-cons-eq}
-use mathlib.Core.Logic.{_⊎_, inl, inr, ⊎-elim, _↔_}
-use Prim.Native.Nat.{ℕ, zero, suc, _+_, _-_}
+use mathlib.Core.List.{List, [], _∷_, _++_, map}
+use mathlib.Core.Logic.{_⊎_, inl, inr, ⊎-elim, ⊎-map, _↔_, Iff·symm, Iff·trans}
+use Prim.Native.Nat.{ℕ, zero, suc}
 use native.Mathlib.Omega.{arith}
-use lib.ListN.{length, take, drop, length-append, take-append-drop, length-drop}
-use lib.Seq.{take-add, drop-drop}
+use lib.ListN.{length}
 use Rattle.semantics.specs.Text.{Text, joined, All, Member, somePasses, least}
-use Rattle.semantics.specs.Pattern.{Class, inClass, Pattern, concat, star, In, nullable, Head, heads, matches}
+use Rattle.semantics.specs.Pattern.{Class, inClass, Pattern, concat, star, In, nullable, Head, heads}
 use Rattle.semantics.specs.Ambiguity.{shareByte, samePair}
-use Rattle.laws.specs.Basics.{bool-cases, and-both, and-of, cond-true, cond-false, member-left, member-right, member-append, passes-at, passes-of, member-map, map-member}
-use Rattle.laws.specs.Membership.{nullable-in, in-nullable, head-in, in-head, matches-in, in-matches}
+use Rattle.laws.specs.Basics.{
+  bool-cases,
+  and-both,
+  and-of,
+  cond-true,
+  cond-false,
+  member-left,
+  member-right,
+  member-append,
+  passes-at,
+  passes-of,
+  member-map,
+  map-member,
+}
+use Rattle.laws.specs.Membership.{nullable-in, in-nullable, head-in, in-head}
 use Rattle.laws.specs.States.{member-one, member-cond, cond-member, member-joined-map, joined-map-member, samePair-eq}
 use Rattle.laws.specs.Classes.{shared-byte, byte-shared}
 use Rattle.laws.specs.Bytes.{IsByte}
-use Rattle.clash.specs.Clash.{Rule, oneCut, oneArm, oneList, EndAt, firstEnd, secondEnd, cutTwice, breaks, someText, lowestText, maxClash, shortestText, clashText}
-use Rattle.clash.specs.Given.{least-first, some-at, some-of, two-ends, cutTwice-iff, cut-ends}
+use Rattle.clash.specs.Clash.{Rule, oneCut, oneArm, oneList, cutTwice, breaks, someText, lowestText, maxClash, shortestText, clashText}
+use Rattle.clash.specs.Ends.{same-test, least-first}
+use Rattle.clash.specs.Twofold.{Apart, ReadOn, arm-iff, apart-end, apart-cons-iff, apart-iff}
+use Rattle.clash.specs.Given.{some-at, some-of}
 
 -- ---- Two readings of one text
 
--- `both p q`: texts of p and of q. `apart s p q`: texts u y with u in p and y in s (the first cut), of which q reads u and at least one byte more
--- before s goes on (the second cut).
+-- `both p q`: texts of p and of q. `apart s p q`: texts with a part in p and the rest in s, and with a part in q, a byte or more longer, and the rest in s.
 pub data Twofold : Type 0 where
   both : Pattern → Pattern → Twofold
   apart : Pattern → Pattern → Pattern → Twofold
 
--- the texts
+-- what each of them reads
 unfoldable Reads : Twofold → Text → Type 0
 Reads (both p q) t = In p t × In q t
-Reads (apart s p q) t =
-    (u : Text) × (c : ℕ) × (x : Text) × (v : Text) × (t ≡ u ++ (c ∷ x ++ v)) × In p u × In q (u ++ c ∷ x) × In s (c ∷ x ++ v) × In s v
+Reads (apart s p q) t = Apart p q s t
 
 -- One way to read a first byte: any byte that is in both classes, and then a text of `rest`.
 pub record Way : Type 0 where
@@ -42,21 +54,25 @@ pub record Way : Type 0 where
 abbrev pub way : (Pattern → Pattern → Twofold) → Head → Head → Way
 way make h k = record { class = h .class; class′ = k .class; rest = make (h .rest) (k .rest) }
 
--- each of the one side with each of the other
+-- each head of the one with each of the other
 unfoldable pub pairs : (Pattern → Pattern → Twofold) → List Head → List Head → List Way
 pairs make hs ks = joined (map (λ h. map (way make h) ks) hs)
 
--- All the ways. Where the first reading may stop, the text of s begins, and the second reading has a byte more.
+-- the second reading goes on and s follows it, while the first is in s already
+abbrev pub onward : Pattern → Pattern → Pattern → Twofold
+onward s q s′ = both (concat q s) s′
+
+-- All the ways. Where the first reading may be cut, s begins, and the second reading has a byte more.
 unfoldable pub ways : Twofold → List Way
 ways (both p q) = pairs both (heads p) (heads q)
-ways (apart s p q) =
-    pairs (apart s) (heads p) (heads q) ++ cond (nullable p) (pairs (λ q′ s′. both (concat q′ s) s′) (heads q) (heads s)) []
+ways (apart s p q) = pairs (apart s) (heads p) (heads q) ++ cond (nullable p) (pairs (onward s) (heads q) (heads s)) []
 
 -- whether the empty text is read
 unfoldable pub ends : Twofold → Bool
 ends (both p q) = nullable p && nullable q
 ends (apart s p q) = false
 
+-- whether they are the same
 unfoldable pub sameTwofold : Twofold → Twofold → Bool
 sameTwofold (both p q) b = elim b [ both p′ q′ ↦ samePair (p, q) (p′, q′) | apart s′ p′ q′ ↦ false ]
 sameTwofold (apart s p q) b = elim b [ both p′ q′ ↦ false | apart s′ p′ q′ ↦ samePair (concat s p, q) (concat s′ p′, q′) ]
@@ -100,6 +116,7 @@ clashed (oneList r) = let found = lowestRead (apart (star r) r r ∷ []) in cond
 
 -- ---- One byte
 
+-- P holds of some member of the list
 abbrev Some : {A : Type 0} → (A → Type 0) → List A → Type 0
 Some {A} P xs = (x : A) × Member x xs × P x
 
@@ -108,11 +125,12 @@ abbrev Leads : ℕ → Text → Way → Type 0
 Leads c t w = (inClass (w .class) c ≡ true) × (inClass (w .class′) c ≡ true) × Reads (w .rest) t
 
 module _ (make : Pattern → Pattern → Twofold) (hs ks : List Head) where
-  -- the pairs are those of each way on the one side with each on the other
+  -- each pair of heads has its way
   member-pairs : (h k : Head) → Member h hs → Member k ks → Member (way make h k) (pairs make hs ks)
   unfolding pairs
   member-pairs h k m n = member-joined-map (λ h. map (way make h) ks) h (way make h k) hs m (member-map (way make h) k ks n)
 
+  -- and each way is that of a pair
   pairs-member : (w : Way) → Member w (pairs make hs ks) → (h : Head) × (k : Head) × Member h hs × Member k ks × (w ≡ way make h k)
   unfolding pairs
   pairs-member w m =
@@ -120,72 +138,81 @@ module _ (make : Pattern → Pattern → Twofold) (hs ks : List Head) where
       let (k, j, e) = map-member (way make h) w ks n in
       (h, k, i, j, e)
 
--- after the first part, in q a byte that s reads too
-abbrev onward : Pattern → Pattern → Pattern → Twofold
-onward s q′ s′ = both (concat q′ s) s′
+-- h is a head of p and reads the byte c
+abbrev Heads : Pattern → ℕ → Head → Type 0
+Heads p c h = Member h (heads p) × (inClass (h .class) c ≡ true)
+
+-- by its first byte a text of p is read on in the rest of such a head
+head-on : (p : Pattern) (c : ℕ) → ReadOn p c (Heads p c) (λ h. h .rest)
+head-on p c t = (
+  λ i. let (h, m, e, j) = in-head p c t i in (h, (m, e), j),
+  λ x. let (h, (m, e), j) = x in head-in p h c t m e j,
+)
+
+-- both readings have the byte, or the first is at its cut
+apart-heads-iff :
+    (s p q : Pattern) (c : ℕ) (t : Text)
+    → Apart p q s (c ∷ t)
+    ↔ (((h : Head) × (k : Head) × Heads p c h × Heads q c k × Apart (h .rest) (k .rest) s t)
+    ⊎ (In p [] × ((h : Head) × (k : Head) × Heads q c h × Heads s c k × In (concat (h .rest) s) t × In (k .rest) t)))
+apart-heads-iff s p q c =
+    apart-cons-iff p q s c (Heads p c) (λ h. h .rest) (Heads q c) (λ h. h .rest) (Heads s c) (λ h. h .rest) (head-on p c) (head-on q c) (head-on s c)
 
 -- A text that is not empty is read by way of its first byte.
 reads-way : (a : Twofold) (c : ℕ) (t : Text) → Reads a (c ∷ t) → Some (Leads c t) (ways a)
-unfolding Reads ways In
+unfolding Reads ways
 reads-way (both p q) c t (i, j) =
     let (h, m, e, i′) = in-head p c t i in
     let (k, n, f, j′) = in-head q c t j in
     (way both h k, member-pairs both (heads p) (heads q) h k m n, (e, f, (i′, j′)))
-reads-way (apart s p q) c t ([], d, x, v, e, i, j, l, o) =
-    let same = head-eq-of-cons-eq e in
-    let rest : t ≡ x ++ v = tail-eq-of-cons-eq e in
-    let (h, m, f, j′) = in-head q d x j in
-    let (k, n, g, l′) = in-head s d (x ++ v) l in
-    let later = member-pairs (onward s) (heads q) (heads s) h k m n in (
-      way (onward s) h k,
-      member-right
-          _
-          (pairs (apart s) (heads p) (heads q))
-          (cond (nullable p) (pairs (onward s) (heads q) (heads s)) [])
-          (cond-member (nullable p) (way (onward s) h k) (pairs (onward s) (heads q) (heads s)) (in-nullable p i) later),
-      (rw same f, rw same g, ((x, v, rest, j′, o), rw rest l′)),
-    )
-reads-way (apart s p q) c t (b ∷ u, d, x, v, e, i, j, l, o) =
-    let same = head-eq-of-cons-eq e in
-    let rest : t ≡ u ++ (d ∷ x ++ v) = tail-eq-of-cons-eq e in
-    let (h, m, f, i′) = in-head p b u i in
-    let (k, n, g, j′) = in-head q b (u ++ d ∷ x) j in (
-      way (apart s) h k,
-      member-left
-          _
-          (pairs (apart s) (heads p) (heads q))
-          (cond (nullable p) (pairs (onward s) (heads q) (heads s)) [])
-          (member-pairs (apart s) (heads p) (heads q) h k m n),
-      (rw same f, rw same g, (u, d, x, v, rest, i′, j′, l, o)),
-    )
+reads-way (apart s p q) c t a =
+    ⊎-elim
+    (λ x.
+    let (h, k, (m, e), (n, f), b) = x in
+    (way (apart s) h k, member-left _ early late (member-pairs (apart s) (heads p) (heads q) h k m n), (e, f, b)))
+    (λ x.
+    let (i, (h, k, (m, e), (n, f), y, z)) = x in
+    let later = member-pairs (onward s) (heads q) (heads s) h k m n in
+    let there = cond-member (nullable p) (way (onward s) h k) (pairs (onward s) (heads q) (heads s)) (in-nullable p i) later in
+    (way (onward s) h k, member-right _ early late there, (e, f, (y, z))))
+    (apart-heads-iff s p q c t .0 a)
+  where
+    -- the ways on which both go on
+    early : List Way
+    early = pairs (apart s) (heads p) (heads q)
 
--- And what a way reads, with the byte before it, is read.
+    -- and those on which the first is at its cut
+    late : List Way
+    late = cond (nullable p) (pairs (onward s) (heads q) (heads s)) []
+
+-- And what a way reads, with its byte in front, is read.
 way-reads : (a : Twofold) (w : Way) (c : ℕ) (t : Text) → Member w (ways a) → Leads c t w → Reads a (c ∷ t)
-unfolding Reads ways In
+unfolding Reads ways
 way-reads (both p q) w c t m l =
     let (h, k, i, j, e) = pairs-member both (heads p) (heads q) w m in
     let (f, g, (x, y)) : Leads c t (way both h k) = subst (Leads c t) e l in
     (head-in p h c t i f x, head-in q k c t j g y)
 way-reads (apart s p q) w c t m l =
-    ⊎-elim
+    apart-heads-iff s p q c t .1
+    (⊎-map
     (λ n.
     let (h, k, i, j, e) = pairs-member (apart s) (heads p) (heads q) w n in
-    let (f, g, (u, d, x, v, r, a, b, y, z)) : Leads c t (way (apart s) h k) = subst (Leads c t) e l in
-    (c ∷ u, d, x, v, ap (λ y. c ∷ y) r, head-in p h c u i f a, head-in q k c (u ++ d ∷ x) j g b, y, z))
+    let (f, g, a) : Leads c t (way (apart s) h k) = subst (Leads c t) e l in
+    (h, k, (i, f), (j, g), a))
     (λ n.
     let (null, n′) = member-cond (nullable p) w (pairs (onward s) (heads q) (heads s)) n in
     let (h, k, i, j, e) = pairs-member (onward s) (heads q) (heads s) w n′ in
-    let (f, g, ((x, v, r, a, z), y)) : Leads c t (way (onward s) h k) = subst (Leads c t) e l in
-    ([], c, x, v, ap (λ y. c ∷ y) r, nullable-in p null, head-in q h c x i f a, head-in s k c (x ++ v) j g (rw (← r) y), z))
-    (member-append w (pairs (apart s) (heads p) (heads q)) (cond (nullable p) (pairs (onward s) (heads q) (heads s)) []) m)
+    let (f, g, (y, z)) : Leads c t (way (onward s) h k) = subst (Leads c t) e l in
+    (nullable-in p null, (h, k, (i, f), (j, g), y, z)))
+    (member-append w (pairs (apart s) (heads p) (heads q)) (cond (nullable p) (pairs (onward s) (heads q) (heads s)) []) m))
 
--- The empty text is read where both readings end; of two cuts that are apart it has none.
+-- the empty text is read only where both readings end
 reads-ends : (a : Twofold) → Reads a [] → ends a ≡ true
 unfolding Reads ends
 reads-ends (both p q) (i, j) = and-of (nullable p) (nullable q) (in-nullable p i) (in-nullable q j)
-reads-ends (apart s p q) ([], d, x, v, e, i, j, l, o) = absurd (nil≢cons e)
-reads-ends (apart s p q) (b ∷ u, d, x, v, e, i, j, l, o) = absurd (nil≢cons e)
+reads-ends (apart s p q) a = absurd (apart-end p q s a)
 
+-- and it is read there
 ends-reads : (a : Twofold) → ends a ≡ true → Reads a []
 unfolding Reads ends
 ends-reads (both p q) e = let (f, g) = and-both (nullable p) (nullable q) e in (nullable-in p f, nullable-in q g)
@@ -193,6 +220,7 @@ ends-reads (apart s p q) e = absurd (false≢true e)
 
 -- ---- Lists of readings
 
+-- what passes as the same is the same
 sameTwofold-eq : (a b : Twofold) → sameTwofold a b ≡ true → a ≡ b
 unfolding sameTwofold
 sameTwofold-eq (both p q) b =
@@ -212,7 +240,7 @@ sameTwofold-eq (apart s p q) b =
           cc
     ]
 
--- a reading that is added is there, and so are the others
+-- a reading that is added is there
 added-new : (a : Twofold) (xs : List Twofold) → Member a (added a xs)
 unfolding added
 added-new a xs = go (somePasses (sameTwofold a) xs) refl
@@ -221,6 +249,7 @@ added-new a xs = go (somePasses (sameTwofold a) xs) refl
     go true e = let (x, m, f) = passes-at (sameTwofold a) xs e in subst (λ y. Member y xs) (sym (sameTwofold-eq a x f)) m
     go false e = inl refl
 
+-- so are the others
 added-old : (a b : Twofold) (xs : List Twofold) → Member b xs → Member b (added a xs)
 unfolding added
 added-old a b xs m = go (somePasses (sameTwofold a) xs)
@@ -273,62 +302,64 @@ module _ (test : Way → Bool) where
 abbrev SomeReads : List Twofold → Text → Type 0
 SomeReads xs t = Some (λ a. Reads a t) xs
 
--- one that reads the text after the byte comes from one that reads both
+module _ (test : Way → Bool) (t : Text) (xs : List Twofold) where
+  -- If a kept reading reads the text, some way passes by whose bytes a reading of the list comes to it.
+  kept-reads :
+      SomeReads (kept test (joined (map ways xs))) t
+      → (w : Way) × (test w ≡ true) × ((c : ℕ) → inClass (w .class) c ≡ true → inClass (w .class′) c ≡ true → SomeReads xs (c ∷ t))
+  kept-reads (b, m, i) =
+      let (w, n, e, f) = kept-way test b (joined (map ways xs)) m in
+      let (a, o, l) = joined-map-member ways w xs n in
+      (w, e, λ c g h. (a, o, way-reads a w c t l (g, h, subst (λ b. Reads b t) f i)))
+
+  -- If a reading of the list reads the text behind a byte, a kept one reads the text, where every way of that byte passes.
+  reads-kept :
+      (c : ℕ)
+      → ((w : Way) → inClass (w .class) c ≡ true → inClass (w .class′) c ≡ true → test w ≡ true)
+      → SomeReads xs (c ∷ t)
+      → SomeReads (kept test (joined (map ways xs))) t
+  reads-kept c passes (a, m, i) =
+      let (w, n, (e, f, j)) = reads-way a c t i in
+      (w .rest, way-kept test w (joined (map ways xs)) (member-joined-map ways a w xs m n) (passes w e f), j)
+
+-- what reads the text after a byte comes from what reads both
 after-reads : (c : ℕ) (t : Text) (xs : List Twofold) → SomeReads (after c xs) t → SomeReads xs (c ∷ t)
 unfolding after
-after-reads c t xs (b, m, i) =
-    let (w, n, e, f) = kept-way (λ w. inClass (w .class) c && inClass (w .class′) c) b (joined (map ways xs)) m in
-    let (a, o, l) = joined-map-member ways w xs n in
-    let (g, h) = and-both (inClass (w .class) c) (inClass (w .class′) c) e in
-    (a, o, way-reads a w c t l (g, h, subst (λ b. Reads b t) f i))
+after-reads c t xs h =
+    let (w, e, reads-with) = kept-reads (λ w. inClass (w .class) c && inClass (w .class′) c) t xs h in
+    let (f, g) = and-both (inClass (w .class) c) (inClass (w .class′) c) e in
+    reads-with c f g
 
+-- and leads to it
 reads-after : (c : ℕ) (t : Text) (xs : List Twofold) → SomeReads xs (c ∷ t) → SomeReads (after c xs) t
 unfolding after
-reads-after c t xs (a, m, i) =
-    let (w, n, (e, f, j)) = reads-way a c t i in (
-      w .rest,
-      way-kept
-          (λ w. inClass (w .class) c && inClass (w .class′) c)
-          w
-          (joined (map ways xs))
-          (member-joined-map ways a w xs m n)
-          (and-of (inClass (w .class) c) (inClass (w .class′) c) e f),
-      j,
-    )
+reads-after c t xs = reads-kept _ t xs c (λ w. and-of (inClass (w .class) c) (inClass (w .class′) c))
 
--- and one that reads the text after some byte
+-- what reads the text after some byte comes from what reads it behind one
 next-reads : (t : Text) (xs : List Twofold) → SomeReads (next xs) t → (c : ℕ) × SomeReads xs (c ∷ t)
 unfolding next
-next-reads t xs (b, m, i) =
-    let (w, n, e, f) = kept-way (λ w. shareByte (w .class) (w .class′)) b (joined (map ways xs)) m in
-    let (a, o, l) = joined-map-member ways w xs n in
-    let (c, g, h) = shared-byte (w .class) (w .class′) e in
-    (c, (a, o, way-reads a w c t l (g, h, subst (λ b. Reads b t) f i)))
+next-reads t xs h =
+    let (w, e, reads-with) = kept-reads (λ w. shareByte (w .class) (w .class′)) t xs h in
+    let (c, f, g) = shared-byte (w .class) (w .class′) e in
+    (c, reads-with c f g)
 
+-- and leads to it
 reads-next : (c : ℕ) (t : Text) (xs : List Twofold) → SomeReads xs (c ∷ t) → SomeReads (next xs) t
 unfolding next
-reads-next c t xs (a, m, i) =
-    let (w, n, (e, f, j)) = reads-way a c t i in (
-      w .rest,
-      way-kept
-          (λ w. shareByte (w .class) (w .class′))
-          w
-          (joined (map ways xs))
-          (member-joined-map ways a w xs m n)
-          (byte-shared (w .class) (w .class′) c e f),
-      j,
-    )
+reads-next c t xs = reads-kept _ t xs c (λ w. byte-shared (w .class) (w .class′) c)
 
--- whether one of them does
+-- whether some reading of the list reads the text
 unfoldable reads : List Twofold → Text → Bool
 reads xs [] = somePasses ends xs
 reads xs (c ∷ t) = reads (after c xs) t
 
+-- the test is true only where one does
 reads-some : (xs : List Twofold) (t : Text) → reads xs t ≡ true → SomeReads xs t
 unfolding reads
 reads-some xs [] e = let (a, m, f) = passes-at ends xs e in (a, m, ends-reads a f)
 reads-some xs (c ∷ t) e = after-reads c t xs (reads-some (after c xs) t e)
 
+-- and where one does it is true
 some-reads : (xs : List Twofold) (t : Text) → SomeReads xs t → reads xs t ≡ true
 unfolding reads
 some-reads xs [] (a, m, i) = passes-of ends a xs m (reads-ends a i)
@@ -336,7 +367,7 @@ some-reads xs (c ∷ t) h = some-reads (after c xs) t (reads-after c t xs h)
 
 -- ---- Texts of n bytes
 
--- the test of the length is true exactly if there is such a text
+-- `someLeft` is true only where one of them reads a text of n bytes
 left-at : (n : ℕ) (xs : List Twofold) → someLeft n xs ≡ true → (t : Text) × (length t ≡ n) × SomeReads xs t
 unfolding someLeft
 left-at zero xs e = let (a, m, f) = passes-at ends xs e in ([], refl, (a, m, ends-reads a f))
@@ -345,6 +376,7 @@ left-at (suc n) xs e =
     let (c, k) = next-reads t xs h in
     (c ∷ t, ap suc l, k)
 
+-- and where one does it is true
 left-of : (n : ℕ) (xs : List Twofold) (t : Text) → length t ≡ n → SomeReads xs t → someLeft n xs ≡ true
 unfolding someLeft
 left-of zero xs [] l (a, m, i) = passes-of ends a xs m (reads-ends a i)
@@ -352,31 +384,24 @@ left-of zero xs (c ∷ t) l h = absurd (omega arith)
 left-of (suc n) xs [] l h = absurd (omega arith)
 left-of (suc n) xs (c ∷ t) l h = left-of n (next xs) t (omega arith) (reads-next c t xs h)
 
--- two tests that are true together are the same
-same-test : (a b : Bool) → (a ≡ true → b ≡ true) → (b ≡ true → a ≡ true) → a ≡ b
-same-test true b f g = sym (f refl)
-same-test false true f g = g refl
-same-test false false f g = refl
-
 -- all texts that some reading reads are made of bytes
 abbrev ReadBytes : List Twofold → Type 0
 ReadBytes xs = (t : Text) → reads xs t ≡ true → All IsByte t
 
--- so it is the test that tries all bytes
+-- `someLeft` is the test that tries all texts of n bytes
 left-is : (n : ℕ) (xs : List Twofold) → ReadBytes xs → someLeft n xs ≡ someText n (reads xs)
 left-is n xs bytes =
-    same-test
-    (someLeft n xs)
-    (someText n (reads xs))
-    (λ e. let (t, l, h) = left-at n xs e in let r = some-reads xs t h in some-of n (reads xs) t (bytes t r) l r)
-    (λ e. let (t, l, r) = some-at n (reads xs) e in left-of n xs t l (reads-some xs t r))
+    same-test (someLeft n xs) (someText n (reads xs)) (
+      λ e. let (t, l, h) = left-at n xs e in let r = some-reads xs t h in some-of n (reads xs) t (bytes t r) l r,
+      λ e. let (t, l, r) = some-at n (reads xs) e in left-of n xs t l (reads-some xs t r),
+    )
 
 -- what is read after a byte is made of bytes too
 after-bytes : (c : ℕ) (xs : List Twofold) → ReadBytes xs → ReadBytes (after c xs)
 unfolding reads
 after-bytes c xs bytes t e = bytes (c ∷ t) e .1
 
--- and the lowest text is the same
+-- so the lowest text is the same
 lowest-is : (n : ℕ) (xs : List Twofold) → ReadBytes xs → lowestLeft n xs ≡ lowestText n (reads xs)
 unfolding lowestLeft lowestText reads
 lowest-is zero xs bytes = refl
@@ -396,81 +421,30 @@ read-is xs bytes =
 
 -- ---- The rules
 
--- Two ends of the first half, one above the other, are two cuts that are apart.
-ends-apart : (r s : Pattern) (t : Text) (e k : ℕ) → EndAt r s t e → EndAt r s t (e + suc k) → Reads (apart s r r) t
-unfolding Reads
-ends-apart r s t e k (h, i, j) (h′, i′, j′) = go (drop e t) refl
-  where
-    go : (y : Text) → drop e t ≡ y → Reads (apart s r r) t
-    go [] p = absurd (omega (arith, length-drop e t, ap length p))
-    go (c ∷ z) p =
-        let z-parts = take-append-drop k z in
-        let from-e : drop e t ≡ c ∷ take k z ++ drop k z = p ∙ ap (λ y. c ∷ y) (sym z-parts) in
-        let whole : t ≡ take e t ++ (c ∷ take k z ++ drop k z) = sym (take-append-drop e t) ∙ ap (λ y. take e t ++ y) from-e in
-        let more : take (e + suc k) t ≡ take e t ++ c ∷ take k z = take-add e (suc k) t ∙ ap (λ y. take e t ++ take (suc k) y) p in
-        let less : drop (e + suc k) t ≡ drop k z = sym (drop-drop (suc k) e t) ∙ ap (drop (suc k)) p in
-        (take e t, c, take k z, drop k z, whole, i, subst (In r) more i′, subst (In s) from-e j, subst (In s) less j′)
-
--- So a text is cut twice exactly if it has two cuts that are apart.
-cut-apart : (r s : Pattern) (t : Text) → cutTwice r s t ≡ true → Reads (apart s r r) t
-cut-apart r s t e =
-    let (a, b, l) = two-ends r s t e in
-    let same : secondEnd r s t ≡ firstEnd r s t + suc (secondEnd r s t - suc (firstEnd r s t)) = omega arith in
-    ends-apart r s t (firstEnd r s t) (secondEnd r s t - suc (firstEnd r s t)) a (subst (EndAt r s t) same b)
-
-apart-cut : (r s : Pattern) (t : Text) → Reads (apart s r r) t → cutTwice r s t ≡ true
-unfolding Reads
-apart-cut r s t (u, c, x, v, e, i, j, k, l) =
-    subst
-    (λ t. cutTwice r s t ≡ true)
-    (sym e)
-    (cutTwice-iff r s (u ++ (c ∷ x ++ v)) .1
-    (cut-ends
-    r
-    s
-    record {
-      left = u;
-      right = c ∷ x ++ v;
-      left-in = i;
-      right-in = k;
-      left′ = u ++ c ∷ x;
-      right′ = v;
-      left-in′ = j;
-      right-in′ = l;
-      same-text = sym (append-assoc u (c ∷ x) v);
-      other-cut = λ d. omega (arith, simp length-append at (ap length d));
-    }))
-
--- one reading alone
+-- the test of one reading alone
 reads-one : (a : Twofold) (t : Text) → (reads (a ∷ []) t ≡ true) ↔ Reads a t
 reads-one a t = (
   λ e. let (b, m, i) = reads-some (a ∷ []) t e in subst (λ b. Reads b t) (member-one b a m) i,
   λ i. some-reads (a ∷ []) t (a, inl refl, i),
 )
 
--- the test of the rule is the test of its readings
+-- the test of the rule is the test of its readings: of a join
 cut-reads : (r s : Pattern) (t : Text) → reads (apart s r r ∷ []) t ≡ cutTwice r s t
-cut-reads r s t =
-    let i = reads-one (apart s r r) t in
-    same-test (reads (apart s r r ∷ []) t) (cutTwice r s t) (λ e. apart-cut r s t (i .0 e)) (λ e. i .1 (cut-apart r s t e))
+unfolding Reads
+cut-reads r s t = same-test (reads (apart s r r ∷ []) t) (cutTwice r s t) (Iff·trans (reads-one (apart s r r) t) (Iff·symm (apart-iff r s t)))
 
+-- of a union
 arm-reads : (r s : Pattern) (t : Text) → reads (both r s ∷ []) t ≡ breaks (oneArm r s) t
-unfolding breaks Reads
-arm-reads r s t =
-    let i = reads-one (both r s) t in
-    same-test
-    (reads (both r s ∷ []) t)
-    (matches r t && matches s t)
-    (λ e. let (x, y) = i .0 e in and-of (matches r t) (matches s t) (in-matches r t x) (in-matches s t y))
-    (λ e. let (x, y) = and-both (matches r t) (matches s t) e in i .1 (matches-in r t x, matches-in s t y))
+unfolding Reads
+arm-reads r s t = same-test (reads (both r s ∷ []) t) (breaks (oneArm r s) t) (Iff·trans (reads-one (both r s) t) (Iff·symm (arm-iff r s t)))
 
--- of a repeat whose child does not hold the empty text
+-- and of a repeat whose child does not hold the empty text
 list-reads : (r : Pattern) (t : Text) → nullable r ≡ false → reads (apart (star r) r r ∷ []) t ≡ breaks (oneList r) t
 unfolding breaks reads somePasses ends
 list-reads r [] e = sym e
 list-reads r (c ∷ t) e = cut-reads r (star r) (c ∷ t)
 
--- where the readings are those of the rule, their text is the given one
+-- where the test of the readings is that of the rule, their text is the given one
 reads-clash :
     (rule : Rule) (xs : List Twofold)
     → ((u : Text) → breaks rule u ≡ true → All IsByte u)

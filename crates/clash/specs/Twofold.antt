@@ -1,21 +1,22 @@
 -- Two readings of one text at a time, by pairs of positions: how a search on such pairs finds the texts that break a rule. Of a text with two cuts
 -- both readings begin in r; the first comes to its cut and goes on in s, while the second goes on in r by a byte or more and then in s.
 use mathlib.Core.Path.{_≡_, refl, sym, ap, _∙_, subst}
-use mathlib.Core.Bool.{Bool, true, false, _&&_, cond}
+use mathlib.Core.Bool.{Bool, true, false, _&&_}
 use mathlib.Core.List.{[], _∷_, _++_, append-assoc, nil≢cons, head-eq-of-cons-eq, tail-eq-of-cons-eq}
-use mathlib.Core.Logic.{_⊎_, inl, inr, _↔_, ⊎-elim, Iff·rfl, Iff·trans, Iff·and}
-use Prim.Native.Nat.{ℕ, zero, suc, _+_, _-_, _≤_, _<_}
+use mathlib.Core.Logic.{_⊎_, inl, inr, _↔_, ⊎-elim, ⊎-map, Iff·rfl, Iff·trans, Iff·and}
+use Prim.Native.Nat.{ℕ, zero, suc, _≤_, _<_}
 use native.Mathlib.Nat.{not-suc-le-zero, le-of-suc-le-suc}
 use native.Mathlib.Omega.{arith}
-use lib.Dec.{leb, ltb}
+use lib.Dec.{ltb}
 use lib.ListN.{length, take, drop, length-append, take-append-drop}
-use lib.Seq.{take-append-seam, drop-append-seam}
-use borrow.Author.Tests.{leb-true, le-leb, ltb-true, ltb-false}
-use Rattle.semantics.specs.Text.{Text, least}
+use lib.Seq.{take-append-seam}
+use borrow.Author.Tests.{le-leb, ltb-true, ltb-false}
+use Rattle.semantics.specs.Text.{Text}
 use Rattle.semantics.specs.Pattern.{Pattern, concat, star, In, inClass, nullable, matches}
+use Rattle.semantics.specs.Ambiguity.{TwoCuts}
 use Rattle.semantics.specs.Table.{positions}
-use Rattle.laws.specs.Basics.{bool-cases, not-both, false-of-not-true, and-both, and-of}
-use Rattle.laws.specs.Membership.{nullable-in, in-nullable, matches-in, in-matches}
+use Rattle.laws.specs.Basics.{bool-cases, false-of-not-true}
+use Rattle.laws.specs.Membership.{nullable-in, in-nullable}
 use Rattle.laws.specs.PositionAutomaton.{
   split-left,
   classAt,
@@ -29,7 +30,8 @@ use Rattle.laws.specs.PositionAutomaton.{
   follow-law,
   last-law,
 }
-use Rattle.clash.specs.Clash.{oneArm, EndAt, CutTwice, isEnd, firstEnd, secondEnd, cutTwice, breaks}
+use Rattle.clash.specs.Clash.{oneArm, EndAt, CutTwice, firstEnd, secondEnd, cutTwice, breaks}
+use Rattle.clash.specs.Ends.{both-match-iff, first-smallest, second-smallest, two-ends, end-behind}
 
 -- ---- The whole that two patterns make
 
@@ -86,34 +88,38 @@ pub record BothStep (r s : Pattern) (next next′ : ℕ → Bool) (c p q : ℕ) 
   pub stands-left : standsAt r p c ≡ true
   pub stands-right : standsAt s q c ≡ true
 
--- ---- One byte of both readings
+-- ---- One byte
+
+-- By its first byte c a text of k is read on in one of the patterns `rest i`, where `may i` holds.
+abbrev pub ReadOn : Pattern → ℕ → {I : Type 0} → (I → Type 0) → (I → Pattern) → Type 0
+ReadOn k c {I} may rest = (t : Text) → In k (c ∷ t) ↔ ((i : I) × may i × In (rest i) t)
 
 -- a text of k is read in r, from a position that may come next
-abbrev ReadBy : Pattern → Pattern → (ℕ → Bool) → Type 0
+abbrev pub ReadBy : Pattern → Pattern → (ℕ → Bool) → Type 0
 ReadBy k r next = (c : ℕ) (t : Text) → In k (c ∷ t) ↔ ReadsAt r next c t
 
--- two ways to read the same byte, as one step of both
-both-of :
-    (r s : Pattern) (next next′ : ℕ → Bool) (c : ℕ) (t t′ : Text) (a : ReadsAt r next c t) (b : ReadsAt s next′ c t′)
-    → BothStep r s next next′ c (a .position) (b .position)
-both-of r s next next′ c t t′ a b =
-    record {
-      left = a .in-pattern;
-      right = b .in-pattern;
-      may-left = a .allowed;
-      may-right = b .allowed;
-      stands-left = a .stands;
-      stands-right = b .stands;
-    }
+-- the byte leads to position p of r, by what may come next
+abbrev pub StepTo : Pattern → (ℕ → Bool) → ℕ → ℕ → Type 0
+StepTo r next c p = (p < positions r) × (next p ≡ true) × (standsAt r p c ≡ true)
 
--- and back
-left-of : (r s : Pattern) (next next′ : ℕ → Bool) (c p q : ℕ) (t : Text) → BothStep r s next next′ c p q → In (restAt r p) t → ReadsAt r next c t
-left-of r s next next′ c p q t b i =
-    record { position = p; in-pattern = b .left; allowed = b .may-left; stands = b .stands-left; rest-in = i }
+-- so it is read on in what may stand behind the position
+pub position-on : (k r : Pattern) (next : ℕ → Bool) → ReadBy k r next → (c : ℕ) → ReadOn k c (StepTo r next c) (restAt r)
+position-on k r next read c t = (
+  λ i. let a = read c t .0 i in (a .position, (a .in-pattern, a .allowed, a .stands), a .rest-in),
+  λ h.
+      let (p, (l, m, n), i) = h in
+      read c t .1 (record { position = p; in-pattern = l; allowed = m; stands = n; rest-in = i }),
+)
 
-right-of : (r s : Pattern) (next next′ : ℕ → Bool) (c p q : ℕ) (t : Text) → BothStep r s next next′ c p q → In (restAt s q) t → ReadsAt s next′ c t
-right-of r s next next′ c p q t b i =
-    record { position = q; in-pattern = b .right; allowed = b .may-right; stands = b .stands-right; rest-in = i }
+-- a step of both readings is a step of each
+both-step-iff :
+    (r s : Pattern) (next next′ : ℕ → Bool) (c p q : ℕ) → BothStep r s next next′ c p q ↔ (StepTo r next c p × StepTo s next′ c q)
+both-step-iff r s next next′ c p q = (
+  λ b. ((b .left, b .may-left, b .stands-left), (b .right, b .may-right, b .stands-right)),
+  λ h.
+      let ((l, m, n), (l′, m′, n′)) = h in
+      record { left = l; right = l′; may-left = m; may-right = m′; stands-left = n; stands-right = n′ },
+)
 
 -- A text of both k and l is read in both by its first byte, and what is left is a text of both.
 both-iff :
@@ -122,15 +128,18 @@ both-iff :
     → ReadBy l s next′
     → (c : ℕ) (t : Text)
     → (In k (c ∷ t) × In l (c ∷ t)) ↔ ((i : ℕ) × (j : ℕ) × BothStep r s next next′ c i j × Late r s i j t)
-both-iff k l r s next next′ read read′ c t = (
-  λ h.
-      let a = read c t .0 (h .0) in
-      let b = read′ c t .0 (h .1) in
-      (a .position, b .position, both-of r s next next′ c t t a b, record { in-whole = a .rest-in; in-second = b .rest-in }),
-  λ h.
-      let (i, j, b, l) = h in
-      (read c t .1 (left-of r s next next′ c i j t b (l .in-whole)), read′ c t .1 (right-of r s next next′ c i j t b (l .in-second))),
-)
+both-iff k l r s next next′ read read′ c t =
+    let on = position-on k r next read c t in
+    let on′ = position-on l s next′ read′ c t in (
+      λ h.
+          let (i, a, x) = on .0 (h .0) in
+          let (j, b, y) = on′ .0 (h .1) in
+          (i, j, both-step-iff r s next next′ c i j .1 (a, b), record { in-whole = x; in-second = y }),
+      λ h.
+          let (i, j, step, l) = h in
+          let (a, b) = both-step-iff r s next next′ c i j .0 step in
+          (on .1 (i, a, l .in-whole), on′ .1 (j, b, l .in-second)),
+    )
 
 -- ---- Late: each in its own pattern
 
@@ -138,7 +147,7 @@ both-iff k l r s next next′ read read′ c t = (
 late-iff : (w s : Pattern) (p q : ℕ) (t : Text) → Late w s p q t ↔ (In (restAt w p) t × In (restAt s q) t)
 late-iff w s p q t = (λ l. (l .in-whole, l .in-second), λ h. record { in-whole = h .0; in-second = h .1 })
 
--- the text may end where both may
+-- the text may end there if both readings may
 pub late-end-iff :
     (w s : Pattern) (p q : ℕ) → p < positions w → q < positions s
     → Late w s p q [] ↔ ((lastAt w p ≡ true) × (lastAt s q ≡ true))
@@ -155,20 +164,17 @@ late-step-iff w s p q h k c t =
 
 -- ---- A text of both arms
 
+-- the test is true exactly of a text of both arms
+pub arm-iff : (r s : Pattern) (t : Text) → (breaks (oneArm r s) t ≡ true) ↔ (In r t × In s t)
+unfolding breaks
+arm-iff r s t = both-match-iff r s t t
+
 -- the empty text is of both if both may be empty
 pub arm-end : (r s : Pattern) → breaks (oneArm r s) [] ≡ (nullable r && nullable s)
 unfolding breaks matches
 arm-end r s = refl
 
--- the test for a text of both arms
-arm-iff : (r s : Pattern) (t : Text) → (breaks (oneArm r s) t ≡ true) ↔ (In r t × In s t)
-unfolding breaks
-arm-iff r s t = (
-  λ e. let h = and-both (matches r t) (matches s t) e in (matches-in r t (h .0), matches-in s t (h .1)),
-  λ h. and-of (matches r t) (matches s t) (in-matches r t (h .0)) (in-matches s t (h .1)),
-)
-
--- the others begin with a byte that leads both on from their starts
+-- any other begins with a byte that leads both on from their starts
 pub arm-step-iff :
     (r s : Pattern) (c : ℕ) (t : Text)
     → (breaks (oneArm r s) (c ∷ t) ≡ true) ↔ ((i : ℕ) × (j : ℕ) × BothStep r s (firstAt r) (firstAt s) c i j × Late r s i j t)
@@ -177,33 +183,33 @@ arm-step-iff r s c t =
 
 -- ---- Early: both in r
 
--- the second goes on by a byte at least
-apart-end : (k l s : Pattern) → ¬ Apart k l s []
+-- the empty text is not read apart, since the second reading goes on by a byte at least
+pub apart-end : (k l s : Pattern) → ¬ Apart k l s []
 apart-end k l s a = go (a .u) (a .text-is)
   where
     go : (u : Text) → [] ≡ u ++ a .c ∷ a .x ++ a .v → ⊥
     go [] e = nil≢cons e
     go (d ∷ u) e = nil≢cons e
 
--- Both read a byte in r; or the first is at its cut, and the second reads a byte in r while s begins.
-apart-step-iff :
-    (k l r s w : Pattern) (next next′ : ℕ → Bool) (ends : Bool)
-    → Whole r s w
-    → ReadBy k r next
-    → ReadBy l r next′
-    → In k [] ↔ (ends ≡ true)
-    → (c : ℕ) (t : Text)
+-- Both readings have the first byte; or the first is at its cut, and the second has the byte while s begins with it.
+pub apart-cons-iff :
+    (k l s : Pattern) (c : ℕ) {I J M : Type 0}
+    (may : I → Type 0) (rest : I → Pattern) (may′ : J → Type 0) (rest′ : J → Pattern) (may″ : M → Type 0) (rest″ : M → Pattern)
+    → ReadOn k c may rest
+    → ReadOn l c may′ rest′
+    → ReadOn s c may″ rest″
+    → (t : Text)
     → Apart k l s (c ∷ t)
-    ↔ (((i : ℕ) × (j : ℕ) × BothStep r r next next′ c i j × Early r s i j t)
-    ⊎ ((ends ≡ true) × ((i : ℕ) × (j : ℕ) × BothStep r s next′ (firstAt s) c i j × Late w s i j t)))
+    ↔ (((i : I) × (j : J) × may i × may′ j × Apart (rest i) (rest′ j) s t)
+    ⊎ (In k [] × ((j : J) × (m : M) × may′ j × may″ m × In (concat (rest′ j) s) t × In (rest″ m) t)))
 unfolding In
-apart-step-iff k l r s w next next′ ends whole read read′ end-iff c t = (to, from)
+apart-cons-iff k l s c {I} {J} {M} may rest may′ rest′ may″ rest″ read read′ read″ t = (to, ⊎-elim from-both from-cut)
   where
     Both : Type 0
-    Both = (i : ℕ) × (j : ℕ) × BothStep r r next next′ c i j × Early r s i j t
+    Both = (i : I) × (j : J) × may i × may′ j × Apart (rest i) (rest′ j) s t
 
     Cut : Type 0
-    Cut = (ends ≡ true) × ((i : ℕ) × (j : ℕ) × BothStep r s next′ (firstAt s) c i j × Late w s i j t)
+    Cut = In k [] × ((j : J) × (m : M) × may′ j × may″ m × In (concat (rest′ j) s) t × In (rest″ m) t)
 
     go :
         (u : Text) (d : ℕ) (x v : Text)
@@ -214,38 +220,29 @@ apart-step-iff k l r s w next next′ ends whole read read′ end-iff c t = (to,
         → In s v
         → Both ⊎ Cut
     go [] d x v e first first-rest second second-rest =
-        let b = head-eq-of-cons-eq e in
-        let a = read′ c x .0 (rw b second) in
-        let z = first-law s c (x ++ v) .0 (rw b first-rest) in
-        inr (
-          end-iff .0 first,
-          (
-            a .position,
-            z .position,
-            both-of r s next′ (firstAt s) c x (x ++ v) a z,
-            record {
-              in-whole = whole .rest-iff (a .position) (a .in-pattern) t .1 (x, v, tail-eq-of-cons-eq e, a .rest-in, second-rest);
-              in-second = subst (In (restAt s (z .position))) (sym (tail-eq-of-cons-eq e)) (z .rest-in);
-            },
-          ),
-        )
+        let p = head-eq-of-cons-eq e in
+        let whole : t ≡ x ++ v = tail-eq-of-cons-eq e in
+        let (j, b, i) = read′ x .0 (rw p second) in
+        let (m, n, o) = read″ (x ++ v) .0 (rw p first-rest) in
+        inr (first, (j, m, b, n, (x, v, whole, i, second-rest), subst (In (rest″ m)) (sym whole) o))
     go (b ∷ u) d x v e first first-rest second second-rest =
         let p = head-eq-of-cons-eq e in
-        let a = read c u .0 (rw p first) in
-        let z = read′ c (u ++ d ∷ x) .0 (rw p second) in
+        let (i, a, y) = read u .0 (rw p first) in
+        let (j, n, z) = read′ (u ++ d ∷ x) .0 (rw p second) in
         inl (
-          a .position,
-          z .position,
-          both-of r r next next′ c u (u ++ d ∷ x) a z,
+          i,
+          j,
+          a,
+          n,
           record {
             u = u;
             c = d;
             x = x;
             v = v;
             text-is = tail-eq-of-cons-eq e;
-            first-in = a .rest-in;
+            first-in = y;
             first-rest = first-rest;
-            second-in = z .rest-in;
+            second-in = z;
             second-rest = second-rest;
           },
         )
@@ -255,39 +252,86 @@ apart-step-iff k l r s w next next′ ends whole read read′ end-iff c t = (to,
 
     from-both : Both → Apart k l s (c ∷ t)
     from-both h =
-        let (i, j, b, a) = h in
+        let (i, j, m, n, a) = h in
         record {
           u = c ∷ a .u;
           c = a .c;
           x = a .x;
           v = a .v;
           text-is = ap (λ y. c ∷ y) (a .text-is);
-          first-in = read c (a .u) .1 (left-of r r next next′ c i j (a .u) b (a .first-in));
+          first-in = read (a .u) .1 (i, m, a .first-in);
           first-rest = a .first-rest;
-          second-in = read′ c (a .u ++ a .c ∷ a .x) .1 (right-of r r next next′ c i j (a .u ++ a .c ∷ a .x) b (a .second-in));
+          second-in = read′ (a .u ++ a .c ∷ a .x) .1 (j, n, a .second-in);
           second-rest = a .second-rest;
         }
 
     from-cut : Cut → Apart k l s (c ∷ t)
     from-cut h =
-        let (e, (i, j, b, a)) = h in
-        let (x, v, p, m, n) = whole .rest-iff i (b .left) t .0 (a .in-whole) in
+        let (e, (j, m, b, n, (x, v, p, y, z), o)) = h in
         record {
           u = [];
           c = c;
           x = x;
           v = v;
           text-is = ap (λ y. c ∷ y) p;
-          first-in = end-iff .1 e;
-          first-rest = first-law s c (x ++ v) .1 (right-of r s next′ (firstAt s) c i j (x ++ v) b (subst (In (restAt s j)) p (a .in-second)));
-          second-in = read′ c x .1 (left-of r s next′ (firstAt s) c i j x b m);
-          second-rest = n;
+          first-in = e;
+          first-rest = read″ (x ++ v) .1 (m, n, subst (In (rest″ m)) p o);
+          second-in = read′ x .1 (j, b, y);
+          second-rest = z;
         }
 
-    from : Both ⊎ Cut → Apart k l s (c ∷ t)
-    from h = ⊎-elim from-both from-cut h
+-- so it is at positions
+apart-step-iff :
+    (k l r s w : Pattern) (next next′ : ℕ → Bool) (ends : Bool)
+    → Whole r s w
+    → ReadBy k r next
+    → ReadBy l r next′
+    → In k [] ↔ (ends ≡ true)
+    → (c : ℕ) (t : Text)
+    → Apart k l s (c ∷ t)
+    ↔ (((i : ℕ) × (j : ℕ) × BothStep r r next next′ c i j × Early r s i j t)
+    ⊎ ((ends ≡ true) × ((i : ℕ) × (j : ℕ) × BothStep r s next′ (firstAt s) c i j × Late w s i j t)))
+apart-step-iff k l r s w next next′ ends whole read read′ end-iff c t =
+    Iff·trans
+    (apart-cons-iff
+    k
+    l
+    s
+    c
+    (StepTo r next c)
+    (restAt r)
+    (StepTo r next′ c)
+    (restAt r)
+    (StepTo s (firstAt s) c)
+    (restAt s)
+    (position-on k r next read c)
+    (position-on l r next′ read′ c)
+    (position-on s s (firstAt s) (first-law s) c)
+    t) (
+      ⊎-map
+          (λ h. let (i, j, a, b, x) = h in (i, j, both-step-iff r r next next′ c i j .1 (a, b), x))
+          (λ h.
+          let (e, (i, j, a, b, x, y)) = h in (
+            end-iff .0 e,
+            (
+              i,
+              j,
+              both-step-iff r s next′ (firstAt s) c i j .1 (a, b),
+              record { in-whole = whole .rest-iff i (a .0) t .1 x; in-second = y },
+            ),
+          )),
+      ⊎-map
+          (λ h.
+          let (i, j, step, x) = h in
+          let (a, b) = both-step-iff r r next next′ c i j .0 step in
+          (i, j, a, b, x))
+          (λ h.
+          let (e, (i, j, step, l)) = h in
+          let (a, b) = both-step-iff r s next′ (firstAt s) c i j .0 step in
+          (end-iff .1 e, (i, j, a, b, whole .rest-iff i (step .left) t .0 (l .in-whole), l .in-second))),
+    )
 
--- the same behind two positions of r: the empty text has no two cuts
+-- behind two positions of r the empty text has no two cuts
 pub early-end : (r s : Pattern) (p q : ℕ) → ¬ Early r s p q []
 early-end r s p q = apart-end (restAt r p) (restAt r q) s
 
@@ -312,99 +356,50 @@ early-step-iff r s w whole p q h k =
     (follow-law r q k)
     (last-law r p h)
 
--- ---- Two ends of one text
+-- ---- The test of a text with two cuts
 
--- below n, `least` passes
-least-below : (n : ℕ) (test : ℕ → Bool) → least n test < n → test (least n test) ≡ true
-unfolding least
-least-below zero test h = absurd (not-suc-le-zero h)
-least-below (suc n) test h = go (test zero) refl h (least-below n (λ i. test (suc i)))
-  where
-    later : ℕ
-    later = least n (λ i. test (suc i))
-
-    go :
-        (b : Bool)
-        → test zero ≡ b
-        → cond b zero (suc later) < suc n
-        → (later < n → test (suc later) ≡ true)
-        → test (cond b zero (suc later)) ≡ true
-    go true e h rec = e
-    go false e h rec = rec (le-of-suc-le-suc h)
-
--- and it is at most what passes
-least-most : (n : ℕ) (test : ℕ → Bool) (k : ℕ) → test k ≡ true → least n test ≤ k
-unfolding least
-least-most zero test k e = omega arith
-least-most (suc n) test k e = go (test zero) refl k e (least-most n (λ i. test (suc i)))
-  where
-    later : ℕ
-    later = least n (λ i. test (suc i))
-
-    go : (b : Bool) → test zero ≡ b → (k : ℕ) → test k ≡ true → ((j : ℕ) → test (suc j) ≡ true → later ≤ j) → cond b zero (suc later) ≤ k
-    go true p k e rec = omega arith
-    go false p zero e rec = absurd (not-both e p)
-    go false p (suc k) e rec = omega (arith, rec k e)
-
--- the test for an end
-end-in : (r s : Pattern) (t : Text) (e : ℕ) → isEnd r s t e ≡ true → In r (take e t) × In s (drop e t)
-unfolding isEnd
-end-in r s t e h =
-    let (a, b) = and-both (matches r (take e t)) (matches s (drop e t)) h in
-    (matches-in r (take e t) a, matches-in s (drop e t) b)
-
-in-end : (r s : Pattern) (t : Text) (e : ℕ) → In r (take e t) → In s (drop e t) → isEnd r s t e ≡ true
-unfolding isEnd
-in-end r s t e i j = and-of (matches r (take e t)) (matches s (drop e t)) (in-matches r (take e t) i) (in-matches s (drop e t) j)
-
--- of two ends, one is smaller
-smaller : (a b : ℕ) {C : Type 0} → ¬ (a ≡ b) → (a < b → C) → (b < a → C) → C
-smaller a b other left right =
-    ⊎-elim
-    (λ e. left (ltb-true a b e))
-    (λ e. let h = ltb-false a b e in right (omega arith))
-    (bool-cases (ltb a b))
-
--- the test for two cuts
+-- the test is true exactly of a text with two cuts
 pub cutTwice-iff : (r s : Pattern) (t : Text) → (cutTwice r s t ≡ true) ↔ CutTwice r s t
-unfolding cutTwice secondEnd firstEnd
+unfolding cutTwice
 cutTwice-iff r s t = (to, from)
   where
-    n : ℕ
-    n = suc (length t)
-
-    first : ℕ
-    first = least n (isEnd r s t)
-
-    above : ℕ → Bool
-    above i = isEnd r s t (suc first + i)
-
-    second : ℕ
-    second = least (n - suc first) above
-
-    to : leb (suc first + second) (length t) ≡ true → CutTwice r s t
+    to : cutTwice r s t ≡ true → CutTwice r s t
     to e =
-        let h = leb-true (suc first + second) (length t) e in
-        let (a, b) = end-in r s t first (least-below n (isEnd r s t) (omega arith)) in
-        let (a′, b′) = end-in r s t (suc first + second) (least-below (n - suc first) above (omega arith)) in
-        record {
-          end = first;
-          end′ = suc first + second;
-          cut = (omega arith, a, b);
-          cut′ = (h, a′, b′);
-          other-end = λ q. omega arith;
-        }
+        let (a, b, l) = two-ends r s t e in
+        record { end = firstEnd r s t; end′ = secondEnd r s t; cut = a; cut′ = b; other-end = λ p. omega arith }
 
-    -- the smaller end is no smaller than the first, so the larger one lies above that
-    found : (e e′ : ℕ) → EndAt r s t e → EndAt r s t e′ → e < e′ → leb (suc first + second) (length t) ≡ true
-    found e e′ (h, a, b) (h′, a′, b′) l =
-        let low = least-most n (isEnd r s t) e (in-end r s t e a b) in
-        let back : suc first + (e′ - suc first) ≡ e′ = omega arith in
-        let up = least-most (n - suc first) above (e′ - suc first) (rw back (in-end r s t e′ a′ b′)) in
-        le-leb (suc first + second) (length t) (omega arith)
+    -- the larger of two ends is above the first
+    above : (d e : ℕ) → EndAt r s t d → EndAt r s t e → d < e → cutTwice r s t ≡ true
+    above d e a b l =
+        let p = first-smallest r s t d a in
+        let q = second-smallest r s t e b (omega arith) in
+        le-leb (secondEnd r s t) (length t) (omega (arith, b .0))
 
-    from : CutTwice r s t → leb (suc first + second) (length t) ≡ true
-    from c = smaller (c .end) (c .end′) (c .other-end) (found (c .end) (c .end′) (c .cut) (c .cut′)) (found (c .end′) (c .end) (c .cut′) (c .cut))
+    from : CutTwice r s t → cutTwice r s t ≡ true
+    from h =
+        ⊎-elim
+        (λ p. above (h .end) (h .end′) (h .cut) (h .cut′) (ltb-true (h .end) (h .end′) p))
+        (λ p. above (h .end′) (h .end) (h .cut′) (h .cut) (omega (arith, ltb-false (h .end) (h .end′) p, h .other-end)))
+        (bool-cases (ltb (h .end) (h .end′)))
+
+-- two first halves of one text that are equally long are the same
+same-halves : (u v u′ v′ : Text) → u ++ v ≡ u′ ++ v′ → length u ≡ length u′ → u ≡ u′
+same-halves u v u′ v′ e l =
+    let h : take (length u) (u ++ v) ≡ take (length u′) (u′ ++ v′) = cc in
+    sym (take-append-seam u v) ∙ h ∙ take-append-seam u′ v′
+
+-- a text that is cut into two pairs of halves passes
+pub halves-test : (r s : Pattern) (c : TwoCuts r s) → cutTwice r s (c .left ++ c .right) ≡ true
+halves-test r s c =
+    let t = c .left ++ c .right in
+    cutTwice-iff r s t .1
+    (record {
+      end = length (c .left);
+      end′ = length (c .left′);
+      cut = end-behind r s t (c .left) (c .right) refl (c .left-in) (c .right-in);
+      cut′ = end-behind r s t (c .left′) (c .right′) (c .same-text) (c .left-in′) (c .right-in′);
+      other-end = λ l. c .other-cut (same-halves (c .left) (c .right) (c .left′) (c .right′) (c .same-text) l);
+    })
 
 -- ---- A text with two cuts, from the start
 
@@ -420,11 +415,14 @@ between (b ∷ t) (suc e) (suc e′) h k =
     (c, x, ap (λ y. b ∷ y) p, q)
 
 -- A text with two cuts is read twice from the start of r, and one reading comes to its cut before the other.
-apart-iff : (r s : Pattern) (t : Text) → CutTwice r s t ↔ Apart r r s t
+pub apart-iff : (r s : Pattern) (t : Text) → (cutTwice r s t ≡ true) ↔ Apart r r s t
 apart-iff r s t = (to, from)
   where
-    apart : (e e′ : ℕ) → EndAt r s t e → EndAt r s t e′ → e < e′ → Apart r r s t
-    apart e e′ (h, a, b) (h′, a′, b′) l =
+    to : cutTwice r s t ≡ true → Apart r r s t
+    to told =
+        let ((h, a, b), (h′, a′, b′), l) = two-ends r s t told in
+        let e = firstEnd r s t in
+        let e′ = secondEnd r s t in
         let (c, x, p, q) = between t e e′ l h′ in
         record {
           u = take e t;
@@ -438,27 +436,21 @@ apart-iff r s t = (to, from)
           second-rest = b′;
         }
 
-    to : CutTwice r s t → Apart r r s t
-    to c = smaller (c .end) (c .end′) (c .other-end) (apart (c .end) (c .end′) (c .cut) (c .cut′)) (apart (c .end′) (c .end) (c .cut′) (c .cut))
-
-    -- the end behind u
-    end-behind : (u v : Text) → t ≡ u ++ v → In r u → In s v → EndAt r s t (length u)
-    end-behind u v e i j = rw e (simp length-append (omega arith), rw (take-append-seam u v) i, rw (drop-append-seam u v) j)
-
-    from : Apart r r s t → CutTwice r s t
+    from : Apart r r s t → cutTwice r s t ≡ true
     from a =
         let w = a .c ∷ a .x in
-        record {
+        cutTwice-iff r s t .1
+        (record {
           end = length (a .u);
           end′ = length (a .u ++ w);
-          cut = end-behind (a .u) (w ++ a .v) (a .text-is ∙ append-assoc (a .u) w (a .v)) (a .first-in) (a .first-rest);
-          cut′ = end-behind (a .u ++ w) (a .v) (a .text-is) (a .second-in) (a .second-rest);
+          cut = end-behind r s t (a .u) (w ++ a .v) (a .text-is ∙ append-assoc (a .u) w (a .v)) (a .first-in) (a .first-rest);
+          cut′ = end-behind r s t (a .u ++ w) (a .v) (a .text-is) (a .second-in) (a .second-rest);
           other-end = λ e. omega (arith, simp length-append at e);
-        }
+        })
 
 -- the empty text has no two cuts
 pub cut-end : (r s : Pattern) → cutTwice r s [] ≡ false
-cut-end r s = false-of-not-true (cutTwice r s []) (λ e. apart-end r r s (apart-iff r s [] .0 (cutTwice-iff r s [] .0 e)))
+cut-end r s = false-of-not-true (cutTwice r s []) (λ e. apart-end r r s (apart-iff r s [] .0 e))
 
 -- both go on in r; or the first half may be empty, and r and s begin
 pub cut-step-iff :
@@ -468,5 +460,5 @@ pub cut-step-iff :
     ⊎ ((nullable r ≡ true) × ((i : ℕ) × (j : ℕ) × BothStep r s (firstAt r) (firstAt s) c i j × Late w s i j t)))
 cut-step-iff r s w whole c t =
     Iff·trans
-    (Iff·trans (cutTwice-iff r s (c ∷ t)) (apart-iff r s (c ∷ t)))
+    (apart-iff r s (c ∷ t))
     (apart-step-iff r r r s w (firstAt r) (firstAt r) (nullable r) whole (first-law r) (first-law r) (in-nullable r, nullable-in r) c t)

@@ -1,6 +1,6 @@
 -- The pass backward: a byte put in front of a text, and the flags that are set place by place. Assumes nothing.
 use mathlib.Core.Path.{_≡_, refl, sym, ap, _∙_}
-use mathlib.Core.Bool.{Bool, true, false}
+use mathlib.Core.Bool.{Bool, true}
 use mathlib.Core.List.{List, _∷_}
 use mathlib.Core.Logic.{_↔_, _≢_, ⊎-elim, Iff·symm, Iff·trans}
 use Prim.Native.Nat.{ℕ, suc, _≤_, _<_}
@@ -11,9 +11,10 @@ use lib.ListN.{length, getD, set, drop}
 use lib.Seq.{drop-cons, drop-length, getD-set-same, getD-set-other}
 use Rattle.semantics.specs.Text.{Text}
 use Rattle.semantics.specs.Pattern.{Pattern, In, matches}
-use Rattle.laws.specs.Basics.{bool-cases, not-both, false-of-not-true}
+use Rattle.laws.specs.Basics.{bool-cases}
 use Rattle.laws.specs.Membership.{matches-iff}
 use Rattle.laws.specs.PositionAutomaton.{first-law}
+use Rattle.clash.specs.Ends.{same-test}
 use Rattle.positions.specs.declared.Set.{Set}
 use Rattle.positions.specs.Positions.{Shared}
 use Rattle.automaton.specs.declared.Automaton.{Automaton}
@@ -25,11 +26,6 @@ use Rattle.language.proofs.Steps.{few, counted, stands-is, behind-begins}
 use Rattle.ends.specs.Places.{Retreated, flagged, Flagged}
 
 -- ---- One byte
-
--- Two tests that are true of the same agree.
-same-test : (x y : Bool) → (x ≡ true) ↔ (y ≡ true) → x ≡ y
-same-test true y is = sym (is .0 refl)
-same-test false y is = sym (false-of-not-true y (λ e. not-both (is .1 e) refl))
 
 -- A text belongs exactly if its first byte may stand at a position at which a text can begin and behind which the rest may stand.
 begins-iff :

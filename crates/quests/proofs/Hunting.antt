@@ -1,16 +1,17 @@
 -- From the layers and the text that is written to what the search finds. Assumes nothing.
 use mathlib.Core.Path.{_≡_, refl, ap, _∙_}
 use mathlib.Core.Bool.{Bool, true}
-use mathlib.Core.List.{List, _++_}
+use mathlib.Core.List.{List, [], _∷_, _++_}
 use Prim.Native.Nat.{ℕ, zero, suc, _+_, _*_, _/_, _%_, _≤_, _<_}
 use native.Mathlib.Omega.{arith}
 use lib.ListN.{length, getD, drop}
-use Rattle.semantics.specs.Text.{Text}
+use Rattle.semantics.specs.Text.{Text, All}
+use Rattle.laws.specs.Bytes.{IsByte}
 use Rattle.clash.specs.Clash.{Given}
 use Rattle.automaton.specs.declared.Automaton.{Automaton}
 use Rattle.automaton.specs.Rows.{Room}
 use Rattle.search.specs.declared.patches.Quest.{Quest}
-use Rattle.search.specs.Graph.{Graph, Accepts}
+use Rattle.search.specs.Graph.{Graph, Way, Accepts}
 use Rattle.search.specs.Pairs.{graphOf, QuestFits}
 use Rattle.search.specs.Layers.{AllFresh, Layered, Filled}
 use Rattle.search.specs.Texts.{EntriesRoom, NoneAlive}
@@ -29,6 +30,17 @@ layers-deep {starts = starts} lay (suc d) h =
 
 pub filled-deep : {g : Graph} {order starts : List ℕ} {depth : ℕ} → Filled g order starts depth → depth ≤ length order
 filled-deep {depth = depth} filled = let lay = filled .layered in omega (arith, layers-deep lay depth (omega arith), lay .last-from, lay .inside)
+
+-- a way is made of bytes, and so is an accepted text
+way-bytes : (g : Graph) (pair : ℕ) (t : Text) → Way g pair t → All IsByte t
+unfolding Way
+way-bytes g pair [] w = tt
+way-bytes g pair (c ∷ t) (next, s, w) = (s .byte, way-bytes g next t w)
+
+accepted-bytes : (g : Graph) (t : Text) → Accepts g t → All IsByte t
+unfolding Accepts
+accepted-bytes g [] a = absurd a
+accepted-bytes g (c ∷ t) (pair, byte, begins, stands, w) = (byte, way-bytes g pair t w)
 
 -- no pair is alive in cleared cells
 pub none-alive : {alive : List ℕ} → Cleared 1024 alive → NoneAlive alive
@@ -65,6 +77,10 @@ module _
           })
 
       module _ {test : Text → Bool} (asks : Asks prepared part whole rest q test) where
+        -- the texts that can be found are made of bytes, and none is shorter than the layers are deep
+        bytes-hunted : (t : Text) → test t ≡ true → All IsByte t
+        bytes-hunted t passes = accepted-bytes (graphOf prepared q leads) t (asks leads tables t .1 passes)
+
         least-hunted : (t : Text) → test t ≡ true → depth + 1 ≤ length t
         least-hunted t passes =
             omega (arith, accepted-long (graph-bounded prepared q leads fits-quest) (filled .layered) t (asks leads tables t .1 passes))
@@ -76,7 +92,7 @@ module _
 
         -- The text has no room,
         pub hunted-short : (out : Text) → length out < depth + 1 → Hunted test out out (depth + 1)
-        hunted-short out short = record { least = least-hunted; some = some-hunted; short = λ h. refl; fits = λ h. absurd (omega arith) }
+        hunted-short out short = record { of-bytes = bytes-hunted; least = least-hunted; some = some-hunted; short = λ h. refl; fits = λ h. absurd (omega arith) }
 
         -- or it is written.
         pub hunted-fits :
@@ -84,6 +100,7 @@ module _
             → {n : ℕ} → after ≡ t ++ drop n out → n ≡ depth + 1 → Hunted test out after (depth + 1)
         hunted-fits t out after given long room after-is same =
             record {
+              of-bytes = bytes-hunted;
               least = least-hunted;
               some = some-hunted;
               short = λ h. absurd (omega arith);

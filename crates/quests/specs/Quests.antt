@@ -5,7 +5,8 @@ use mathlib.Core.List.{List, _++_}
 use mathlib.Core.Logic.{_↔_}
 use Prim.Native.Nat.{ℕ, _+_, _*_, _≤_, _<_}
 use lib.ListN.{length, drop}
-use Rattle.semantics.specs.Text.{Text}
+use Rattle.semantics.specs.Text.{Text, All}
+use Rattle.laws.specs.Bytes.{IsByte}
 use Rattle.clash.specs.Clash.{Given}
 use Rattle.positions.specs.declared.Set.{Set}
 use Rattle.positions.specs.Positions.{holds}
@@ -115,8 +116,10 @@ pub record Answerable (prepared : List ℕ) (part whole rest : Automaton) (q : Q
   pub text : Text
   pub passes : test text ≡ true
 
--- r is the length of the shortest texts of which the test is true; the lowest of them stands at the start of the buffer, if that is long enough.
+-- Texts of which the test is true are made of bytes, and r is the length of the shortest; the lowest of these stands at the start of the buffer, if
+-- that is long enough.
 pub record Hunted (test : Text → Bool) (before after : Text) (r : ℕ) : Type 0 where
+  pub of-bytes : (t : Text) → test t ≡ true → All IsByte t
   pub least : (t : Text) → test t ≡ true → r ≤ length t
   pub some : (t : Text) × (test t ≡ true) × (length t ≡ r)
   pub short : length before < r → after ≡ before
