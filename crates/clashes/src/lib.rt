@@ -84,7 +84,10 @@ pub fn clash_refused(
     let shown = show(bytes, prepared, node, side_of(number), out);
     let length = shown.length;
     if out.len() < length {
-        return ClashAnswer::Refusal { number: 17, node: 0 };
+        return ClashAnswer::Refusal {
+            number: 17,
+            node: 0,
+        };
     }
     ClashAnswer::Clash {
         number,

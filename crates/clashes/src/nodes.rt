@@ -33,13 +33,7 @@ pub fn show_join(
 }
 
 // A text of a repeat with two cuts into its first part and the others; the empty one, if that is a part.
-pub fn show_repeat(
-    prepared: &[u64],
-    child: usize,
-    node: usize,
-    side: Side,
-    out: &mut [u8],
-) -> Shown
+pub fn show_repeat(prepared: &[u64], child: usize, node: usize, side: Side, out: &mut [u8]) -> Shown
     requires { ⌜ (Stands (now prepared) child) × (Stands (now prepared) node) ⌝ }
     requires { ⌜ ListAsked (now prepared) (automatonAt (now prepared) child side) (automatonAt (now prepared) node side) ⌝ }
     ensures { λ res. ⌜ ((r : Pattern) (n : Node) → ListRule (now (prepared .entry)) (automatonAt (now (prepared .entry)) child side) (automatonAt (now (prepared .entry)) node side) r → Shows (oneList r) n (now (out .entry)) (now (out .exit)) res) ⌝ }
@@ -53,13 +47,7 @@ pub fn show_repeat(
 }
 
 // A text of both arms of a union: its length.
-pub fn show_union(
-    prepared: &[u64],
-    left: usize,
-    right: usize,
-    side: Side,
-    out: &mut [u8],
-) -> usize
+pub fn show_union(prepared: &[u64], left: usize, right: usize, side: Side, out: &mut [u8]) -> usize
     requires { ⌜ (Stands (now prepared) left) × (Stands (now prepared) right) ⌝ }
     requires { ⌜ ArmAsked (now prepared) (automatonAt (now prepared) left side) (automatonAt (now prepared) right side) ⌝ }
     ensures { λ res. ⌜ ((r s : Pattern) → ArmRule (now (prepared .entry)) (automatonAt (now (prepared .entry)) left side) (automatonAt (now (prepared .entry)) right side) r s → ShowsText (oneArm r s) (now (out .entry)) (now (out .exit)) res) ⌝ }

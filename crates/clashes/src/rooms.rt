@@ -55,7 +55,16 @@ fn find_small(
 {
     let mut order = small_order();
     let mut starts = small_starts();
-    hunt(prepared, quest, part, whole, rest, &mut order, &mut starts, out)
+    hunt(
+        prepared,
+        quest,
+        part,
+        whole,
+        rest,
+        &mut order,
+        &mut starts,
+        out,
+    )
 }
 
 fn find_full(
@@ -72,7 +81,16 @@ fn find_full(
 {
     let mut order = full_order();
     let mut starts = full_starts();
-    hunt(prepared, quest, part, whole, rest, &mut order, &mut starts, out)
+    hunt(
+        prepared,
+        quest,
+        part,
+        whole,
+        rest,
+        &mut order,
+        &mut starts,
+        out,
+    )
 }
 
 // The search in the room that its pairs need. It calls itself for the larger room, so that the arrays of the two never lie on the stack together.

@@ -80,12 +80,7 @@ pub fn show_cut(
 }
 
 // The length of a text of both arms: 0, if the empty one belongs to both.
-pub fn show_overlap(
-    prepared: &[u64],
-    left: Automaton,
-    right: Automaton,
-    out: &mut [u8],
-) -> usize
+pub fn show_overlap(prepared: &[u64], left: Automaton, right: Automaton, out: &mut [u8]) -> usize
     requires { ⌜ (Rows.Room left (now prepared)) × (Rows.Room right (now prepared)) ⌝ }
     requires { ⌜ ArmAsked (now prepared) left right ⌝ }
     ensures { λ res. ⌜ ((r s : Pattern) → ArmRule (now (prepared .entry)) left right r s → ShowsText (oneArm r s) (now (out .entry)) (now (out .exit)) res) ⌝ }

@@ -11,11 +11,11 @@ ghost use lib.ListN.{length, drop};
 ghost use Rattle.semantics.specs.Calls.{checkCall, lenscheckLine};
 ghost use Rattle.answers.specs.Contracts.{answerFor};
 
-pub mod show;
 pub mod create;
 pub mod get;
 pub mod put;
 mod rooms;
+pub mod show;
 
 // The call Check.
 pub fn check(bytes: &[u8]) -> Answer

@@ -36,9 +36,21 @@ pub fn cut_quest(part: Automaton, whole: Automaton, rest: Automaton) -> Quest
         rests: rest.count,
         last: last,
         first: second,
-        early: Patch { base: 0, rows: first, columns: first },
-        late: Patch { base: 128, rows: opening, columns: second },
-        goal: Patch { base: 128, rows: whole_last, columns: rest_last },
+        early: Patch {
+            base: 0,
+            rows: first,
+            columns: first,
+        },
+        late: Patch {
+            base: 128,
+            rows: opening,
+            columns: second,
+        },
+        goal: Patch {
+            base: 128,
+            rows: whole_last,
+            columns: rest_last,
+        },
     }
 }
 
@@ -60,9 +72,21 @@ pub fn arm_quest(left: Automaton, right: Automaton) -> Quest
         rests: right.count,
         last: nothing,
         first: nothing,
-        early: Patch { base: 0, rows: nothing, columns: nothing },
-        late: Patch { base: 128, rows: left_first, columns: right_first },
-        goal: Patch { base: 128, rows: left_last, columns: right_last },
+        early: Patch {
+            base: 0,
+            rows: nothing,
+            columns: nothing,
+        },
+        late: Patch {
+            base: 128,
+            rows: left_first,
+            columns: right_first,
+        },
+        goal: Patch {
+            base: 128,
+            rows: left_last,
+            columns: right_last,
+        },
     }
 }
 
@@ -100,7 +124,13 @@ fn none_alive() -> [u64; 1024]
 }
 
 // For each position those that it may follow: the part's, the whole's and the rest's, 128 sets each.
-fn fill_tables(prepared: &[u64], part: Automaton, whole: Automaton, rest: Automaton, leads: &mut [u64])
+fn fill_tables(
+    prepared: &[u64],
+    part: Automaton,
+    whole: Automaton,
+    rest: Automaton,
+    leads: &mut [u64],
+)
     requires { ⌜ (Room part (now prepared)) × (Room whole (now prepared)) × (Room rest (now prepared)) ⌝ }
     requires { ⌜ Cleared 768 (now leads) ⌝ }
     ensures { λ _. ⌜ Tables (now (prepared .entry)) part whole rest (now (leads .exit)) ⌝ }
@@ -111,7 +141,13 @@ fn fill_tables(prepared: &[u64], part: Automaton, whole: Automaton, rest: Automa
 }
 
 // All pairs that share a byte are fresh.
-fn fill_fresh(prepared: &[u64], part: Automaton, whole: Automaton, rest: Automaton, fresh: &mut [u64])
+fn fill_fresh(
+    prepared: &[u64],
+    part: Automaton,
+    whole: Automaton,
+    rest: Automaton,
+    fresh: &mut [u64],
+)
     requires { ⌜ (Room part (now prepared)) × (Room whole (now prepared)) × (Room rest (now prepared)) ⌝ }
     requires { ⌜ Cleared 512 (now fresh) ⌝ }
     ensures { λ _. ⌜ FreshIn (now (prepared .entry)) part whole rest (now (fresh .exit)) ⌝ }
@@ -146,6 +182,14 @@ pub fn hunt(
         return length;
     }
     let mut alive = none_alive();
-    write_text(prepared, quest, &leads, order, starts, &mut alive, &mut out[0..length]);
+    write_text(
+        prepared,
+        quest,
+        &leads,
+        order,
+        starts,
+        &mut alive,
+        &mut out[0..length],
+    );
     length
 }

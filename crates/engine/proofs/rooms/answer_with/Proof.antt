@@ -5,7 +5,7 @@ use denote.Ref.{now}
 use mathlib.Core.Path.{refl, _∙_}
 use Rattle.answers.proofs.Verdicts.{accepted-sizes, check-accepts}
 use Rattle.engine.specs.Rooms.{Owed}
-use Rattle.engine.proofs.Tries.{owes-as}
+use Rattle.engine.proofs.Tries.{owes-as, clash-accepts}
 use Rattle.engine.proofs.rooms.answer_with.Statement.{statement}
 use Rattle.engine.proofs.rooms.answer_with.Tie as tie
 
@@ -22,7 +22,7 @@ enum-told-2 : tie.Need-enum-told-2
 enum-told-2 c = search needs
 
 get-with-requires : tie.Need-get-with-requires
-get-with-requires c κs = c .before .before .before .before .before .before .before .before .pre
+get-with-requires c κs = search needs
 
 uncounted-requires-2 : tie.Need-uncounted-requires-2
 uncounted-requires-2 c κs = search needs
@@ -31,13 +31,13 @@ enum-told-3 : tie.Need-enum-told-3
 enum-told-3 c = search needs
 
 put-with-requires : tie.Need-put-with-requires
-put-with-requires c κs = c .before .before .before .before .before .before .before .before .pre
+put-with-requires c κs = search needs
 
 enum-told-4 : tie.Need-enum-told-4
 enum-told-4 c = search needs
 
 create-with-requires : tie.Need-create-with-requires
-create-with-requires c κs = c .before .before .before .before .before .before .before .before .pre
+create-with-requires c κs = search needs
 
 uncounted-requires-3 : tie.Need-uncounted-requires-3
 uncounted-requires-3 c κs = search needs
@@ -46,10 +46,16 @@ enum-told-5 : tie.Need-enum-told-5
 enum-told-5 c = search needs
 
 line-with-requires : tie.Need-line-with-requires
-line-with-requires c κs = c .before .before .before .before .before .before .before .before .pre
+line-with-requires c κs = search needs
 
 uncounted-requires-4 : tie.Need-uncounted-requires-4
 uncounted-requires-4 c κs = search needs
+
+enum-told-6 : tie.Need-enum-told-6
+enum-told-6 c = search needs
+
+clashed-requires : tie.Need-clashed-requires
+clashed-requires c κs = search needs
 
 returns : tie.Need-returns
 unfolding Owed
@@ -83,6 +89,9 @@ returns-5 : tie.Need-returns-5
 unfolding Owed
 returns-5 c = owes-as (c .before .before .before .before .before .enum-told5 .given .1) (record { owed = rw (c .uncounted4 .ensures) (c .before .before .before .line-with .ensures) })
 
+returns-6 : tie.Need-returns-6
+returns-6 c = owes-as (c .before .enum-told6 .given .1) (clash-accepts (c .before .before .before .before .before .before .before .before .pre .accepted) (c .clashed .ensures))
+
 pub answer-with-spec : {M : Type 1} → statement M
 answer-with-spec =
     tie.close
@@ -101,6 +110,8 @@ answer-with-spec =
     enum-told-5
     line-with-requires
     uncounted-requires-4
+    enum-told-6
+    clashed-requires
     returns
     same-length
     returns-2
@@ -109,4 +120,5 @@ answer-with-spec =
     same-length-3
     returns-4
     same-length-4
-    returns-5)
+    returns-5
+    returns-6)

@@ -5,7 +5,6 @@ use mathlib.Core.Path.{refl, subst}
 use Rattle.answers.specs.Answers.{TooSmall, CheckedIs}
 use Rattle.answers.proofs.Verdicts.{told}
 use Rattle.engine.specs.Rooms.{TriedIs}
-use Rattle.engine.proofs.Tries.{refused-to}
 use Rattle.engine.proofs.rooms.try_in.Statement.{statement}
 use Rattle.engine.proofs.rooms.try_in.Tie as tie
 
@@ -22,8 +21,9 @@ answer-with-requires c κs = told _ _ (c .before .before .before .before .before
 enum-known-checked : tie.Need-enum-known-checked
 enum-known-checked c = search needs
 
-uncounted-requires : tie.Need-uncounted-requires
-uncounted-requires c κs = search needs
+refuse-with-requires : tie.Need-refuse-with-requires
+unfolding CheckedIs
+refuse-with-requires c κs = told _ _ (c .before .before .before .before .before .before .before .check-in .ensures) (c .before .before .before .checked .given .1)
 
 enum-told-2 : tie.Need-enum-told-2
 enum-told-2 c = search needs
@@ -41,12 +41,15 @@ returns c = record { tried-is = c .before .before .answer-with .ensures }
 same-length-3 : tie.Need-same-length-3
 same-length-3 c = search needs
 
-returns-2 : tie.Need-returns-2
-unfolding TriedIs CheckedIs
-returns-2 c = record { tried-is = refused-to (told _ _ (c .before .before .before .before .before .before .check-in .ensures) (c .before .before .checked .given .1)) (c .uncounted .ensures) }
-
 same-length-4 : tie.Need-same-length-4
 same-length-4 c = search needs
+
+returns-2 : tie.Need-returns-2
+unfolding TriedIs
+returns-2 c = record { tried-is = c .before .before .refuse-with .ensures _ _ }
+
+same-length-5 : tie.Need-same-length-5
+same-length-5 c = search needs
 
 returns-3 : tie.Need-returns-3
 unfolding TriedIs CheckedIs
@@ -60,12 +63,13 @@ try-in-spec =
     enum-told
     answer-with-requires
     enum-known-checked
-    uncounted-requires
+    refuse-with-requires
     enum-told-2
     same-length
     same-length-2
     returns
     same-length-3
-    returns-2
     same-length-4
+    returns-2
+    same-length-5
     returns-3)
