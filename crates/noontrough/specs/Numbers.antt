@@ -1,4 +1,4 @@
--- What the numbers tell: number 0 says that there is a result, and different answers have different numbers.
+-- What the numbers tell: number 0 says that there is a result, clash's outcome says which answer it is, and different answers have different numbers.
 use mathlib.Core.Path.{_≡_, refl, ap}
 use mathlib.Core.Logic.{_↔_}
 use Prim.Native.Nat.{ℕ}
@@ -8,14 +8,20 @@ use Rattle.semantics.specs.Text.{Text}
 use Rattle.semantics.specs.Calls.{gives, refuses, checkCall, getCall, putCall, createCall}
 use Rattle.semantics.specs.Calls.{Answer as Outcome}
 use Rattle.semantics.specs.Tally.{Tally, putTally}
+use Rattle.clash.specs.Clash.{noClash, clash, refused, clashCall}
+use Rattle.clash.specs.Clash as Clashes
 use Rattle.laws.specs.Basics.{never}
 use Rattle.laws.specs.Refusals.{Named, check-named, get-named, put-named, create-named}
 use Rattle.answers.specs.declared.Answer.the-variants.{Result}
 use Rattle.answers.specs.declared.PutAnswer.the-variants as P
-use Rattle.answers.specs.Contracts.{answerFor, putAnswerFor}
+use Rattle.answers.specs.declared.ClashAnswer.{ClashAnswer}
+use Rattle.answers.specs.declared.ClashAnswer.the-variants.{Accepted, Clash}
+use Rattle.answers.specs.declared.ClashAnswer.the-variants as C
+use Rattle.answers.specs.Contracts.{answerFor, putAnswerFor, clashAnswerFor}
 use Rattle.noontrough.specs.declared.Numbers.{Numbers}
 use Rattle.noontrough.specs.declared.PutNumbers.{PutNumbers}
-use Rattle.noontrough.specs.Exports.{numbersOf, putNumbersOf, ExportsText, ExportsSource}
+use Rattle.noontrough.specs.declared.ClashNumbers.{ClashNumbers}
+use Rattle.noontrough.specs.Exports.{numbersOf, putNumbersOf, clashNumbersOf, ExportsText, ExportsSource, ExportsClash}
 
 -- ---- Number 0
 
@@ -86,6 +92,61 @@ pub check-result-iff :
     → (numbers .number ≡ 0) ↔ ((n : ℕ) × (checkCall table ≡ gives n))
 check-result-iff table numbers = zero-iff (λ (n : ℕ). n) (checkCall table) numbers (check-named table)
 
+-- ---- Clash's outcome
+
+-- 0, 1 or 2
+abbrev kindOf : Clashes.Outcome → ℕ
+kindOf noClash = 0
+kindOf (clash number node t ends) = 1
+kindOf (refused number node) = 2
+
+kind-told :
+    (outcome : Clashes.Outcome) (before after : Text) (numbers : ClashNumbers)
+    → ExportsClash outcome before after numbers
+    → numbers .outcome ≡ kindOf outcome
+unfolding clashAnswerFor
+kind-told noClash before after numbers exported = ap (λ (m : ClashNumbers). m .outcome) (exported .numbers-are)
+kind-told (clash number node t ends) before after numbers exported = ap (λ (m : ClashNumbers). m .outcome) (exported .numbers-are)
+kind-told (refused number node) before after numbers exported = ap (λ (m : ClashNumbers). m .outcome) (exported .numbers-are)
+
+kind-0 : (outcome : Clashes.Outcome) → (kindOf outcome ≡ 0) ↔ (outcome ≡ noClash)
+kind-0 noClash = (λ z. refl, λ r. refl)
+kind-0 (clash number node t ends) = (λ z. absurd (omega arith), λ r. never (cc))
+kind-0 (refused number node) = (λ z. absurd (omega arith), λ r. never (cc))
+
+kind-1 :
+    (outcome : Clashes.Outcome)
+    → (kindOf outcome ≡ 1) ↔ ((number : ℕ) × (node : ℕ) × (t : Text) × (ends : ℕ × ℕ) × (outcome ≡ clash number node t ends))
+kind-1 noClash = (λ z. absurd (omega arith), λ r. never (let wrong = r .4 in cc))
+kind-1 (clash number node t ends) = (λ z. (number, node, t, ends, refl), λ r. refl)
+kind-1 (refused number node) = (λ z. absurd (omega arith), λ r. never (let wrong = r .4 in cc))
+
+kind-2 : (outcome : Clashes.Outcome) → (kindOf outcome ≡ 2) ↔ ((number : ℕ) × (node : ℕ) × (outcome ≡ refused number node))
+kind-2 noClash = (λ z. absurd (omega arith), λ r. never (let wrong = r .2 in cc))
+kind-2 (clash number node t ends) = (λ z. absurd (omega arith), λ r. never (let wrong = r .2 in cc))
+kind-2 (refused number node) = (λ z. (number, node, refl), λ r. refl)
+
+module _
+    (table before after : Text)
+    (numbers : ClashNumbers)
+    (exported : ExportsClash (clashCall table (length before)) before after numbers) where
+  told : numbers .outcome ≡ kindOf (clashCall table (length before))
+  told = kind-told (clashCall table (length before)) before after numbers exported
+
+  -- outcome 0: no clash
+  pub no-clash-iff : (numbers .outcome ≡ 0) ↔ (clashCall table (length before) ≡ noClash)
+  no-clash-iff = rw told (kind-0 (clashCall table (length before)))
+
+  -- outcome 1: a clash
+  pub clash-iff :
+      (numbers .outcome ≡ 1)
+      ↔ ((number : ℕ) × (node : ℕ) × (t : Text) × (ends : ℕ × ℕ) × (clashCall table (length before) ≡ clash number node t ends))
+  clash-iff = rw told (kind-1 (clashCall table (length before)))
+
+  -- outcome 2: a refusal
+  pub refusal-iff : (numbers .outcome ≡ 2) ↔ ((number : ℕ) × (node : ℕ) × (clashCall table (length before) ≡ refused number node))
+  refusal-iff = rw told (kind-2 (clashCall table (length before)))
+
 -- ---- Different answers
 
 pub numbers-differ :
@@ -134,3 +195,31 @@ put-numbers-differ (refuses number node) (refuses number′ node′) n n′ name
     let numbers : number ≡ number′ = ap (λ (m : PutNumbers). m .number) e in
     let nodes : node ≡ node′ = ap (λ (m : PutNumbers). m .node) e in
     cc
+
+clash-answers-differ : (answer answer′ : ClashAnswer) → clashNumbersOf answer ≡ clashNumbersOf answer′ → answer ≡ answer′
+clash-answers-differ Accepted Accepted e = refl
+clash-answers-differ Accepted (Clash number node n first second) e = let z : _≡_ {A = ℕ} 0 1 = ap (λ (m : ClashNumbers). m .outcome) e in absurd (omega arith)
+clash-answers-differ Accepted (C.Refusal number node) e = let z : _≡_ {A = ℕ} 0 2 = ap (λ (m : ClashNumbers). m .outcome) e in absurd (omega arith)
+clash-answers-differ (Clash number node n first second) Accepted e = let z : _≡_ {A = ℕ} 1 0 = ap (λ (m : ClashNumbers). m .outcome) e in absurd (omega arith)
+clash-answers-differ (Clash number node n first second) (Clash number′ node′ n′ first′ second′) e =
+    let numbers : number ≡ number′ = ap (λ (m : ClashNumbers). m .number) e in
+    let nodes : node ≡ node′ = ap (λ (m : ClashNumbers). m .node) e in
+    let lengths : n ≡ n′ = ap (λ (m : ClashNumbers). m .length) e in
+    let firsts : first ≡ first′ = ap (λ (m : ClashNumbers). m .first) e in
+    let seconds : second ≡ second′ = ap (λ (m : ClashNumbers). m .second) e in
+    cc
+clash-answers-differ (Clash number node n first second) (C.Refusal number′ node′) e =
+    let z : _≡_ {A = ℕ} 1 2 = ap (λ (m : ClashNumbers). m .outcome) e in absurd (omega arith)
+clash-answers-differ (C.Refusal number node) Accepted e = let z : _≡_ {A = ℕ} 2 0 = ap (λ (m : ClashNumbers). m .outcome) e in absurd (omega arith)
+clash-answers-differ (C.Refusal number node) (Clash number′ node′ n first second) e =
+    let z : _≡_ {A = ℕ} 2 1 = ap (λ (m : ClashNumbers). m .outcome) e in absurd (omega arith)
+clash-answers-differ (C.Refusal number node) (C.Refusal number′ node′) e =
+    let numbers : number ≡ number′ = ap (λ (m : ClashNumbers). m .number) e in
+    let nodes : node ≡ node′ = ap (λ (m : ClashNumbers). m .node) e in
+    cc
+
+pub clash-numbers-differ :
+    (outcome outcome′ : Clashes.Outcome)
+    → clashNumbersOf (clashAnswerFor outcome) ≡ clashNumbersOf (clashAnswerFor outcome′)
+    → clashAnswerFor outcome ≡ clashAnswerFor outcome′
+clash-numbers-differ outcome outcome′ = clash-answers-differ (clashAnswerFor outcome) (clashAnswerFor outcome′)

@@ -13,7 +13,8 @@ ghost use lib.ListN.{length};
 ghost use Rattle.semantics.specs.Calls.{checkCall, getCall, putCall, createCall};
 ghost use Rattle.answers.specs.Contracts.{answerFor};
 ghost use Rattle.semantics.specs.Tally.{putTally};
-ghost use Rattle.noontrough.specs.Exports.{numbersOf, putNumbersOf, ExportsText, ExportsSource};
+ghost use Rattle.clash.specs.Clash.{clashCall};
+ghost use Rattle.noontrough.specs.Exports.{numbersOf, putNumbersOf, clashNumbersOf, ExportsText, ExportsSource, ExportsClash};
 
 // 0 and the length of a result; or a refusal's number and node. What does not apply is 0.
 #[repr(C)]
