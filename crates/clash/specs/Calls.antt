@@ -1,6 +1,6 @@
 -- What the call Clash answers, said with what Check answers.
 use mathlib.Core.Path.{_≡_, refl, sym}
-use mathlib.Core.Bool.{true, false}
+use mathlib.Core.Bool.{true, false, _||_}
 use mathlib.Core.List.{[], _++_}
 use mathlib.Core.Logic.{_⊎_, inl, inr, ⊎-elim, _↔_}
 use Prim.Native.Nat.{ℕ, _≤_, _<_}
@@ -12,9 +12,9 @@ use Rattle.semantics.specs.Text.{Text, joined, All}
 use Rattle.semantics.specs.Pattern.{Pattern, In}
 use Rattle.semantics.specs.Ambiguity.{TwoCuts, Overlap, BadRepeat}
 use Rattle.semantics.specs.Lens.{Lens, copy, const, key, join, union, repeat, match, Side, source, sheet, language}
-use Rattle.semantics.specs.Table.{nodeAt, nodeCount, treeAt, trees}
+use Rattle.semantics.specs.Table.{nodeAt, nodeCount, Tree, lens, treeAt, trees, treeSize, treePositions, positions, overLimit}
 use Rattle.semantics.specs.Calls.{Answer, gives, refuses, program, withProgram, checkCall}
-use Rattle.laws.specs.Basics.{never, bool-cases, cond-false}
+use Rattle.laws.specs.Basics.{never, bool-cases, cond-false, or-neither}
 use Rattle.laws.specs.Membership.{in-nullable}
 use Rattle.laws.specs.Accepted.{Breaks}
 use Rattle.laws.specs.Refusals.{check-refusal}
@@ -27,6 +27,7 @@ use Rattle.clash.specs.Clash.{
   oneList,
   EndAt,
   Breaks as BreaksRule,
+  Given,
   firstEnd,
   secondEnd,
   cutTwice,
@@ -46,7 +47,8 @@ use Rattle.clash.specs.Clash.{
 }
 use Rattle.clash.specs.Ends.{first-smallest, second-smallest, two-ends}
 use Rattle.clash.specs.Twofold.{arm-iff, halves-test}
-use Rattle.clash.specs.Given.{breaks-broken, broken-breaks}
+use Rattle.clash.specs.Bound.{rulePositions, short-clash}
+use Rattle.clash.specs.Given.{clash-given, breaks-broken, broken-breaks}
 
 -- ---- What each answer of Check leads to
 
@@ -193,6 +195,47 @@ other-refusals bytes lent number node h = (
         (⊎-elim (λ x. let f = x .2 in let z : 17 ≡ number = cc in absurd (omega arith)) (λ x. never (let f = x .2 in cc)))
         (led bytes lent m k)
 
+-- There are no others but 17, with node 0.
+pub refused-is :
+    (bytes : Text) (lent number node : ℕ) → clashCall bytes lent ≡ refused number node → (number ≤ 6) ⊎ ((number ≡ 17) × (node ≡ 0))
+unfolding clashCall clashOf
+refused-is bytes lent number node = go (program bytes)
+  where
+    go : (p : Answer Lens) → clashOf bytes lent p ≡ refused number node → (number ≤ 6) ⊎ ((number ≡ 17) × (node ≡ 0))
+    go (gives l) e = never (cc)
+    go (refuses m k) e =
+        ⊎-elim
+        (λ x. let f = x .1 in let same : m ≡ number = cc in inl (omega (arith, x .0)))
+        (⊎-elim (λ x. let f = x .2 in inr (cc, cc)) (λ x. never (let f = x .2 in cc)))
+        (led bytes lent m k)
+
+-- 'It refuses with 17 .. only when the shortest text is longer than the lent buffer': exactly if Check refuses with 7 to 11 and it is.
+pub long-iff :
+    (bytes : Text) (lent : ℕ)
+    → (clashCall bytes lent ≡ refused 17 0)
+    ↔ ((number : ℕ)
+    × (node : ℕ)
+    × (checkCall bytes ≡ refuses number node)
+    × (7 ≤ number)
+    × (lent < length (clashText (ruleAt (sideOf number) (treeAt (trees bytes) node)))))
+unfolding clashCall clashOf
+long-iff bytes lent = (
+  λ e. let (number, node, p, h, l) = go (program bytes) refl e in (number, node, check-refuses bytes number node .1 p, h, l),
+  λ (number, node, c, h, l). let p = check-refuses bytes number node .0 c in rw p (text-long bytes lent number node h l),
+)
+  where
+    go :
+        (p : Answer Lens)
+        → program bytes ≡ p
+        → clashOf bytes lent p ≡ refused 17 0
+        → (number : ℕ) × (node : ℕ) × (program bytes ≡ refuses number node) × (7 ≤ number) × (lent < length (textAt bytes lent number node))
+    go (gives l) p e = never (cc)
+    go (refuses m k) p e =
+        ⊎-elim
+        (λ x. let f = x .1 in let z : m ≡ 17 = cc in absurd (omega (arith, x .0)))
+        (⊎-elim (λ x. (m, k, p, x .0, x .1)) (λ x. never (let f = x .2 in cc)))
+        (led bytes lent m k)
+
 -- ---- The rule that is broken
 
 -- if a text breaks the rule, some text passes the test of the rule
@@ -255,6 +298,29 @@ breaks-language number (repeat l) side h b u e =
     (c .parts, sym (c .join-to), c .parts-in)
 breaks-language number (match n l) side h b u e = absurd b
 
+-- a tree within the limits has at most 128 positions on each side
+few-positions : (side : Side) (t : Tree) → overLimit t ≡ false → treePositions side t ≤ 128
+unfolding overLimit
+few-positions side t e =
+    let h = or-neither (ltb 512 (treeSize t) || ltb 128 (treePositions source t)) (ltb 128 (treePositions sheet t)) e in
+    let k = or-neither (ltb 512 (treeSize t)) (ltb 128 (treePositions source t)) (h .0) in
+    go side (ltb-false 128 (treePositions source t) (k .1)) (ltb-false 128 (treePositions sheet t) (h .1))
+  where
+    go : (s : Side) → treePositions source t ≤ 128 → treePositions sheet t ≤ 128 → treePositions s t ≤ 128
+    go source x y = x
+    go sheet x y = y
+
+-- its rule has no more than its language
+rule-positions : (side : Side) (l : Lens) → rulePositions (ruleFor side l) ≤ positions (language side l)
+unfolding ruleFor language positions
+rule-positions side (copy r) = omega arith
+rule-positions side (const r w d) = omega arith
+rule-positions side (key r) = omega arith
+rule-positions side (join l m) = omega arith
+rule-positions side (union l m) = omega arith
+rule-positions side (repeat l) = omega arith
+rule-positions side (match n l) = omega arith
+
 -- Where Check refuses with 7 to 11, some text breaks the rule.
 pub rule-broken :
     (bytes : Text) (number node : ℕ)
@@ -288,6 +354,38 @@ rule-bytes bytes all number node e h u p =
     (sideOf number)
     u
     (breaks-language number (b .lens-there) (sideOf number) h (b .breaks) u (rw (b .at-node) at p))
+
+-- the rule that is broken has at most 128 positions, since the table is within the limits
+rule-few :
+    (bytes : Text) (number node : ℕ)
+    → checkCall bytes ≡ refuses number node
+    → 7 ≤ number
+    → rulePositions (ruleAt (sideOf number) (treeAt (trees bytes) node)) ≤ 128
+unfolding ruleAt treePositions
+rule-few bytes number node e h =
+    let b = check-refuses-iff bytes number node (omega arith) .0 e in
+    let inside : node < nodeCount bytes = ⊎-elim (λ w. absurd (omega (arith, w .0))) (λ w. w .2) (check-refusal bytes number node e) in
+    let limits : overLimit (lens (b .lens-there)) ≡ false = rw (b .at-node) at (b .table-right .each-node node inside .within-limits) in
+    let few = few-positions (sideOf number) (lens (b .lens-there)) limits in
+    rw (b .at-node) (omega (arith, rule-positions (sideOf number) (b .lens-there), few))
+
+-- ---- The text that is given
+
+-- The text is the lowest of the shortest that break the rule, and has at most 16,512 bytes.
+pub text-given :
+    (bytes : Text)
+    → All IsByte bytes
+    → (number node : ℕ)
+    → checkCall bytes ≡ refuses number node
+    → 7 ≤ number
+    → let rule = ruleAt (sideOf number) (treeAt (trees bytes) node) in
+    Given (λ u. breaks rule u ≡ true) (clashText rule) × (length (clashText rule) ≤ 16512)
+text-given bytes all number node e h =
+    let rule = ruleAt (sideOf number) (treeAt (trees bytes) node) in
+    let (t, p) = rule-broken bytes number node e h in
+    let (u, q, l) = short-clash rule (rule-few bytes number node e h) t p in
+    let g = clash-given rule (rule-bytes bytes all number node e h) u q (omega arith) in
+    (g, omega (arith, g .shortest u q, l))
 
 -- ---- The ends
 

@@ -3,6 +3,6 @@ use mathlib.Core.Bool.{Bool, _&&_}
 use Prim.Native.Nat.{ℕ}
 use lib.Dec.{leb}
 
--- The refusals of document 01 from `first` on, up to 16.
+-- The refusals of documents 01 and 02 from `first` on, up to 17, which is document 02's.
 unfoldable pub hasSentence : ℕ → ℕ → Bool
-hasSentence first number = leb first number && leb number 16
+hasSentence first number = leb first number && leb number 17

@@ -116,6 +116,10 @@ fn explain_texts(fd: i32, number: usize) -> bool
             fd,
             b"The result would be longer than 4,096 bytes: divide the sheet or the source.\n",
         ),
+        17 => said(
+            fd,
+            b"The text that shows the clash is longer than the buffer: lend 16,512 bytes, which are always enough.\n",
+        ),
         _ => false,
     }
 }

@@ -36,6 +36,12 @@ slice-aggregate-said-5 c = search needs
 said-requires-5 : tie.Need-said-requires-5
 said-requires-5 c κs = search needs
 
+slice-aggregate-said-6 : tie.Need-slice-aggregate-said-6
+slice-aggregate-said-6 c = search needs
+
+said-requires-6 : tie.Need-said-requires-6
+said-requires-6 c κs = search needs
+
 returns : tie.Need-returns
 returns c = c .said .ensures ∙ sym (has 12 (c .before .before .before .args .number) (omega arith) (omega arith))
 
@@ -52,7 +58,10 @@ returns-5 : tie.Need-returns-5
 returns-5 c = c .said5 .ensures ∙ sym (has 12 (c .before .before .before .args .number) (omega arith) (omega arith))
 
 returns-6 : tie.Need-returns-6
-returns-6 c = sym (has-none 12 (c .before .args .number) (λ low. omega arith))
+returns-6 c = c .said6 .ensures ∙ sym (has 12 (c .before .before .before .args .number) (omega arith) (omega arith))
+
+returns-7 : tie.Need-returns-7
+returns-7 c = sym (has-none 12 (c .before .args .number) (λ low. omega arith))
 
 pub explain-texts-spec : {M : Type 1} → statement M
 explain-texts-spec =
@@ -68,9 +77,12 @@ explain-texts-spec =
     said-requires-4
     slice-aggregate-said-5
     said-requires-5
+    slice-aggregate-said-6
+    said-requires-6
     returns
     returns-2
     returns-3
     returns-4
     returns-5
-    returns-6)
+    returns-6
+    returns-7)
