@@ -1,8 +1,9 @@
 /*
- * noontrough.h: the sheet engine's four calls.
+ * noontrough.h: the sheet engine's five calls.
  *
  * A lens program turns a source into a sheet (get), and an edited sheet back
- * into a source (put, create). A program is a table of bytes, made for instance
+ * into a source (put, create). A program that could read some text in two ways is
+ * refused (check), and such a text is shown (clash). A program is a table of bytes, made for instance
  * by `noontrough assemble`; docs/GUIDE.md says how to write one. Texts are
  * bytes, with no terminating zero: a zero byte is a byte like any other.
  *
@@ -21,7 +22,8 @@
  *          of `out`.
  * Memory   Nothing is kept: when a call returns, the caller may reuse or free
  *          every slice. The program is checked anew on each call.
- * Stack    At most NOONTROUGH_STACK_BYTES bytes, and check and get at most
+ * Stack    At most NOONTROUGH_STACK_BYTES bytes, clash at most
+ *          NOONTROUGH_CLASH_STACK_BYTES, and check and get at most
  *          NOONTROUGH_READ_STACK_BYTES; most calls take far less. This can be more
  *          than the threads of some systems and languages are given; a call that
  *          finds too little may end the process.
@@ -43,12 +45,16 @@ extern "C" {
  * length is always long enough for a result that the engine can give. */
 #define NOONTROUGH_MAX_TEXT 4096
 
+/* The longest text that a clash can have, in bytes. An output buffer of this
+ * length is never too short for one. */
+#define NOONTROUGH_MAX_CLASH 16512
+
 /* The most entries that the old source of a put may have. */
 #define NOONTROUGH_MAX_ENTRIES 256
 
 /* The stack that any call of any program keeps to: 1.8 MiB. A call takes what
  * its program needs. For a program like that of examples/k, check, get and create
- * take under 64 KiB, and a put under 96 KiB. The 2 MiB that a default thread of
+ * take under 64 KiB, and a put or a clash under 96 KiB. The 2 MiB that a default thread of
  * Rust has are enough for every call. The bound is measured on x86-64, not proved
  * (docs/PERFORMANCE.md); the tests of bindings/rust fail if a call of the
  * programs that take most passes it. */
@@ -58,10 +64,14 @@ extern "C" {
  * tested in the same way, not proved. */
 #define NOONTROUGH_READ_STACK_BYTES (704 * 1024)
 
+/* The stack that a clash of any program keeps to: 832 KiB. Measured and tested in
+ * the same way, not proved. */
+#define NOONTROUGH_CLASH_STACK_BYTES (832 * 1024)
+
 /*
  * The refusals. They are tried in this order: the program (1 to 11), the texts
- * (12 to 14), the number of old entries (15), the room for the result (16).
- * docs/GUIDE.md explains each by an example.
+ * (12 to 14), the number of old entries (15), the room for the result (16; of a
+ * clash 17). docs/GUIDE.md explains each by an example.
  */
 enum noontrough_refusal {
     NOONTROUGH_SIZES_WRONG = 1,           /* node count, pool length or table length wrong */
@@ -79,7 +89,8 @@ enum noontrough_refusal {
     NOONTROUGH_NOT_A_SOURCE = 13,         /* the source is none of this program */
     NOONTROUGH_NOT_A_SHEET = 14,          /* the sheet is none of this program */
     NOONTROUGH_TOO_MANY_ENTRIES = 15,     /* the old source of a put has over 256 entries */
-    NOONTROUGH_RESULT_TOO_LONG = 16       /* the result is longer than `out`, or than 4,096 bytes */
+    NOONTROUGH_RESULT_TOO_LONG = 16,      /* the result is longer than `out`, or than 4,096 bytes */
+    NOONTROUGH_CLASH_TOO_LONG = 17        /* the text that shows a clash is longer than `out` */
 };
 
 /* What check, get and create answer. What does not apply is 0. */
@@ -99,6 +110,23 @@ struct noontrough_put_answer {
     uint64_t kept;    /* for a result, the sheet's entries that took an old entry; else 0 */
     uint64_t made;    /* for a result, the sheet's entries that took none; else 0 */
     uint64_t dropped; /* for a result, the old entries left unused; else 0 */
+};
+
+/* What comes of a clash. */
+enum noontrough_outcome {
+    NOONTROUGH_NO_CLASH = 0, /* the program is accepted */
+    NOONTROUGH_CLASH = 1,    /* the program is refused with 7 to 11, and this is why */
+    NOONTROUGH_REFUSAL = 2   /* the program is refused with 1 to 6, or the text is too long (17) */
+};
+
+/* What clash answers. What does not apply is 0. */
+struct noontrough_clash_answer {
+    uint64_t outcome; /* an enum noontrough_outcome */
+    uint64_t number;  /* for a clash or a refusal, its number */
+    uint64_t node;    /* for 2 to 11, the node concerned, counted from 0; else 0 */
+    uint64_t length;  /* for a clash, the length of its text in bytes; else 0 */
+    uint64_t first;   /* for a clash, the smallest end (for 9 the first child); else 0 */
+    uint64_t second;  /* for a clash, the second smallest end (for 9 the second child); else 0 */
 };
 
 /*
@@ -156,6 +184,30 @@ struct noontrough_put_answer noontrough_put(uint8_t const *table, size_t table_l
 struct noontrough_answer noontrough_create(uint8_t const *table, size_t table_len,
                                            uint8_t const *sheet, size_t sheet_len,
                                            uint8_t *out, size_t out_len);
+
+/*
+ * Shows why a program is refused with 7 to 11, by a text that breaks the rule: a
+ * shortest one, and among the shortest the lowest in byte order.
+ *
+ * table, table_len   the program's table
+ * out, out_len       where the text goes; NOONTROUGH_MAX_CLASH bytes are always
+ *                    enough, and NOONTROUGH_MAX_TEXT is no limit here
+ *
+ * No clash: the program is accepted. `out` is not changed.
+ *
+ * Clash: number and node are those of check, and the text stands at the start of
+ * `out`. It is one of the source for 7, 9 and 10, of the sheet for 8 and 11. For a
+ * join (7, 8) `first` and `second` are the two smallest ends that its first half
+ * can have in a cut of the text, counted from the text's start; for a repeat (10,
+ * 11) those of its first part. They differ, save where a part can be empty: then
+ * the text is empty and both are 0. For a union (9), whose arms both have the
+ * text, they are the numbers of its two children, in the order of its operands.
+ *
+ * Refusals: 1 to 6 as check gives them, and 17, with node 0, after all of these,
+ * if the text is longer than out_len.
+ */
+struct noontrough_clash_answer noontrough_clash(uint8_t const *table, size_t table_len,
+                                                uint8_t *out, size_t out_len);
 
 #ifdef __cplusplus
 }

@@ -7,11 +7,12 @@ belong together. Every text is bytes, and every call checks the program itself:
     get(table, source)          gives the sheet of a source
     put(table, sheet, source)   gives the new source for an edited sheet
     create(table, sheet)        gives a source for a sheet alone
+    clash(table)                shows why a program is refused with 7 to 11
 
 The new source of a put has with it a tally of the entries kept, made and
-dropped. What the engine turns down is raised as a Refusal. This module only
-hands the bytes over; the engine is a shared library, which
-bindings/python/build makes.
+dropped. A clash is a text that the program could read in two ways. What the
+engine turns down is raised as a Refusal. This module only hands the bytes over;
+the engine is a shared library, which bindings/python/build makes.
 """
 
 from __future__ import annotations
@@ -21,12 +22,17 @@ import functools
 import os
 import threading
 from concurrent.futures import Future
-from typing import Callable, Dict, NamedTuple, Tuple, Type, Union
+from typing import Any, Callable, Dict, NamedTuple, Optional, Tuple, Type, Union
 
-__all__ = ["MAX_TEXT", "SENTENCES", "NewSource", "Refusal", "Tally", "check", "create", "get", "put"]
+__all__ = [
+    "MAX_CLASH", "MAX_TEXT", "SENTENCES", "Clash", "NewSource", "Refusal", "Tally", "check", "clash", "create", "get", "put",
+]
 
 #: The longest source, sheet and result, in bytes.
 MAX_TEXT = 4096
+
+#: The longest text that a clash can have, in bytes.
+MAX_CLASH = 16512
 
 #: What each refusal means and what to do, in the words of the command line.
 SENTENCES: Dict[int, str] = {
@@ -62,6 +68,8 @@ SENTENCES: Dict[int, str] = {
         " divide it, or let match mark larger pieces.",
     16: "The result would be longer than 4,096 bytes:"
         " divide the sheet or the source.",
+    17: "The text that shows the clash is longer than the buffer:"
+        " lend 16,512 bytes, which are always enough.",
 }
 
 BytesLike = Union[bytes, bytearray, memoryview]
@@ -70,8 +78,9 @@ BytesLike = Union[bytes, bytearray, memoryview]
 class Refusal(Exception):
     """The engine's answer where it gives no result.
 
-    `number` is from 1 to 16. `node` is the node concerned for 2 to 11, counted
-    from 0, and else 0. `sentence` says what the number means and what to do;
+    `number` is from 1 to 16; 17 is for a buffer that is too short for a clash, and
+    this module lends none. `node` is the node concerned for 2 to 11, counted from
+    0, and else 0. `sentence` says what the number means and what to do;
     docs/GUIDE.md has an example of each.
     """
 
@@ -119,6 +128,34 @@ class NewSource(bytes):
         return type(self), (bytes(self), self.tally)
 
 
+class Clash(NamedTuple):
+    """Why a program is refused with 7 to 11: a text that it could read in two ways.
+
+    Of all such texts it is a shortest one, and among these the lowest in byte order.
+    """
+
+    #: The rule, 7 to 11, and the node that breaks it, as check raises them.
+    number: int
+    node: int
+    #: One of the source for 7, 9 and 10, and one of the sheet for 8 and 11.
+    text: bytes
+    #: The two smallest ends that the first half of a join, or the first part of a repeat, can have in a cut of the
+    #: text. Both are 0 where a part can be empty; the text is empty then. None for a union.
+    ends: Optional[Tuple[int, int]]
+    #: The numbers of a union's two children, both of which have the text. None for a join or a repeat.
+    arms: Optional[Tuple[int, int]]
+
+    @property
+    def is_in_source(self) -> bool:
+        """Whether the text is one of the source, and not one of the sheet."""
+        return self.number not in (8, 11)
+
+    @property
+    def sentence(self) -> str:
+        """What the number means and what to do."""
+        return SENTENCES[self.number]
+
+
 def check(table: BytesLike) -> int:
     """Tests a program, and gives its number of nodes."""
     return _answer("noontrough_check", _READ_STACK, _copied("table", table)).length
@@ -143,6 +180,19 @@ def put(table: BytesLike, sheet: BytesLike, source: BytesLike) -> NewSource:
 def create(table: BytesLike, sheet: BytesLike) -> bytes:
     """Gives a source for a sheet alone, with the program's defaults for the rest."""
     return _text("noontrough_create", _WRITE_STACK, _copied("table", table), _copied("sheet", sheet))[0]
+
+
+def clash(table: BytesLike) -> Optional[Clash]:
+    """Shows why a program is refused with 7 to 11. None if it is accepted; other refusals are raised."""
+    out = ctypes.create_string_buffer(MAX_CLASH)
+    answer = _made("noontrough_clash", _CLASH_STACK, _copied("table", table), out)
+    if answer.outcome == _ClashAnswer.NO_CLASH:
+        return None
+    if answer.outcome != _ClashAnswer.CLASH:
+        raise Refusal(answer.number, answer.node)
+    ways = answer.first, answer.second
+    ends, arms = (None, ways) if answer.number == 9 else (ways, None)
+    return Clash(answer.number, answer.node, ctypes.string_at(out, answer.length), ends, arms)
 
 
 def _copied(name: str, value: BytesLike) -> bytes:
@@ -171,16 +221,21 @@ def _text(function: str, stack: int, *slices: bytes) -> Tuple[bytes, _Answer]:
 
 
 def _answer(function: str, stack: int, *slices: Union[bytes, ctypes.Array]) -> _Answer:
-    """Makes a call and gives its answer, if that is a result.
+    """Makes a call and gives its answer, if that is a result."""
+    answer = _made(function, stack, *slices)
+    if answer.number:
+        raise Refusal(answer.number, answer.node)
+    return answer
+
+
+def _made(function: str, stack: int, *slices: Union[bytes, ctypes.Array]) -> Any:
+    """Makes a call and gives its answer, whatever it is.
 
     An empty bytes object has an address too, so no pointer is null.
     """
     arguments = [part for each in slices for part in (each, len(each))]
     made = getattr(_library(), function)
-    answer = _with_stack(stack, lambda: made(*arguments))
-    if answer.number:
-        raise Refusal(answer.number, answer.node)
-    return answer
+    return _with_stack(stack, lambda: made(*arguments))
 
 
 # The library
@@ -197,12 +252,24 @@ class _PutAnswer(_Answer):
     _fields_ = [("kept", ctypes.c_uint64), ("made", ctypes.c_uint64), ("dropped", ctypes.c_uint64)]
 
 
+class _ClashAnswer(ctypes.Structure):
+    """struct noontrough_clash_answer, and two of the outcomes; the third is a refusal."""
+
+    _fields_ = [
+        (name, ctypes.c_uint64) for name in ("outcome", "number", "node", "length", "first", "second")
+    ]
+
+    NO_CLASH = 0
+    CLASH = 1
+
+
 #: How many slices each function takes, the buffer for the result included, and what it answers.
-_FUNCTIONS: Dict[str, Tuple[int, Type[_Answer]]] = {
+_FUNCTIONS: Dict[str, Tuple[int, Type[ctypes.Structure]]] = {
     "noontrough_check": (1, _Answer),
     "noontrough_get": (3, _Answer),
     "noontrough_put": (4, _PutAnswer),
     "noontrough_create": (3, _Answer),
+    "noontrough_clash": (2, _ClashAnswer),
 }
 
 _FOLDER = os.path.dirname(os.path.abspath(__file__))
@@ -241,8 +308,9 @@ def _advice(named: Union[str, None]) -> str:
 # A call that finds too little stack ends the process. So a call is made on a
 # thread of its own where the caller's stack is small, or its size unknown.
 
-#: The most that check and get take, and the most that any call takes (include/noontrough.h).
+#: The most that check and get take, that clash takes, and that any call takes (include/noontrough.h).
 _READ_STACK = 704 * 1024
+_CLASH_STACK = 832 * 1024
 _WRITE_STACK = 1840 * 1024
 
 #: What the caller's own frames may hold already: over 2 MiB have been seen within Python's usual limit of recursion.
@@ -251,13 +319,13 @@ _IN_USE = 4096 * 1024
 #: The stack of a thread that is started for one call. It is only reserved, and has room for what Python itself takes.
 _THREAD_STACK = 4096 * 1024
 
-_Call = Callable[[], _Answer]
+_Call = Callable[[], Any]
 
 _here = threading.local()
 _starting = threading.Lock()
 
 
-def _with_stack(stack: int, call: _Call) -> _Answer:
+def _with_stack(stack: int, call: _Call) -> Any:
     """Makes a call where it has so many bytes of stack."""
     if _stack_here() >= stack + _IN_USE:
         return call()
@@ -291,7 +359,7 @@ def _find_stack() -> int:
     return 0 if failed else size.value
 
 
-def _on_a_thread(call: _Call) -> _Answer:
+def _on_a_thread(call: _Call) -> Any:
     """Makes a call on a thread of its own, and waits for it."""
     answer: Future = Future()
 

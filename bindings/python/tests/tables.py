@@ -66,6 +66,20 @@ class Draft:
         """One text of a pattern or more: two nodes."""
         return self.join(a, self.repeat(a))
 
+    def any_of(self, *words: bytes) -> int:
+        """A word of several, as unions from the left."""
+        first, *others = [self.word(word) for word in words]
+        for word in others:
+            first = self.union(first, word)
+        return first
+
+    def row(self, *patterns: int) -> int:
+        """Patterns one behind the other, as joins from the left."""
+        first, *others = patterns
+        for pattern in others:
+            first = self.join(first, pattern)
+        return first
+
     def copy(self, pattern: int) -> int:
         return self.add(16, pattern)
 
@@ -117,6 +131,19 @@ class Large(NamedTuple):
 def large_programs() -> List[Large]:
     """The programs of bindings/rust/tests/common/stack.rs that take most: up to 1,861,744 bytes for a put."""
     return [joins(), joins_inside_a_long_sheet(), joins_over_a_long_sheet(), nest_over_long_keys()]
+
+
+def full_and_ambiguous() -> bytes:
+    """The refused program whose clash takes most stack: 127 letters or more, repeated, and joins of that and of nothing."""
+    draft = Draft()
+    nothing = draft.copy_word(b"")
+    letters = draft.copy(draft.some(draft.word(b"a")))
+    for _ in range(2):
+        letters = draft.lens_join(draft.copy_word(b"a" * 63), letters)
+    while draft.left > 1:
+        draft.lens_join(nothing, letters)
+    draft.lens_repeat(letters)
+    return draft.table()
 
 
 def join_on(draft: Draft, lens: int, keep: int = 0) -> int:

@@ -16,7 +16,7 @@ from typing import List
 PACKAGE = Path(__file__).resolve().parent.parent
 ROOT = PACKAGE.parent.parent
 ARCHIVE = ROOT / "target/staticlib/libnoontrough.a"
-CALLS = ["noontrough_check", "noontrough_create", "noontrough_get", "noontrough_put"]
+CALLS = ["noontrough_check", "noontrough_clash", "noontrough_create", "noontrough_get", "noontrough_put"]
 #: What the script runs, rt not among it.
 TOOLS = "cat", "cc", "dirname", "ld", "mktemp", "mv", "rm", "sh"
 
@@ -185,7 +185,7 @@ class Library(unittest.TestCase):
         older = self.LIBRARY.stat().st_mtime < ARCHIVE.stat().st_mtime
         self.assertFalse(older, f"{self.LIBRARY} is older than {ARCHIVE}: run {PACKAGE / 'build'} again")
 
-    def test_shows_the_four_calls_only(self) -> None:
+    def test_shows_the_five_calls_only(self) -> None:
         shown = subprocess.run(
             ["nm", "-D", "--defined-only", str(self.LIBRARY)], stdout=subprocess.PIPE, universal_newlines=True
         )

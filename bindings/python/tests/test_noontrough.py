@@ -27,7 +27,7 @@ ROOT = PACKAGE.parent.parent
 sys.path[:0] = [str(PACKAGE), str(TESTS)]
 
 import noontrough  # noqa: E402
-from noontrough import NewSource, Refusal, Tally, check, create, get, put  # noqa: E402
+from noontrough import Clash, NewSource, Refusal, Tally, check, clash, create, get, put  # noqa: E402
 from tables import Draft, k  # noqa: E402
 
 K = k()
@@ -254,6 +254,92 @@ class Tallies(Calls):
             self.assertEqual((answer.kept, answer.made, answer.dropped), (0, 0, 0))
 
 
+class Clashes(Calls):
+    """Why a program is refused with 7 to 11, by hand from document 02's rule."""
+
+    def assert_clash(self, draft: Draft, number: int, text: bytes, ends: object = None, arms: object = None) -> None:
+        """The last node is the one that is refused."""
+        self.assert_refused(number, draft.last, check, draft.table())
+        found = clash(draft.table())
+        self.assertEqual(found, Clash(number, draft.last, text, ends, arms))
+        self.assertEqual(found.is_in_source, number in (7, 9, 10))
+
+    def test_a_join(self) -> None:
+        """abcd can also be cut behind its third letter."""
+        draft = Draft()
+        left, right = draft.any_of(b"a", b"ab", b"abc"), draft.any_of(b"bcd", b"cd", b"d")
+        draft.lens_join(draft.copy(left), draft.copy(right))
+        self.assert_clash(draft, 7, b"abcd", ends=(1, 2))
+
+    def test_a_join_of_the_sheet_alone(self) -> None:
+        draft = Draft()
+        nought, one, x, xx = [draft.word(text) for text in (b"0", b"1", b"x", b"xx")]
+        lens = draft.lens_union(draft.const(nought, x, nought), draft.const(one, xx, one))
+        draft.lens_join(lens, lens)
+        self.assert_clash(draft, 8, b"xxx", ends=(1, 2))
+
+    def test_a_union_of_sets(self) -> None:
+        """They share e, f and y, and e is in the second pair of each. The operands are not in order."""
+        draft = Draft()
+        low, high = draft.copy(draft.set(b"xz", b"cf")), draft.copy(draft.set(b"qr", b"eh", b"yy"))
+        draft.lens_union(high, low)
+        self.assert_clash(draft, 9, b"e", arms=(high, low))
+
+    def test_a_repeat(self) -> None:
+        draft = Draft()
+        draft.lens_repeat(draft.copy(draft.any_of(b"ab", b"c", b"abc")))
+        self.assert_clash(draft, 10, b"abc", ends=(2, 3))
+
+    def test_parts_that_may_be_empty(self) -> None:
+        source, sheet = Draft(), Draft()
+        source.lens_repeat(source.copy(source.repeat(source.word(b"a"))))
+        letter, nothing = sheet.word(b"a"), sheet.word(b"")
+        sheet.lens_repeat(sheet.const(letter, nothing, letter))
+        self.assert_clash(source, 10, b"", ends=(0, 0))
+        self.assert_clash(sheet, 11, b"", ends=(0, 0))
+
+    def test_a_zero_byte_is_a_byte(self) -> None:
+        draft = Draft()
+        draft.lens_repeat(draft.copy(draft.some(draft.range(b"\x00", b"\xff"))))
+        self.assert_clash(draft, 10, b"\x00\x00", ends=(1, 2))
+
+    def test_a_text_longer_than_any_source(self) -> None:
+        """Between c and d stand n times a, n being 0 modulo 59 and 1 modulo 60; behind de as many before the f."""
+        draft = Draft()
+        one = draft.row(draft.any_of(b"c", b"e"), draft.repeat(draft.word(b"a" * 59)), draft.any_of(b"", b"f"))
+        many = draft.join(draft.word(b"a"), draft.repeat(draft.word(b"a" * 60)))
+        other = draft.row(draft.any_of(b"c", b"de"), many, draft.any_of(b"d", b"f"))
+        draft.lens_repeat(draft.copy(draft.union(one, other)))
+        run = b"a" * (59 * 59)
+        self.assert_clash(draft, 10, b"c" + run + b"de" + run + b"f", ends=(3482, 3483))
+
+    def test_none(self) -> None:
+        self.assertIsNone(clash(K))
+        self.assertIsNone(clash(arms(b"M", b"N")))
+
+    def test_the_room_for_the_text(self) -> None:
+        """The module always lends 16,512 bytes, so this asks the library itself."""
+        draft = Draft()
+        draft.lens_repeat(draft.copy(draft.any_of(b"ab", b"c", b"abc")))
+        table, node = draft.table(), draft.last
+        shown, refused = (1, 10, node, 3, 2, 3), (2, 17, 0, 0, 0, 0)
+        for room, numbers, text in (4, shown, b"abc-"), (3, shown, b"abc"), (2, refused, b"--"):
+            out = ctypes.create_string_buffer(b"-" * room, room)
+            answer = noontrough._library().noontrough_clash(table, len(table), out, room)
+            self.assertEqual(tuple(getattr(answer, name) for name, _ in answer._fields_), numbers)
+            self.assertEqual(out.raw, text)
+
+    def test_on_another_thread(self) -> None:
+        with mock.patch.object(noontrough, "_stack_here", return_value=0):
+            self.assertEqual(clash(arms(b"M", b"M")).text, b"M")
+            self.assert_refused(1, 0, clash, b"")
+
+    def test_a_copy_of_it(self) -> None:
+        found = clash(arms(b"M", b"M"))
+        for other in pickle.loads(pickle.dumps(found)), copy.copy(found):
+            self.assertEqual((other, other.text, other.arms, other.ends), (found, b"M", (2, 3), None))
+
+
 def arms(last: bytes, first: bytes) -> bytes:
     """A union of two ranges of capitals, the one up to a letter and the other from one on."""
     draft = Draft()
@@ -266,8 +352,13 @@ class Refusals(Calls):
     """Every refusal, by the examples of docs/GUIDE.md."""
 
     def assert_program_refused(self, number: int, node: int, draft: Draft) -> None:
-        """Every call checks the program first, whatever the texts are."""
+        """Every call checks the program first, whatever the texts are; a clash shows why, or refuses too."""
         table, long = draft.table(), b"\x00" * 5000
+        if number in range(7, 12):
+            found = clash(table)
+            self.assertEqual((found.number, found.node, found.sentence), (number, node, noontrough.SENTENCES[number]))
+        else:
+            self.assert_refused(number, node, clash, table)
         self.assert_refused(number, node, check, table)
         self.assert_refused(number, node, get, table, long)
         self.assert_refused(number, node, put, table, long, long)
@@ -277,6 +368,7 @@ class Refusals(Calls):
         short = bytes([2, 0, 1, 0, 16, 0, 0, 1, 0, 0, 0])
         for table in b"", short, K + b"\n", K[:-1], b"\x00\x00\x00":
             self.assert_refused(1, 0, check, table)
+            self.assert_refused(1, 0, clash, table)
         self.assertEqual(check(short + b"A"), 2)
 
     def test_2_unknown_kind(self) -> None:
@@ -429,7 +521,8 @@ class Words(unittest.TestCase):
         found = re.findall(r'(\d+) => said\(\s*fd,\s*b"(.*)\\n",\s*\)', text)
         said = {int(number): words for number, words in found}
         self.assertEqual(list(said), list(range(1, 17)))
-        self.assertEqual(noontrough.SENTENCES, said)
+        of_clash = {17: noontrough.SENTENCES[17]}
+        self.assertEqual(noontrough.SENTENCES, {**said, **of_clash})
 
     def test_sentence_1_names_the_command(self) -> None:
         self.assertEqual(
@@ -441,6 +534,8 @@ class Words(unittest.TestCase):
     def test_numbers_are_those_of_the_header(self) -> None:
         header = (ROOT / "include/noontrough.h").read_text("utf-8")
         self.assertIn(f"#define NOONTROUGH_MAX_TEXT {noontrough.MAX_TEXT}\n", header)
+        self.assertIn(f"#define NOONTROUGH_MAX_CLASH {noontrough.MAX_CLASH}\n", header)
+        self.assertIn(f"#define NOONTROUGH_CLASH_STACK_BYTES ({noontrough._CLASH_STACK // 1024} * 1024)\n", header)
         self.assertIn(f"#define NOONTROUGH_STACK_BYTES ({noontrough._WRITE_STACK // 1024} * 1024)\n", header)
         self.assertIn(f"#define NOONTROUGH_READ_STACK_BYTES ({noontrough._READ_STACK // 1024} * 1024)\n", header)
 
@@ -467,6 +562,7 @@ class Arguments(Calls):
                 self.assertEqual(get(table, source), b"AB;C;")
                 self.assertEqual(put(table, sheet, source), b"C22;AB1;")
                 self.assertEqual(create(table, sheet), b"C0;AB0;")
+                self.assertIsNone(clash(table))
 
     def test_results_are_bytes(self) -> None:
         self.assertIs(type(get(bytearray(K), bytearray(SOURCE))), bytes)
@@ -500,6 +596,7 @@ class Arguments(Calls):
         told = "is a str, and the engine takes bytes: encode it, or read the file in binary"
         calls = [
             ("table", lambda: check("A")),
+            ("table", lambda: clash("A")),
             ("source", lambda: get(K, "AB1;")),
             ("sheet", lambda: put(K, "AB;", SOURCE)),
             ("source", lambda: put(K, b"AB;", "AB1;")),
@@ -584,6 +681,8 @@ def run():
         assert noontrough.get(program.table, program.result), program.name
         assert noontrough.put(program.table, program.sheet, program.source) == program.result, program.name
         assert noontrough.create(program.table, program.sheet), program.name
+        assert noontrough.clash(program.table) is None, program.name
+    assert len(noontrough.clash(tables.full_and_ambiguous()).text) == 254
     print("came back")
 
 sys.setrecursionlimit(10000)

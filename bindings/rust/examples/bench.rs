@@ -11,10 +11,10 @@ use std::path::{Path, PathBuf};
 use std::process::{Child, ChildStdout, Command, Stdio};
 use std::time::{Duration, Instant};
 
-use noontrough::{Answer, MAX_TEXT, STACK_BYTES};
+use noontrough::{Answer, ClashAnswer, MAX_CLASH, MAX_TEXT, STACK_BYTES};
 use noontrough_reference::generator::draft::{Draft, NodeNumber};
 use noontrough_reference::generator::random::Random;
-use noontrough_reference::{Calls, Reference, Refusal};
+use noontrough_reference::{Calls, Reference, Refusal, Shown};
 use slow_calls::{Call, Slow};
 
 const SEED: u64 = 1;
@@ -28,6 +28,21 @@ const SLOW: [(&str, &[u8]); 4] = [
     ("g4", include_bytes!("tables/g4.table")),
     ("lr1", include_bytes!("tables/lr1.table")),
     ("slowA", include_bytes!("tables/slowA.table")),
+];
+/// The tables with the longest texts known, and the one whose clash takes longest.
+///
+/// - `longest`: parts `b (a^63 [ab]? a^63)*`. Of two readings one passes the optional byte in each round and the other leaves it
+///   out, so that they fall apart by one place a round. A cut needs one of them at a round's end and the other in its middle, 63
+///   rounds later; and then they need as many again until both are at an end.
+/// - `longest_join`: the same rounds, of 63 and 62 letters, and behind them `b [ab]*`.
+/// - `longest_union`: `(a^63)*` and `a (a^64)*`, whose first common text has 63 times 63 letters.
+/// - `slow_clash`: all but the last nodes are as in `g4`, for a slow check. The root repeats `bd (bd | D*)`, where D has 124 positions
+///   that can all follow each other and read every letter: so a search meets nearly all pairs of positions, each from all others.
+const CLASHES: [(&str, &[u8]); 4] = [
+    ("longest", include_bytes!("tables/longest.table")),
+    ("longest_join", include_bytes!("tables/longest_join.table")),
+    ("longest_union", include_bytes!("tables/longest_union.table")),
+    ("slow_clash", include_bytes!("tables/slow_clash.table")),
 ];
 /// Calls that one of two makes before it is the other's turn, and turns at most.
 const CALLS: usize = 10;
@@ -44,6 +59,7 @@ fn bench() {
     let (table, texts) = (program_k(), Texts::of(&entries(&mut Random::new(SEED), ENTRIES)));
     entries_of_k(&table, &texts);
     checks();
+    clashes(&table);
     by_size(&table);
     slow();
     match Augeas::start(&texts.source, &texts.reversed_source) {
@@ -102,6 +118,21 @@ fn checks() {
     for (name, table) in SLOW {
         check(table, &format!("check, {name}"));
     }
+}
+
+fn clashes(table: &[u8]) {
+    heading("Clash", "Reference");
+    clash(table, "clash of K, which has none");
+    clash(&abcd(), "clash, abcd");
+    for (name, table) in CLASHES {
+        let length = clash_of(table).map_or(0, |shown| shown.length);
+        clash(table, &format!("clash, {name}, {length} bytes"));
+    }
+}
+
+/// What the reference shows of a table.
+fn clash_of(table: &[u8]) -> Option<Shown> {
+    Reference.clash(table, &mut [0; MAX_CLASH]).expect("the program is accepted or clashes")
 }
 
 fn by_size(table: &[u8]) {
@@ -235,6 +266,21 @@ fn engine_check(table: &[u8]) -> Duration {
     time
 }
 
+fn engine_clash(table: &[u8], expected: Option<Shown>) -> Duration {
+    let mut out = [0; MAX_CLASH];
+    let (answer, time) = timed(|| noontrough::clash(table, &mut out));
+    assert!(!matches!(answer, ClashAnswer::Refusal { .. }));
+    assert_eq!(answer.clash().map(|clash| clash.text.len()), expected.map(|shown| shown.length));
+    time
+}
+
+fn reference_clash(table: &[u8], expected: Option<Shown>) -> Duration {
+    let mut out = [0; MAX_CLASH];
+    let (answer, time) = timed(|| Reference.clash(table, &mut out));
+    assert_eq!(answer, Ok(expected));
+    time
+}
+
 /// The time of a call of the reference, which is not to be refused.
 fn reference(call: impl FnOnce(&mut [u8]) -> Result<usize, Refusal>) -> Duration {
     let mut out = [0; MAX_TEXT];
@@ -245,6 +291,11 @@ fn reference(call: impl FnOnce(&mut [u8]) -> Result<usize, Refusal>) -> Duration
 
 fn check(table: &[u8], name: &str) {
     row(name, || engine_check(table), || reference(|_| Reference.check(table)));
+}
+
+fn clash(table: &[u8], name: &str) {
+    let expected = clash_of(table);
+    row(name, || engine_clash(table, expected), || reference_clash(table, expected));
 }
 
 fn get(table: &[u8], source: &[u8], sheet: &[u8], name: &str) {
@@ -280,6 +331,18 @@ fn field(draft: &mut Draft, default: &[u8]) -> NodeNumber {
     let digits = draft.pattern_repeat(digit);
     let row = [draft.key(name), draft.delete(digits, default), draft.copy_word(b";")];
     draft.lens_row(&row)
+}
+
+/// A join of a, ab, abc and bcd, cd, d.
+fn abcd() -> Vec<u8> {
+    let mut draft = Draft::new();
+    let halves = [[&b"a"[..], b"ab", b"abc"], [b"bcd", b"cd", b"d"]].map(|words| {
+        let words = words.map(|word| draft.word(word));
+        let any = words.into_iter().reduce(|any, word| draft.pattern_union(any, word)).expect("three words");
+        draft.copy(any)
+    });
+    draft.lens_join(halves[0], halves[1]);
+    draft.table()
 }
 
 /// Repeats over one lens with 127 positions that may all follow each other and share every byte, and an end. Accepted, since

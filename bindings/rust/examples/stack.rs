@@ -12,6 +12,10 @@ fn main() {
         let figures = stack::CALLS.map(|call| grouped(case.stack_of(call)));
         println!("| {} | {} |", case.name, figures.join(" | "));
     }
+    println!("\n| Program | clash |\n|---|---|");
+    for case in stack::clash_cases() {
+        println!("| {} | {} |", case.name, grouped(case.stack()));
+    }
 }
 
 /// A number with commas, by thousands.

@@ -1,7 +1,7 @@
 //! Rust calls onto the sheet engine.
 //!
-//! The engine itself is a static library with four C functions (check, get,
-//! put, create; `include/noontrough.h`). This package declares them and wraps
+//! The engine itself is a static library with five C functions (check, get,
+//! put, create, clash; `include/noontrough.h`). This package declares them and wraps
 //! each in a safe function. The workspace member `noontrough-reference` is a
 //! second, independent implementation of the same paper, and the tests compare
 //! the two call by call.
@@ -21,19 +21,21 @@
 //! on a thread of its own, and panics if none can be started. [`in_place`] has the
 //! calls without that.
 
+mod clash;
 mod sentences;
 mod stack;
 mod tally;
 
+pub use clash::{Clash, ClashAnswer, Ways};
 pub use sentences::sentence;
 pub use tally::Tally;
 
 /// The stack that any call of any program keeps to.
 ///
 /// A call takes what its program needs. For a program like K of the repository's
-/// examples, check, get and create take under 64 KiB, and a put under 96 KiB. A
-/// thread of 2 MiB, as `std::thread` starts them, is enough for every call, and
-/// has 192 KiB left for its own work.
+/// examples, check, get and create take under 64 KiB, and a put or a clash under
+/// 96 KiB. A thread of 2 MiB, as `std::thread` starts them, is enough for every
+/// call, and has 192 KiB left for its own work.
 ///
 /// The bound is measured on x86-64, not proved. `cargo test` fails if a call of
 /// the programs that take most passes it.
@@ -43,11 +45,19 @@ pub const STACK_BYTES: usize = 1840 * 1024;
 /// [`STACK_BYTES`] is, and not proved.
 pub const READ_STACK_BYTES: usize = 704 * 1024;
 
+/// The stack that a clash of any program keeps to. Measured and tested as
+/// [`STACK_BYTES`] is, and not proved.
+pub const CLASH_STACK_BYTES: usize = 832 * 1024;
+
 /// The longest source, sheet and result. A buffer of this length is long enough
 /// for every result.
 pub const MAX_TEXT: usize = 4096;
 
-/// What a call answers.
+/// The longest text that a clash can have. A buffer of this length is never too
+/// short for one.
+pub const MAX_CLASH: usize = 16_512;
+
+/// What check, get and create answer.
 #[derive(Clone, Copy, Debug, PartialEq, Eq)]
 pub enum Answer {
     /// The result stands in the first `length` bytes of the buffer, and the
@@ -180,11 +190,38 @@ pub fn create(table: &[u8], sheet: &[u8], out: &mut [u8]) -> Answer {
     stack::with_room(STACK_BYTES, || in_place::create(table, sheet, out))
 }
 
+/// Shows why a program is refused with 7 to 11: a shortest text that breaks the
+/// rule, the lowest in byte order, and two ways to read it. Every buffer is used as
+/// far as it goes, also one of more than [`MAX_TEXT`] bytes.
+///
+/// ```
+/// use noontrough::{clash, Clash, ClashAnswer, Ways, MAX_CLASH};
+///
+/// // any number of capitals behind any number of capitals
+/// let table = [4, 0, 0, 1, 4, 16, 19, 65, 90, 0, 0, 0, 0, 1, 0, 0, 2, 2, 0];
+/// let mut out = [0; MAX_CLASH];
+/// let shown = Clash { number: 7, node: 3, text: b"A", ways: Ways::Ends(0, 1) }; // nothing and A, or A and nothing
+/// assert_eq!(clash(&table, &mut out), ClashAnswer::Clash(shown));
+/// assert_eq!(clash(&table, &mut []), ClashAnswer::Refusal { number: 17, node: 0 });
+///
+/// // a copy of any number of capitals
+/// let table = [3, 0, 0, 1, 4, 16, 65, 90, 0, 0, 0, 0, 1, 0, 0];
+/// assert_eq!(clash(&table, &mut out), ClashAnswer::NoClash);
+/// ```
+///
+/// # Panics
+///
+/// If the thread has too little stack left and no other can be started.
+pub fn clash<'a>(table: &[u8], out: &'a mut [u8]) -> ClashAnswer<'a> {
+    stack::with_room(CLASH_STACK_BYTES, || in_place::clash(table, out))
+}
+
 /// The same calls on the stack of this thread, whatever it has left: for callers
 /// who know that there is room, and never want a thread to be started. A call
 /// that finds too little ends the process.
 pub mod in_place {
-    use crate::{Answer, Numbers, PutAnswer, PutNumbers};
+    use crate::clash::ClashNumbers;
+    use crate::{Answer, ClashAnswer, Numbers, PutAnswer, PutNumbers};
 
     #[rustfmt::skip]
     extern "C" {
@@ -208,9 +245,14 @@ pub mod in_place {
             sheet: *const u8, sheet_len: usize,
             out: *mut u8, out_len: usize,
         ) -> Numbers;
+
+        fn noontrough_clash(
+            table: *const u8, table_len: usize,
+            out: *mut u8, out_len: usize,
+        ) -> ClashNumbers;
     }
 
-    // For all four: the pointers come from slices, so they are not null, their
+    // For all five: the pointers come from slices, so they are not null, their
     // bytes can be read, and `out`, lent alone, overlaps none of the others. The
     // engine keeps none of them.
 
@@ -257,5 +299,11 @@ pub mod in_place {
             )
         }
         .into()
+    }
+
+    pub fn clash<'a>(table: &[u8], out: &'a mut [u8]) -> ClashAnswer<'a> {
+        // SAFETY: as said above.
+        let numbers = unsafe { noontrough_clash(table.as_ptr(), table.len(), out.as_mut_ptr(), out.len()) };
+        numbers.with_text(out)
     }
 }

@@ -8,7 +8,7 @@ pub fn sentence(number: u64) -> Option<&'static str> {
 }
 
 /// From 1 on. docs/GUIDE.md has an example of each.
-const SENTENCES: [&str; 16] = [
+const SENTENCES: [&str; 17] = [
     "The sizes of the table are wrong, so it is no whole program: make it again with noontrough assemble, and copy it as binary.",
     "This node is of a kind that the engine does not know: the table was damaged or made for another engine, so make it again.",
     "An operand of this node breaks a rule, or the last node is no lens: see what each kind takes, and put the whole program last.",
@@ -25,4 +25,5 @@ const SENTENCES: [&str; 16] = [
     "The sheet is none of this program: correct what the program does not foresee, often a newline at the end of the file.",
     "The old source has more than 256 entries: divide it, or let match mark larger pieces.",
     "The result would be longer than 4,096 bytes: divide the sheet or the source.",
+    "The text that shows the clash is longer than the buffer: lend 16,512 bytes, which are always enough.",
 ];

@@ -8,11 +8,16 @@ mod common;
 use common::{with_stack, Engine};
 use noontrough_reference::census::{Census, Kind};
 use noontrough_reference::demand3;
-use noontrough_reference::trial::compare;
+use noontrough_reference::generator::cases::clash_cases;
+use noontrough_reference::generator::clashes::clashing;
+use noontrough_reference::generator::faults::mutated;
+use noontrough_reference::generator::random::Random;
+use noontrough_reference::trial::{compare, run};
+use noontrough_reference::Remembering;
 
 /// Each seed is compared on a thread of its own.
 const SEEDS: [u64; 4] = [101, 102, 103, 104];
-/// About eight calls a program.
+/// About ten calls a program.
 const PROGRAMS: usize = 800;
 /// Programs for each clause of demand 3.
 const CLAUSE_PROGRAMS: usize = 300;
@@ -20,7 +25,7 @@ const CLAUSE_PROGRAMS: usize = 300;
 /// How many programs and how many calls of each kind there must be with
 /// [`PROGRAMS`] for each seed: about half of what there is. Longer comparisons
 /// must have more in proportion.
-const LEAST: [(Kind, usize, usize); 78] = [
+const LEAST: [(Kind, usize, usize); 95] = [
     (Kind::UnionsTwoDeep, 150, 1000),
     (Kind::UnionsThreeDeep, 100, 680),
     (Kind::UnionsOnTheLeft, 65, 440),
@@ -38,7 +43,7 @@ const LEAST: [(Kind, usize, usize); 78] = [
     (Kind::OldRightArmLikeLeft, 130, 350),
     (Kind::DeepShortText, 60, 245),
     (Kind::DeepLongText, 55, 245),
-    (Kind::ChoicesAt63To65, 75, 80),
+    (Kind::ChoicesAt63To65, 60, 65),
     (Kind::ChoicesAt127To129, 50, 60),
     (Kind::ChoicesAt4095To4096, 70, 100),
     (Kind::LongEntry, 140, 540),
@@ -61,14 +66,14 @@ const LEAST: [(Kind, usize, usize); 78] = [
     (Kind::SetOfEveryByte, 7, 50),
     (Kind::SetAtThePoolsEnd, 80, 570),
     (Kind::SetAt448, 7, 50),
-    (Kind::ManySetsOfOnePart, 5, 35),
+    (Kind::ManySetsOfOnePart, 7, 50),
     (Kind::HullsMeetOnly, 60, 420),
     (Kind::SetOfNoneOrTooMany, 12, 45),
     (Kind::SetOutsideThePool, 16, 65),
-    (Kind::SetReversed, 6, 24),
-    (Kind::SetReversedLater, 19, 75),
-    (Kind::SetForAWord, 15, 60),
-    (Kind::SetsAndAClash, 85, 350),
+    (Kind::SetReversed, 4, 24),
+    (Kind::SetReversedLater, 13, 75),
+    (Kind::SetForAWord, 10, 60),
+    (Kind::SetsAndAClash, 170, 1700),
     (Kind::EmptyMatches30, 100, 340),
     (Kind::EmptyMatches100, 20, 70),
     (Kind::EmptyMatchesWithOld, 90, 180),
@@ -85,11 +90,28 @@ const LEAST: [(Kind, usize, usize); 78] = [
     (Kind::FoundOfLeftArm, 75, 210),
     (Kind::FoundOfRightArm, 145, 460),
     (Kind::EqualKeys, 520, 1300),
-    (Kind::KeysApartAtTheEnd, 40, 120),
+    (Kind::KeysApartAtTheEnd, 30, 90),
     (Kind::LongKeys, 15, 25),
     (Kind::LongKeysFound, 15, 20),
     (Kind::KeyAt4095To4097, 12, 19),
-    (Kind::EntryMade, 740, 1400),
+    (Kind::NoClash, 1050, 2100),
+    (Kind::SourceJoinShown, 45, 180),
+    (Kind::SheetJoinShown, 40, 165),
+    (Kind::UnionShown, 80, 340),
+    (Kind::SourceRepeatShown, 55, 220),
+    (Kind::SheetRepeatShown, 50, 210),
+    (Kind::ClashTooLong, 250, 500),
+    (Kind::ClashTooLongAndHuge, 8, 24),
+    (Kind::EmptyClash, 32, 160),
+    (Kind::ClashOver64, 24, 84),
+    (Kind::ClashOver4096, 8, 24),
+    (Kind::ThreeCuts, 4, 16),
+    (Kind::EndAtTheEnd, 130, 540),
+    (Kind::UnionOfOneChild, 28, 116),
+    (Kind::UnionTurned, 12, 50),
+    (Kind::SharedInALaterRun, 65, 260),
+    (Kind::HigherTextToo, 60, 240),
+    (Kind::EntryMade, 620, 1160),
     (Kind::EntryDropped, 680, 1450),
     (Kind::KeptMadeAndDropped, 325, 520),
     (Kind::EmptyEntryKept, 145, 255),
@@ -124,7 +146,7 @@ fn the_engine_answers_as_the_reference_does() {
         .into_iter()
         .map(|seed| std::thread::spawn(move || (seed, with_stack(move || compare(&Engine, seed, count)))))
         .collect();
-    let (mut total, mut numbers, mut census) = (0, [0; 17], Census::default());
+    let (mut total, mut numbers, mut census) = (0, [0; 18], Census::default());
     for thread in threads {
         let (seed, compared) = thread.join().expect("the comparison ends");
         let compared = compared.unwrap_or_else(|difference| panic!("seed {seed}: {difference:?}"));
@@ -149,6 +171,46 @@ fn the_engine_answers_as_the_reference_does() {
         assert!(total >= 20_000, "only {total} calls");
         require_all_kinds(&census, count);
     }
+}
+
+#[test]
+fn clashes_of_all_sorts_are_alike() {
+    let count = programs();
+    let calls = with_stack(move || {
+        let mut random = Random::new(14);
+        let mut calls = 0;
+        for _ in 0..count {
+            let mut table = clashing(&mut random);
+            if random.once_in(3) {
+                table = mutated(&mut random, &table);
+            }
+            for case in clash_cases(&mut random, &table) {
+                assert_eq!(run(&Engine, &case), run(&Remembering, &case), "{case:?}");
+                calls += 1;
+            }
+        }
+        calls
+    });
+    println!("{calls} clashes, all alike");
+}
+
+/// Tables with the longest clashes and with those that take longest to find.
+const FAR: [&[u8]; 4] = [
+    include_bytes!("../examples/tables/longest.table"),
+    include_bytes!("../examples/tables/longest_join.table"),
+    include_bytes!("../examples/tables/longest_union.table"),
+    include_bytes!("../examples/tables/slow_clash.table"),
+];
+
+#[test]
+fn the_longest_clashes_are_alike() {
+    with_stack(|| {
+        for case in FAR.iter().flat_map(|table| clash_cases(&mut Random::new(1), table)) {
+            let (expected, found) = (run(&Remembering, &case), run(&Engine, &case));
+            assert!(expected.shown.is_some() || expected.answer.is_err());
+            assert_eq!(found, expected);
+        }
+    });
 }
 
 #[test]

@@ -1,4 +1,4 @@
-/* Makes each call as include/noontrough.h declares it and prints what it answered. header.rs has the answers, from document 01. */
+/* Makes each call as include/noontrough.h declares it and prints what it answered. header.rs has the answers, from documents 01 and 02. */
 #include "noontrough.h"
 
 #include <stdio.h>
@@ -12,6 +12,16 @@ static uint8_t const K[] = {
     0,  0,  0,  0,  0,  1,  0,  1,  1,  2,  0,  0,  4,  5,  6,
     7,  0,  0,  9,  10, 0,  8,  11, 0,  12, 0,  0,  13, 0,  0,
     '0', ';'};                                            /* pool */
+
+/* A copy of a, ab or abc, and one of bcd, cd or d, joined: abcd has three cuts. */
+static uint8_t const JOINED[] = {
+    13, 0,  4,                                         /* sizes */
+    0,  0,  0,  0,  0,  0,  3, 3, 3, 3, 16, 16, 19,    /* kinds */
+    0,  0,  1,  0,  0,  2,  0, 0, 3,                   /* operands: a, ab, abc */
+    0,  1,  3,  0,  2,  2,  0, 3, 1,                   /* bcd, cd, d */
+    1,  2,  0,  0,  6,  0,  4, 5, 0, 3, 8,  0,         /* unions */
+    7,  0,  0,  9,  0,  0,  10, 11, 0,                 /* copies, join */
+    'a', 'b', 'c', 'd'};                               /* pool */
 
 static uint8_t const *bytes(char const *text)
 {
@@ -42,9 +52,23 @@ static void put(uint8_t const *table, size_t table_len, char const *sheet, char 
              out, sizeof out);
 }
 
+/* A clash of this table, into so many bytes of a buffer of ten. */
+static void clash(uint8_t const *table, size_t table_len, size_t lent)
+{
+    struct noontrough_clash_answer answer;
+    uint8_t out[10];
+
+    memset(out, '-', sizeof out);
+    answer = noontrough_clash(table, table_len, out, lent);
+    printf("clash %llu %llu %llu %llu %llu %llu [%.*s]\n", (unsigned long long)answer.outcome,
+           (unsigned long long)answer.number, (unsigned long long)answer.node, (unsigned long long)answer.length,
+           (unsigned long long)answer.first, (unsigned long long)answer.second, (int)sizeof out, (char const *)out);
+}
+
 int main(void)
 {
     uint8_t out[10];
+    uint8_t united[sizeof JOINED];
 
     show("check", noontrough_check(K, sizeof K), out, 0);
     show("check", noontrough_check(K, 2), out, 0);
@@ -64,5 +88,15 @@ int main(void)
     show("create", noontrough_create(K, sizeof K, bytes("AB;"), 3, out, sizeof out), out, sizeof out);
     memset(out, '-', sizeof out);
     show("create", noontrough_create(K, sizeof K, bytes("AB1;"), 4, out, sizeof out), out, sizeof out);
+    clash(JOINED, sizeof JOINED, 10);
+    clash(JOINED, sizeof JOINED, 4);
+    clash(JOINED, sizeof JOINED, 3);
+    memcpy(united, JOINED, sizeof JOINED);
+    united[15] = 20; /* the last node as a union of its two copies, */
+    clash(united, sizeof united, 10);
+    united[sizeof united - 6] = 10; /* and of one copy with itself */
+    clash(united, sizeof united, 10);
+    clash(K, sizeof K, 0);
+    clash(K, 2, 10);
     return 0;
 }

@@ -4,7 +4,8 @@
 use std::path::{Path, PathBuf};
 use std::process::Command;
 
-/// Number, node and length of each call, a put's counts, and its whole buffer of ten bytes afterwards.
+/// Number, node and length of each call, a put's counts, and its whole buffer of ten bytes afterwards. A clash has its outcome
+/// before these, and its ends or children behind them.
 const ANSWERS: &str = "\
 check 0 0 15 []
 check 1 0 0 []
@@ -20,6 +21,13 @@ put 13 0 0 kept 0 made 0 dropped 0 [----------]
 put 1 0 0 kept 0 made 0 dropped 0 [----------]
 create 0 0 4 [AB0;------]
 create 14 0 0 [----------]
+clash 1 7 12 4 1 2 [abcd------]
+clash 1 7 12 4 1 2 [abcd------]
+clash 2 17 0 0 0 0 [----------]
+clash 0 0 0 0 0 0 [----------]
+clash 1 9 12 1 10 10 [a---------]
+clash 0 0 0 0 0 0 [----------]
+clash 2 1 0 0 0 0 [----------]
 ";
 
 fn in_package(name: &str) -> PathBuf {

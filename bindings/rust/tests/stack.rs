@@ -1,18 +1,20 @@
-//! The stack that calls take, held to what `STACK_BYTES` and
-//! `READ_STACK_BYTES` promise.
+//! The stack that calls take, held to what `STACK_BYTES`, `READ_STACK_BYTES` and
+//! `CLASH_STACK_BYTES` promise.
 //!
 //! `cargo run --example stack` prints the figures.
 
 #[path = "common/stack.rs"]
 mod stack;
 
-use noontrough::{READ_STACK_BYTES, STACK_BYTES};
-use stack::{cases, k, Call, Case, CALLS};
+use noontrough::{CLASH_STACK_BYTES, READ_STACK_BYTES, STACK_BYTES};
+use stack::{cases, clash_cases, clash_of_k, few_words, k, Call, Case, ClashCase, CALLS};
 
 const READS: [Call; 2] = [Call::Check, Call::Get];
-/// What check, get and create of a program like K keep to, and what its put does.
+/// What check, get and create of a program like K keep to, and what its put and its
+/// clash do.
 const LIKE_K: usize = 64 * 1024;
 const PUT_LIKE_K: usize = 96 * 1024;
+const CLASH_LIKE_K: usize = 96 * 1024;
 /// The stack of a thread that is started without a size.
 const DEFAULT_THREAD: usize = 2 << 20;
 /// What a thread takes for itself, and more than that.
@@ -23,6 +25,11 @@ const SPARE: usize = 192 * 1024;
 fn assert_keeps_to(most: usize, case: &Case, call: Call) {
     let taken = case.stack_of(call);
     assert!(taken <= most, "{}: {call:?} takes {taken} bytes of stack, over {most}", case.name);
+}
+
+fn assert_clash_keeps_to(most: usize, case: &ClashCase) {
+    let taken = case.stack();
+    assert!(taken <= most, "{}: clash takes {taken} bytes of stack, over {most}", case.name);
 }
 
 /// Makes calls on a thread that has so much stack for them. They are measured
@@ -65,4 +72,30 @@ fn calls_of_k_take_little() {
 #[test]
 fn a_default_thread_is_enough_for_every_call() {
     cases().into_iter().for_each(|case| assert_come_back_by_default(SPARE, case, &CALLS));
+}
+
+#[test]
+fn a_clash_needs_no_more_than_is_promised() {
+    for case in clash_cases() {
+        assert_clash_keeps_to(CLASH_STACK_BYTES, &case);
+        std::thread::scope(|scope| {
+            let thread = std::thread::Builder::new().stack_size(CLASH_STACK_BYTES + OWN);
+            let made = thread.spawn_scoped(scope, || case.make());
+            made.expect("a thread can be started").join().expect("the clash is shown");
+        });
+        assert_clash_keeps_to(DEFAULT_THREAD - SPARE, &case);
+        std::thread::spawn(move || case.make()).join().expect("the clash is shown");
+    }
+}
+
+#[test]
+fn a_clash_of_a_program_like_k_takes_little() {
+    [clash_of_k(), few_words(0)].iter().for_each(|case| assert_clash_keeps_to(CLASH_LIKE_K, case));
+}
+
+/// There is nothing to look for.
+#[test]
+fn a_clash_of_an_accepted_program_takes_what_check_does() {
+    assert_clash_keeps_to(LIKE_K, &k(8).to_clash());
+    cases().iter().for_each(|case| assert_clash_keeps_to(READ_STACK_BYTES, &case.to_clash()));
 }

@@ -2,7 +2,6 @@
 //! lie in the stack of every thread, those that the calls start among them. (In a
 //! file of its own, since it holds for the whole program.)
 
-#[allow(dead_code)] // Other test files measure the stack by it.
 #[path = "common/stack.rs"]
 mod stack;
 

@@ -1,20 +1,20 @@
 //! No call overflows a stack, whatever thread it is made from.
 //!
-//! The program is the one whose put takes most. A stack that overflows ends the
+//! The programs are the one whose put takes most, and the one whose clash does. A stack that overflows ends the
 //! process, so a call that finds no room fails the whole test file.
 
-#[allow(dead_code)] // Other test files measure the stack by it.
 #[path = "common/stack.rs"]
 mod stack;
 
-use noontrough::{check, create, get, put, Answer, MAX_TEXT};
-use stack::{joins_inside_a_long_sheet as largest, Case};
+use noontrough::{check, clash, create, get, put, Answer, ClashAnswer, MAX_CLASH, MAX_TEXT};
+use stack::{clashing_repeat, joins_inside_a_long_sheet as largest, Case};
 
 /// Far less than the call takes.
 const SMALL: usize = 64 * 1024;
 
 /// Makes each call through the safe wrappers; all must give results.
 fn make_all(case: &Case) {
+    show_clash();
     let mut out = vec![0; MAX_TEXT];
     let answers = [
         check(&case.table),
@@ -25,6 +25,13 @@ fn make_all(case: &Case) {
     for answer in answers {
         assert!(matches!(answer, Answer::Result { .. }), "{answer:?}");
     }
+}
+
+/// The text comes from whatever thread the call was made on.
+fn show_clash() {
+    let (table, mut out) = (clashing_repeat().table, vec![0; MAX_CLASH]);
+    let answer = clash(&table, &mut out);
+    assert!(matches!(answer, ClashAnswer::Clash(found) if found.text == [b'a'; 254]), "{answer:?}");
 }
 
 #[test]

@@ -11,6 +11,6 @@ fn main() {
     let mut table = io::buffer();
     let mut sheet = io::large_buffer();
     let mut source = io::large_buffer();
-    let mut out = io::buffer();
+    let mut out = io::large_buffer();
     run::run(&script[..n], &mut table, &mut sheet, &mut source, &mut out);
 }

@@ -46,6 +46,8 @@ const COUNTS: u64 = 256 * (b'c' as u64) + b'o' as u64;
 
 const CREATE: u64 = 256 * (b'c' as u64) + b'r' as u64;
 
+const CLASH: u64 = 256 * (b'c' as u64) + b'l' as u64;
+
 const BUFFER: u64 = 256 * (b'b' as u64) + b'u' as u64;
 
 pub fn run(script: &[u8], table: &mut [u8], sheet: &mut [u8], source: &mut [u8], out: &mut [u8]) {
@@ -162,6 +164,7 @@ fn answer(word: u64, name: &[u8], table: &[u8], sheet: &[u8], source: &[u8], out
         PUT => show::put(name, table, sheet, source, out),
         COUNTS => show::counts(name, table, sheet, source, out),
         CREATE => show::create(name, table, sheet, out),
+        CLASH => show::clash(name, table, out),
         BUFFER => show::text(name, out),
         _ => {}
     }

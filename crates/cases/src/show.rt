@@ -1,5 +1,7 @@
-// A case's line: its name, then the text in quotes, `result` and the length of a longer text, or `refused`, number and node; or a put's counts.
+// A case's line: its name, then the text in quotes, `result` and the length of a longer text, or `refused`, number and node; or a put's counts; or
+// `no clash`, or `clash` with number, node and the two ends (of a union its children), and then the text as above.
 use answers::Answer;
+use answers::ClashAnswer;
 use answers::PutAnswer;
 use answers::results::without_tally;
 use libc::STDOUT_FILENO;
@@ -121,4 +123,36 @@ pub fn create(name: &[u8], table: &[u8], sheet: &[u8], out: &mut [u8]) {
     fill(out, MARK);
     let made = engine::create::create(table, sheet, out);
     answer(made, out);
+}
+
+pub fn clash(name: &[u8], table: &[u8], out: &mut [u8]) {
+    begin(name);
+    fill(out, MARK);
+    let found = engine::show::clash(table, out);
+    match found {
+        ClashAnswer::Accepted => {
+            io::write_all(STDOUT_FILENO, b"no clash\n");
+        }
+        ClashAnswer::Clash {
+            number,
+            node,
+            length,
+            first,
+            second,
+        } => {
+            io::write_all(STDOUT_FILENO, b"clash ");
+            spaced(number, node);
+            spaced(first, second);
+            answer(Answer::Result { length }, out);
+        }
+        ClashAnswer::Refusal { number, node } => refused(number, node),
+    }
+}
+
+// Two numbers, with a space behind each.
+fn spaced(first: usize, second: usize) {
+    io::print_decimal(STDOUT_FILENO, first as u64);
+    io::write_all(STDOUT_FILENO, b" ");
+    io::print_decimal(STDOUT_FILENO, second as u64);
+    io::write_all(STDOUT_FILENO, b" ");
 }

@@ -3,3 +3,4 @@ pub mod Rooms
 pub mod Demand3
 pub mod Tally
 pub mod WithoutSets
+pub mod Clash

@@ -94,12 +94,13 @@ check-result-iff table numbers = zero-iff (λ (n : ℕ). n) (checkCall table) nu
 
 -- ---- Clash's outcome
 
--- 0, 1 or 2
+-- the number of each outcome
 abbrev kindOf : Clashes.Outcome → ℕ
 kindOf noClash = 0
 kindOf (clash number node t ends) = 1
 kindOf (refused number node) = 2
 
+-- the numbers begin with it
 kind-told :
     (outcome : Clashes.Outcome) (before after : Text) (numbers : ClashNumbers)
     → ExportsClash outcome before after numbers
@@ -109,11 +110,13 @@ kind-told noClash before after numbers exported = ap (λ (m : ClashNumbers). m .
 kind-told (clash number node t ends) before after numbers exported = ap (λ (m : ClashNumbers). m .outcome) (exported .numbers-are)
 kind-told (refused number node) before after numbers exported = ap (λ (m : ClashNumbers). m .outcome) (exported .numbers-are)
 
+-- 0 is no clash's
 kind-0 : (outcome : Clashes.Outcome) → (kindOf outcome ≡ 0) ↔ (outcome ≡ noClash)
 kind-0 noClash = (λ z. refl, λ r. refl)
 kind-0 (clash number node t ends) = (λ z. absurd (omega arith), λ r. never (cc))
 kind-0 (refused number node) = (λ z. absurd (omega arith), λ r. never (cc))
 
+-- 1 a clash's
 kind-1 :
     (outcome : Clashes.Outcome)
     → (kindOf outcome ≡ 1) ↔ ((number : ℕ) × (node : ℕ) × (t : Text) × (ends : ℕ × ℕ) × (outcome ≡ clash number node t ends))
@@ -121,6 +124,7 @@ kind-1 noClash = (λ z. absurd (omega arith), λ r. never (let wrong = r .4 in c
 kind-1 (clash number node t ends) = (λ z. (number, node, t, ends, refl), λ r. refl)
 kind-1 (refused number node) = (λ z. absurd (omega arith), λ r. never (let wrong = r .4 in cc))
 
+-- and 2 a refusal's
 kind-2 : (outcome : Clashes.Outcome) → (kindOf outcome ≡ 2) ↔ ((number : ℕ) × (node : ℕ) × (outcome ≡ refused number node))
 kind-2 noClash = (λ z. absurd (omega arith), λ r. never (let wrong = r .2 in cc))
 kind-2 (clash number node t ends) = (λ z. absurd (omega arith), λ r. never (let wrong = r .2 in cc))
@@ -130,6 +134,7 @@ module _
     (table before after : Text)
     (numbers : ClashNumbers)
     (exported : ExportsClash (clashCall table (length before)) before after numbers) where
+  -- so for the call
   told : numbers .outcome ≡ kindOf (clashCall table (length before))
   told = kind-told (clashCall table (length before)) before after numbers exported
 
@@ -196,6 +201,7 @@ put-numbers-differ (refuses number node) (refuses number′ node′) n n′ name
     let nodes : node ≡ node′ = ap (λ (m : PutNumbers). m .node) e in
     cc
 
+-- clash's, whatever the answers
 clash-answers-differ : (answer answer′ : ClashAnswer) → clashNumbersOf answer ≡ clashNumbersOf answer′ → answer ≡ answer′
 clash-answers-differ Accepted Accepted e = refl
 clash-answers-differ Accepted (Clash number node n first second) e = let z : _≡_ {A = ℕ} 0 1 = ap (λ (m : ClashNumbers). m .outcome) e in absurd (omega arith)

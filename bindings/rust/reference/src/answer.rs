@@ -1,11 +1,26 @@
 //! What a call answers: the length of its result, or a refusal with its node. A
-//! put that gives a result says too what became of the entries.
+//! put that gives a result says too what became of the entries, and a clash which
+//! rule is broken where.
 
 /// The length of the result (for check: the number of nodes), or a refusal.
 pub type Answer = Result<usize, Refusal>;
 
 /// The length and the tally of a put's result, or a refusal.
 pub type PutAnswer = Result<Put, Refusal>;
+
+/// What clash answers: what it shows, nothing if no clash exists, or a refusal.
+pub type ClashAnswer = Result<Option<Shown>, Refusal>;
+
+/// The rule that a text breaks.
+#[derive(Clone, Copy, Debug, PartialEq, Eq)]
+pub struct Shown {
+    /// The rule's number and node, as check gives them: 7 to 11.
+    pub rule: Refusal,
+    /// The length of the text, which stands at the start of the buffer.
+    pub length: usize,
+    /// Its two smallest ends; for a union the numbers of its children.
+    pub numbers: [usize; 2],
+}
 
 /// A put's result.
 #[derive(Clone, Copy, Debug, PartialEq, Eq)]
@@ -76,3 +91,5 @@ pub const NOT_A_SHEET: u8 = 14;
 pub const TOO_MANY_ENTRIES: u8 = 15;
 /// The result is longer than the buffer or than 4,096 bytes.
 pub const RESULT_TOO_LONG: u8 = 16;
+/// The text that shows a clash is longer than the buffer.
+pub const CLASH_TOO_LONG: u8 = 17;

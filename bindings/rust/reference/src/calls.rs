@@ -1,22 +1,27 @@
-//! The four calls, and the order in which they refuse.
+//! The calls, and the order in which they refuse.
 //!
 //! Every call checks the program first (1 to 11), then looks at the lengths of
 //! the texts (12), at the texts themselves (13, 14), at the number of old
-//! entries (15) and at the room for the result (16).
+//! entries (15) and at the room for the result (16; for a clash 17, which knows
+//! no limit but the buffer's length).
 
 use std::cell::RefCell;
 use std::rc::Rc;
 
 use crate::answer::*;
+use crate::clash::{shown, Clash};
 use crate::program::Program;
 use crate::table::Side;
 
 /// The longest source, sheet and result.
 pub const MAX_TEXT: usize = 4096;
+/// No clash has a longer text: its two readings are in one pair of positions, of at
+/// most 128 each, only once before their first cut and once behind it.
+pub const MAX_CLASH: usize = 128 * 129;
 /// The most entries that an old source may have in a put.
 pub const MAX_ENTRIES: usize = 256;
 
-/// The four calls, so that implementations can be compared.
+/// The calls, so that implementations can be compared.
 ///
 /// A result stands at the start of `out` and leaves the bytes behind it alone;
 /// a refusal leaves all of `out` as it was.
@@ -29,12 +34,20 @@ pub trait Calls {
     fn put(&self, table: &[u8], sheet: &[u8], source: &[u8], out: &mut [u8]) -> PutAnswer;
     /// Gives a source from a sheet only.
     fn create(&self, table: &[u8], sheet: &[u8], out: &mut [u8]) -> Answer;
+    /// Gives the text that shows a refusal 7 to 11.
+    fn clash(&self, table: &[u8], out: &mut [u8]) -> ClashAnswer;
 }
+
+/// What there is to show of a table: nothing, the rule that is broken with the
+/// text that breaks it, or another refusal.
+pub type Finding = Result<Option<(Refusal, Clash)>, Refusal>;
 
 /// What gives the program of a table. Everything else of the calls is the same.
 pub trait Reads {
     /// The program of a table, as [`Program::read`] gives it.
     fn read(&self, table: &[u8]) -> Result<Rc<Program>, Refusal>;
+    /// What there is to show of a table, as [`shown`] gives it.
+    fn find(&self, table: &[u8]) -> Finding;
 }
 
 /// This crate's own implementation of the calls. Every call checks the program
@@ -45,16 +58,23 @@ impl Reads for Reference {
     fn read(&self, table: &[u8]) -> Result<Rc<Program>, Refusal> {
         Program::read(table).map(Rc::new)
     }
+
+    fn find(&self, table: &[u8]) -> Finding {
+        shown(table)
+    }
 }
 
-/// The same, but a program that was accepted last is not checked again. Calls
-/// about one program mostly come together, and checking a large one takes longer
-/// than a call.
+/// The same, but a program that was accepted last is not checked again, and what
+/// there is to show of a table is not looked for twice in a row. Calls about one
+/// program mostly come together, and checking a large one takes longer than a
+/// call.
 pub struct Remembering;
 
 thread_local! {
     /// The last accepted table with its program.
     static LAST: RefCell<Option<(Vec<u8>, Rc<Program>)>> = const { RefCell::new(None) };
+    /// The last table whose clash was asked for, with what there is to show of it.
+    static LAST_SHOWN: RefCell<Option<(Vec<u8>, Finding)>> = const { RefCell::new(None) };
 }
 
 impl Reads for Remembering {
@@ -66,6 +86,16 @@ impl Reads for Remembering {
         let program = Reference.read(table)?;
         LAST.set(Some((table.to_vec(), Rc::clone(&program))));
         Ok(program)
+    }
+
+    fn find(&self, table: &[u8]) -> Finding {
+        if let Some((_, finding)) = LAST_SHOWN.with_borrow(Option::clone).filter(|(bytes, _)| bytes == table) {
+            return finding;
+        }
+        let is_last_accepted = LAST.with_borrow(|last| last.as_ref().is_some_and(|(bytes, _)| bytes == table));
+        let finding = if is_last_accepted { Ok(None) } else { shown(table) };
+        LAST_SHOWN.set(Some((table.to_vec(), finding.clone())));
+        finding
     }
 }
 
@@ -99,6 +129,13 @@ impl<R: Reads> Calls for R {
         limit_lengths(&[sheet])?;
         admit_sheet(&program, sheet)?;
         hand_over(&program.create(sheet), out)
+    }
+
+    fn clash(&self, table: &[u8], out: &mut [u8]) -> ClashAnswer {
+        let Some((rule, Clash { text, numbers, .. })) = self.find(table)? else { return Ok(None) };
+        require(text.len() <= out.len(), CLASH_TOO_LONG)?;
+        out[..text.len()].copy_from_slice(&text);
+        Ok(Some(Shown { rule, length: text.len(), numbers }))
     }
 }
 

@@ -2,18 +2,17 @@
 //! among the shortest the lowest in byte order.
 //!
 //! As in [`crate::ambiguity`], two runs over one text are a walk through pairs
-//! of states, here in two passes. The first goes backwards from the end and
-//! tells for each pair how many bytes it has before it at least. The second goes
-//! forwards and takes the lowest byte each time. It keeps *all* pairs that the
-//! bytes so far lead to and that have no more before them than a shortest text
-//! has left: the lowest text may go on from any of them. Each pair is kept at
-//! one length only, so each pass meets it once.
+//! of states. Here the texts are followed from the empty one on, byte by byte,
+//! shorter ones before longer ones and lower ones before higher ones. Each place
+//! belongs to the first text that leads to it. A text that leads to a place only
+//! after another need not go on from there: whatever follows, the other text
+//! with the same bytes behind it comes before it. So each place is met once, and
+//! the text that first leads to the end is the one to be shown.
 
 use std::ops::Range;
 
 use crate::answer::*;
 use crate::automaton::{Automaton, State};
-use crate::class::Class;
 use crate::program::Program;
 use crate::table::{Node, Side};
 
@@ -37,9 +36,14 @@ pub struct Clash {
 /// Number and node are those that check gives, and only that rule at that node
 /// is shown.
 pub fn clash(table: &[u8]) -> Option<(Refusal, Clash)> {
-    let program = Program::after_first_round(table).ok()?;
-    let refusal = program.first_typing_fault()?;
-    Some((refusal, clash_behind(&program, refusal)?))
+    shown(table).ok().flatten()
+}
+
+/// The same with the other refusals; nothing for a table that is accepted.
+pub fn shown(table: &[u8]) -> Result<Option<(Refusal, Clash)>, Refusal> {
+    let program = Program::after_first_round(table)?;
+    let Some(refusal) = program.first_typing_fault() else { return Ok(None) };
+    clash_behind(&program, refusal).map(|clash| Some((refusal, clash))).ok_or(refusal)
 }
 
 fn clash_behind(program: &Program, refusal: Refusal) -> Option<Clash> {
@@ -52,7 +56,7 @@ fn clash_behind(program: &Program, refusal: Refusal) -> Option<Clash> {
     let node = usize::from(refusal.node);
     let (text, numbers) = match *program.node(node) {
         Node::LensJoin(a, b) => two_cuts(of(a), of(b)),
-        Node::LensUnion(a, b) => (Search::for_texts_of_both(of(a), of(b)).lowest_text(), [a, b]),
+        Node::LensUnion(a, b) => (Search::for_texts_of_both(of(a), of(b)).first_text(), [a, b]),
         Node::LensRepeat(part) if program.fits(part, side, b"") => (Vec::new(), [0, 0]),
         // Two lists of parts of a shortest text begin with different parts,
         // since a part that both begin with could be left out. So they are two
@@ -66,11 +70,42 @@ fn clash_behind(program: &Program, refusal: Refusal) -> Option<Clash> {
 /// The text with two cuts into one of `a` and one of `b`, and its two smallest
 /// cuts. They need not be the two that the search has met.
 fn two_cuts(a: &Automaton, b: &Automaton) -> (Vec<u8>, [usize; 2]) {
-    let text = Search::for_two_cuts(a, b).lowest_text();
-    let (fits_a, fits_b) = (a.prefixes(&text), b.suffixes(&text));
-    let mut cuts = (0..=text.len()).filter(|&at| fits_a[at] && fits_b[at]);
-    let numbers = [(); 2].map(|()| cuts.next().expect("the text has two cuts"));
-    (text, numbers)
+    let text = Search::for_two_cuts(a, b).first_text();
+    let ends = all_cuts(a, b, &text);
+    assert!(ends.len() > 1, "the text has two cuts");
+    (text, [ends[0], ends[1]])
+}
+
+/// The ends of the first half in all cuts of a text into one of `a` and one of `b`.
+fn all_cuts(a: &Automaton, b: &Automaton, text: &[u8]) -> Vec<usize> {
+    let (fits_a, fits_b) = (a.prefixes(text), b.suffixes(text));
+    (0..=text.len()).filter(|&at| fits_a[at] && fits_b[at]).collect()
+}
+
+/// The ends of the first half or part in all cuts of a text at a join or a repeat.
+/// Other nodes have none.
+pub(crate) fn cuts(program: &Program, node: usize, side: Side, text: &[u8]) -> Vec<usize> {
+    let of = |node| program.automaton(node, side);
+    match *program.node(node) {
+        Node::LensJoin(a, b) => all_cuts(of(a), of(b), text),
+        Node::LensRepeat(part) => all_cuts(of(part), of(node), text),
+        _ => Vec::new(),
+    }
+}
+
+/// The same for a table. Nothing if it has not passed the first round, or has no such
+/// node.
+pub fn ends(table: &[u8], node: usize, side: Side, text: &[u8]) -> Option<Vec<usize>> {
+    let program = Program::after_first_round(table).ok()?;
+    (node <= program.root()).then(|| cuts(&program, node, side, text))
+}
+
+/// Whether a text, not empty, breaks the rule of a join, a union or a repeat.
+pub(crate) fn breaks(program: &Program, node: usize, side: Side, text: &[u8]) -> bool {
+    match *program.node(node) {
+        Node::LensUnion(a, b) => program.fits(a, side, text) && program.fits(b, side, text),
+        _ => cuts(program, node, side, text).len() > 1,
+    }
 }
 
 /// A text of the repeat at this node cut into parts: the first part has this
@@ -120,21 +155,12 @@ enum Crossing {
 }
 
 /// The states in which two runs are.
-#[derive(Clone, Copy)]
+#[derive(Clone, Copy, PartialEq, Eq)]
 struct Place {
     stage: usize,
     early: usize,
     late: usize,
 }
-
-/// A move by a byte that both runs can read.
-struct ByteMove {
-    bytes: Class,
-    to: Place,
-}
-
-/// Farther than any text is long: the end can't be reached, or not yet.
-const NEVER: u32 = u32::MAX;
 
 impl<'a> Search<'a> {
     fn for_texts_of_both(a: &'a Automaton, b: &'a Automaton) -> Search<'a> {
@@ -191,11 +217,6 @@ impl<'a> Search<'a> {
         beside(place, &stage.early.states, &stage.late.states).chain(self.crossing_from(place))
     }
 
-    fn free_moves_into(&self, place: Place) -> impl Iterator<Item = Place> + '_ {
-        let stage = &self.stages[place.stage];
-        beside(place, stage.early.turned(), stage.late.turned()).chain(self.crossing_into(place))
-    }
-
     fn crossing_from(&self, place: Place) -> Option<Place> {
         let here = &self.stages[place.stage];
         let next = self.stages.get(place.stage + 1)?;
@@ -208,83 +229,67 @@ impl<'a> Search<'a> {
         }
     }
 
-    fn crossing_into(&self, place: Place) -> Option<Place> {
-        let here = &self.stages[place.stage];
-        let stage = place.stage.checked_sub(1)?;
-        let before = &self.stages[stage];
-        match before.crosses? {
-            Crossing::Early => {
-                (place.early == here.early.start).then_some(Place { stage, early: before.early.end, ..place })
-            }
-            Crossing::Late => {
-                (place.late == here.late.start).then_some(Place { stage, late: before.late.end, ..place })
-            }
-        }
-    }
-
-    fn byte_move(&self, place: Place) -> Option<ByteMove> {
+    /// The lowest byte that both runs can read, and where it leads to.
+    fn byte_move(&self, place: Place) -> Option<(u8, Place)> {
         let stage = &self.stages[place.stage];
         let early = stage.early.states[place.early].reading?;
         let late = stage.late.states[place.late].reading?;
-        let bytes = early.class.shared(&late.class);
-        let to = Place { stage: stage.after_byte, early: early.to, late: late.to };
-        (!bytes.is_empty()).then_some(ByteMove { bytes, to })
+        let byte = early.class.shared(&late.class).lowest()?;
+        Some((byte, Place { stage: stage.after_byte, early: early.to, late: late.to }))
     }
 
-    fn byte_moves_into(&self, place: Place) -> impl Iterator<Item = Place> + '_ {
-        let stage = &self.stages[place.stage];
-        let early = stage.early.turned()[place.early].reading;
-        let late = stage.late.turned()[place.late].reading;
-        let both = early.zip(late).filter(|(early, late)| early.class.meets(&late.class));
-        let stages = (0..self.stages.len()).filter(move |&from| self.stages[from].after_byte == place.stage);
-        both.into_iter().flat_map(move |(early, late)| {
-            stages.clone().map(move |stage| Place { stage, early: early.to, late: late.to })
-        })
-    }
-
-    /// The least number of bytes from each place to the end, for all places that
-    /// are not farther from it than the start is.
-    fn distances(&self) -> Vec<u32> {
-        let start = self.number(self.start());
-        let mut far = vec![NEVER; self.places];
-        let mut layer = vec![self.end()];
-        let mut bytes = 0;
-        while far[start] == NEVER && !layer.is_empty() {
-            let enter = |place| {
-                let distance = &mut far[self.number(place)];
-                let is_new = *distance == NEVER;
-                *distance = bytes.min(*distance);
-                is_new
-            };
-            follow(&mut layer, |place| self.free_moves_into(place), enter);
-            layer = layer.iter().flat_map(|&place| self.byte_moves_into(place)).collect();
-            bytes += 1;
+    /// The first text, by length and then by bytes, that leads from the start to
+    /// the end.
+    fn first_text(&self) -> Vec<u8> {
+        let (end, mut met) = (self.end(), vec![false; self.places]);
+        let mut texts = Texts::default();
+        // The texts of one length, lowest first, with the places that each is the first to lead to.
+        let mut layer = vec![(Texts::EMPTY, vec![self.start()])];
+        while !layer.is_empty() {
+            let mut moves = Vec::new();
+            for (text, mut places) in layer {
+                let enter = |place| !std::mem::replace(&mut met[self.number(place)], true);
+                follow(&mut places, |place| self.free_moves(place), enter);
+                if places.contains(&end) {
+                    return texts.spell(text);
+                }
+                let by_byte = places.iter().filter_map(|&place| self.byte_move(place));
+                moves.extend(by_byte.map(|(byte, to)| (text, byte, to)));
+            }
+            moves.sort_by_key(|&(text, byte, _)| (text, byte));
+            let alike = moves.chunk_by(|(text, byte, _), (next, further, _)| (text, byte) == (next, further));
+            layer = alike
+                .map(|moves| (texts.longer(moves[0].0, moves[0].1), moves.iter().map(|&(.., to)| to).collect()))
+                .collect();
         }
-        far
+        unreachable!("only rules that some text breaks are shown")
+    }
+}
+
+/// Texts, each but the empty one as another and a byte behind it. Their numbers
+/// are in the order in which they are made.
+#[derive(Default)]
+struct Texts {
+    steps: Vec<(usize, u8)>,
+}
+
+impl Texts {
+    const EMPTY: usize = 0;
+
+    fn longer(&mut self, text: usize, byte: u8) -> usize {
+        self.steps.push((text, byte));
+        self.steps.len()
     }
 
-    /// The lowest of the shortest texts that lead from the start to the end.
-    fn lowest_text(&self) -> Vec<u8> {
-        let far = self.distances();
-        let length = far[self.number(self.start())];
-        assert_ne!(length, NEVER, "only rules that some text breaks are shown");
-        let mut met = vec![false; self.places];
-        let mut text = Vec::new();
-        let mut places = vec![self.start()];
-        for left in (1..=length).rev() {
-            let enter = |place| {
-                let number = self.number(place);
-                far[number] == left && !std::mem::replace(&mut met[number], true)
-            };
-            follow(&mut places, |place| self.free_moves(place), enter);
-            let moves = places.iter().filter_map(|&place| self.byte_move(place));
-            let moves: Vec<ByteMove> = moves.filter(|step| far[self.number(step.to)] == left - 1).collect();
-            let lowest = moves.iter().filter_map(|step| step.bytes.lowest()).min();
-            let byte = lowest.expect("some byte leads nearer to the end");
-            places = moves.iter().filter(|step| step.bytes.has(byte)).map(|step| step.to).collect();
-            text.push(byte);
+    fn spell(&self, mut text: usize) -> Vec<u8> {
+        let mut bytes = Vec::new();
+        while text != Texts::EMPTY {
+            let (before, byte) = self.steps[text - 1];
+            bytes.push(byte);
+            text = before;
         }
-        text
+        bytes.reverse();
+        bytes
     }
 }
 

@@ -20,7 +20,7 @@
 //! | [`lens`] | get, key, book, put and create |
 //! | [`clash`] | the text that shows a refusal 7 to 11 |
 //! | [`reach`] | how far a text that does not fit could be read |
-//! | [`calls`] | the four calls and their order of refusals (12 to 16) |
+//! | [`calls`] | the calls and their order of refusals (12 to 17) |
 //! | [`generator`] | seeded random programs, texts and calls |
 //! | [`walk`] | the parts of a text by the nodes that read them |
 //! | [`census`] | what the programs and calls of a comparison are like |
@@ -45,6 +45,6 @@ pub mod tallies;
 pub mod trial;
 pub mod walk;
 
-pub use answer::{Answer, Put, PutAnswer, Refusal, Tally};
+pub use answer::{Answer, ClashAnswer, Put, PutAnswer, Refusal, Shown, Tally};
 pub use calls::{Calls, Reference, Remembering};
 pub use program::Program;

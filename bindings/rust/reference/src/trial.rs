@@ -1,10 +1,10 @@
 //! Any implementation of the calls compared with the reference, call by call:
-//! the answer, a put's tally and every byte of the buffer.
+//! the answer, a put's tally, what a clash shows and every byte of the buffer.
 
 use std::collections::BTreeMap;
 use std::fmt;
 
-use crate::answer::{Answer, PutAnswer, Refusal, Tally};
+use crate::answer::{Answer, ClashAnswer, PutAnswer, Refusal, Shown, Tally, CLASH_TOO_LONG};
 use crate::calls::{Calls, Remembering};
 use crate::census::Census;
 use crate::generator::cases::{program_cases, Call, Case};
@@ -16,11 +16,14 @@ pub struct Outcome {
     pub answer: Answer,
     /// Only a put's result has one.
     pub tally: Option<Tally>,
+    /// Only a clash has it; where there is none, its answer is that of an empty
+    /// result.
+    pub shown: Option<Shown>,
     pub buffer: Vec<u8>,
 }
 
 impl Outcome {
-    /// The text that a get, a put or a create gave, or the refusal.
+    /// The text that a call gave, or the refusal.
     pub fn text(&self) -> Result<&[u8], Refusal> {
         self.answer.map(|length| &self.buffer[..length])
     }
@@ -34,18 +37,27 @@ pub fn lent_buffer(length: usize) -> Vec<u8> {
 
 pub fn run(calls: &dyn Calls, case: &Case) -> Outcome {
     let mut buffer = lent_buffer(case.lent);
-    let (answer, tally) = match case.call {
-        Call::Check => (calls.check(&case.table), None),
-        Call::Get => (calls.get(&case.table, &case.source, &mut buffer), None),
-        Call::Put => without_tally(calls.put(&case.table, &case.sheet, &case.source, &mut buffer)),
-        Call::Create => (calls.create(&case.table, &case.sheet, &mut buffer), None),
+    let plain = |answer| (answer, None, None);
+    let (answer, tally, shown) = match case.call {
+        Call::Check => plain(calls.check(&case.table)),
+        Call::Get => plain(calls.get(&case.table, &case.source, &mut buffer)),
+        Call::Put => of_put(calls.put(&case.table, &case.sheet, &case.source, &mut buffer)),
+        Call::Create => plain(calls.create(&case.table, &case.sheet, &mut buffer)),
+        Call::Clash => of_clash(calls.clash(&case.table, &mut buffer)),
     };
-    Outcome { answer, tally, buffer }
+    Outcome { answer, tally, shown, buffer }
 }
 
-/// A put's answer as that of any call, and the tally beside it.
-fn without_tally(answer: PutAnswer) -> (Answer, Option<Tally>) {
-    (answer.map(|put| put.length), answer.ok().map(|put| put.tally))
+/// The answer as that of any call, and beside it a put's tally and what a clash
+/// shows.
+type Split = (Answer, Option<Tally>, Option<Shown>);
+
+fn of_put(answer: PutAnswer) -> Split {
+    (answer.map(|put| put.length), answer.ok().map(|put| put.tally), None)
+}
+
+fn of_clash(answer: ClashAnswer) -> Split {
+    (answer.map(|shown| shown.map_or(0, |shown| shown.length)), None, answer.ok().flatten())
 }
 
 /// How often each call gave a result (0) or each refusal (its number).
@@ -72,10 +84,10 @@ impl Counts {
 
 impl fmt::Display for Counts {
     fn fmt(&self, f: &mut fmt::Formatter<'_>) -> fmt::Result {
-        for number in 0..=16 {
+        for number in 0..=CLASH_TOO_LONG {
             let name = if number == 0 { "result".to_string() } else { format!("refusal {number}") };
             write!(f, "{name:>10}")?;
-            for call in [Call::Check, Call::Get, Call::Put, Call::Create] {
+            for call in [Call::Check, Call::Get, Call::Put, Call::Create, Call::Clash] {
                 let count = self.counts.get(&(call, number)).copied().unwrap_or(0);
                 write!(f, "  {call:?} {count:>7}")?;
             }

@@ -381,3 +381,57 @@ fn sets_that_are_refused() {
     draft.lens_union(copy, copy);
     assert_eq!(refused_kinds(&draft), []);
 }
+
+/// The kinds of one clash with a buffer of this length.
+fn clash_kinds(table: &[u8], lent: usize) -> Vec<Kind> {
+    let case = Case { call: Call::Clash, table: table.to_vec(), sheet: Vec::new(), source: Vec::new(), lent };
+    let answer = run(&Reference, &case).answer;
+    let mut census = Census::default();
+    census.note(&[(case, answer)]);
+    let met = Kind::ALL.into_iter().filter(|&kind| census.calls(kind) == 1);
+    met.filter(|&kind| (Kind::NoClash..Kind::EntryMade).contains(&kind)).collect()
+}
+
+#[test]
+fn what_a_clash_shows() {
+    assert_eq!(clash_kinds(&program_k(), 0), [Kind::NoClash]);
+    assert_eq!(clash_kinds(b"", 0), []);
+
+    let any_of = |draft: &mut Draft, words: &[&str]| {
+        let words: Vec<_> = words.iter().map(|word| draft.word(word.as_bytes())).collect();
+        let any = words.into_iter().reduce(|any, word| draft.pattern_union(any, word)).expect("some words");
+        draft.copy(any)
+    };
+    let mut draft = Draft::new();
+    let halves = [any_of(&mut draft, &["a", "ab", "abc"]), any_of(&mut draft, &["bcd", "cd", "d"])];
+    draft.lens_join(halves[0], halves[1]);
+    assert_eq!(clash_kinds(&draft.table(), 4), [Kind::SourceJoinShown, Kind::ThreeCuts]);
+    assert_eq!(clash_kinds(&draft.table(), 3), [Kind::ClashTooLong]);
+
+    let mut draft = Draft::new();
+    let arms = [any_of(&mut draft, &["ba", "ab"]), any_of(&mut draft, &["ba", "ab"])];
+    draft.lens_union(arms[1], arms[0]);
+    assert_eq!(clash_kinds(&draft.table(), 9), [Kind::UnionShown, Kind::UnionTurned]);
+    let mut draft = Draft::new();
+    let (class, end) = (draft.range(b'a', b'c'), draft.word(b"x"));
+    let line = draft.pattern_join(class, end);
+    let copy = draft.copy(line);
+    draft.lens_union(copy, copy);
+    assert_eq!(clash_kinds(&draft.table(), 2), [Kind::UnionShown, Kind::UnionOfOneChild, Kind::HigherTextToo]);
+
+    let mut draft = Draft::new();
+    let nothing = draft.replace(b"a", b"");
+    draft.lens_repeat(nothing);
+    assert_eq!(clash_kinds(&draft.table(), 0), [Kind::SheetRepeatShown, Kind::EmptyClash]);
+
+    let mut draft = Draft::new();
+    let sets = [draft.set(&[(1, 3), (9, 9), (20, 20)]), draft.set(&[(20, 20), (9, 9), (4, 5)])];
+    let arms = sets.map(|set| draft.copy(set));
+    draft.lens_union(arms[0], arms[1]);
+    assert_eq!(clash_kinds(&draft.table(), 1), [Kind::UnionShown, Kind::SharedInALaterRun]);
+
+    let longest = include_bytes!("../../examples/tables/longest.table");
+    let shown = [Kind::SourceRepeatShown, Kind::ClashOver64, Kind::ClashOver4096, Kind::EndAtTheEnd];
+    assert_eq!(clash_kinds(longest, 16_004), shown);
+    assert_eq!(clash_kinds(longest, 16_003), [Kind::ClashTooLong, Kind::ClashTooLongAndHuge]);
+}

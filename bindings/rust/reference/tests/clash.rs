@@ -15,7 +15,8 @@ use noontrough_reference::generator::programs::accepted;
 use noontrough_reference::generator::random::Random;
 use noontrough_reference::generator::small::small_check;
 use noontrough_reference::table::{Node, Side, Table};
-use noontrough_reference::Refusal;
+use noontrough_reference::trial::lent_buffer;
+use noontrough_reference::{Calls, ClashAnswer, Reference, Refusal, Shown};
 
 /// The most texts that are tried for one program, and their greatest length.
 const TRIED: usize = 5000;
@@ -548,4 +549,70 @@ fn clashes_of_all_sorts_of_programs_are_found_in_time() {
     }
     println!("the longest took {longest:?}");
     assert!(longest < PATIENCE);
+}
+
+/// What the call answers with a buffer of this length, and the buffer afterwards.
+fn called(table: &[u8], lent: usize) -> (ClashAnswer, Vec<u8>) {
+    let mut buffer = lent_buffer(lent);
+    (Reference.clash(table, &mut buffer), buffer)
+}
+
+/// The call with buffers one byte too short, long enough, and longer: 17 leaves the buffer
+/// as it was, and a text the bytes behind it.
+fn assert_fills(table: &[u8]) {
+    let (rule, Clash { text, numbers, .. }) = clash(table).expect("refused with 7 to 11");
+    let shown = Shown { rule, length: text.len(), numbers };
+    for lent in [text.len(), text.len() + 1, 4096, 16_512, 20_000].into_iter().filter(|&lent| lent >= text.len()) {
+        let filled = [&text[..], &lent_buffer(lent)[text.len()..]].concat();
+        assert_eq!(called(table, lent), (Ok(Some(shown)), filled));
+    }
+    for lent in [0, 4096, text.len().saturating_sub(1)].into_iter().filter(|&lent| lent < text.len()) {
+        assert_eq!(called(table, lent), (Err(Refusal { number: 17, node: 0 }), lent_buffer(lent)));
+    }
+}
+
+#[test]
+fn the_call_needs_a_buffer_of_the_texts_length() {
+    let (abcd, join) = joined_words(&["a", "ab", "abc"], &["bcd", "cd", "d"]);
+    assert_fills(&abcd);
+    assert_eq!(called(&abcd, 3).0, Err(Refusal { number: 17, node: 0 }));
+    let rule = Refusal { number: 7, node: join };
+    assert_eq!(called(&abcd, 4), (Ok(Some(Shown { rule, length: 4, numbers: [1, 2] })), b"abcd".to_vec()));
+
+    let (empty, repeat) = repeated_words(&["a", ""]);
+    let rule = Refusal { number: 10, node: repeat };
+    assert_eq!(called(&empty, 0), (Ok(Some(Shown { rule, length: 0, numbers: [0, 0] })), Vec::new()));
+    assert_fills(&empty);
+}
+
+#[test]
+fn the_call_tells_what_is_no_clash() {
+    assert_eq!(called(&program_k(), 5), (Ok(None), lent_buffer(5)));
+    let mut random = Random::new(43);
+    for number in 1..=6 {
+        let table = small_check(&mut random, Some(number)).table;
+        let refusal = check(&table).expect_err("refused");
+        for lent in [0, 5] {
+            assert_eq!(called(&table, lent), (Err(refusal), lent_buffer(lent)));
+        }
+    }
+}
+
+/// The tables with the longest texts that are known, with the text of each.
+fn longest() -> [(&'static [u8], u8, Vec<u8>); 3] {
+    let a = |count: usize| b"a".repeat(count);
+    [
+        (include_bytes!("../../examples/tables/longest.table"), 10, [b"b", &a(8001)[..], b"b", &a(8001)].concat()),
+        (include_bytes!("../../examples/tables/longest_join.table"), 7, [&a(7875)[..], b"b", &a(62), b"b"].concat()),
+        (include_bytes!("../../examples/tables/longest_union.table"), 9, a(3969)),
+    ]
+}
+
+#[test]
+fn the_longest_texts_known() {
+    for (table, number, text) in longest() {
+        let (refusal, found) = found_in_time(table);
+        assert_eq!((refusal.number, found.text), (number, text));
+        assert_fills(table);
+    }
 }

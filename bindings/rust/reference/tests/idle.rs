@@ -4,7 +4,7 @@
 use noontrough_reference::calls::MAX_TEXT;
 use noontrough_reference::table::{kind, Node, Side, HEADER};
 use noontrough_reference::trial::compare;
-use noontrough_reference::{Answer, Calls, Program, Put, PutAnswer, Reference, Refusal, Tally};
+use noontrough_reference::{Answer, Calls, ClashAnswer, Program, Put, PutAnswer, Reference, Refusal, Tally};
 
 /// The reference, with its answers changed by `after` once a call is done.
 struct Changed<F: Fn(Answer, &mut [u8]) -> Answer> {
@@ -28,6 +28,9 @@ impl<F: Fn(Answer, &mut [u8]) -> Answer> Calls for Changed<F> {
         let answer = Reference.create(table, sheet, out);
         (self.after)(answer, out)
     }
+    fn clash(&self, table: &[u8], out: &mut [u8]) -> ClashAnswer {
+        Reference.clash(table, out)
+    }
 }
 
 /// The reference with another put.
@@ -47,6 +50,9 @@ impl<F: Fn(&[u8], &[u8], &[u8], &mut [u8]) -> PutAnswer> Calls for OtherPut<F> {
     }
     fn create(&self, table: &[u8], sheet: &[u8], out: &mut [u8]) -> Answer {
         Reference.create(table, sheet, out)
+    }
+    fn clash(&self, table: &[u8], out: &mut [u8]) -> ClashAnswer {
+        Reference.clash(table, out)
     }
 }
 

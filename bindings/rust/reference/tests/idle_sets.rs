@@ -4,7 +4,7 @@
 use noontrough_reference::class::{Class, Pair};
 use noontrough_reference::table::{kind, HEADER, MAX_PAIRS, MAX_POOL};
 use noontrough_reference::trial::compare;
-use noontrough_reference::{Answer, Calls, PutAnswer, Reference};
+use noontrough_reference::{Answer, Calls, ClashAnswer, PutAnswer, Reference};
 
 /// The reference on other tables: `checked` is the one that is accepted or refused,
 /// and an accepted one is then read as `read`.
@@ -28,6 +28,9 @@ impl Calls for OtherTables {
     fn create(&self, table: &[u8], sheet: &[u8], out: &mut [u8]) -> Answer {
         self.check(table)?;
         Reference.create(&(self.read)(table), sheet, out)
+    }
+    fn clash(&self, table: &[u8], out: &mut [u8]) -> ClashAnswer {
+        Reference.clash(&(self.checked)(table), out)
     }
 }
 
@@ -78,7 +81,7 @@ fn hulls(table: &[u8]) -> Vec<u8> {
 }
 
 fn is_found(checked: fn(&[u8]) -> Vec<u8>, read: fn(&[u8]) -> Vec<u8>) -> bool {
-    compare(&OtherTables { checked, read }, 22, 400).is_err()
+    compare(&OtherTables { checked, read }, 25, 500).is_err()
 }
 
 fn both_are_found(change: fn(&[u8]) -> Vec<u8>) -> bool {

@@ -1,7 +1,9 @@
 //! The linked engine as an implementation of the reference's calls.
 
-use noontrough::{Answer, PutAnswer};
-use noontrough_reference::{Answer as Expected, Calls, Put, PutAnswer as ExpectedPut, Refusal, Tally};
+use noontrough::{Answer, ClashAnswer, PutAnswer, Ways};
+use noontrough_reference::{
+    Answer as Expected, Calls, ClashAnswer as ExpectedClash, Put, PutAnswer as ExpectedPut, Refusal, Shown, Tally,
+};
 
 pub struct Engine;
 
@@ -19,6 +21,20 @@ fn put_as_reference(answer: PutAnswer) -> ExpectedPut {
             Ok(Put { length, tally: Tally { kept, made, dropped } })
         }
         PutAnswer::Refusal { number, node } => Err(refusal(number, node)),
+    }
+}
+
+fn clash_as_reference(answer: ClashAnswer) -> ExpectedClash {
+    match answer {
+        ClashAnswer::NoClash => Ok(None),
+        ClashAnswer::Clash(clash) => {
+            let numbers = match clash.ways {
+                Ways::Ends(early, late) => [early, late],
+                Ways::Arms(a, b) => [a, b].map(|arm| usize::from(byte(arm))),
+            };
+            Ok(Some(Shown { rule: refusal(clash.number, clash.node), length: clash.text.len(), numbers }))
+        }
+        ClashAnswer::Refusal { number, node } => Err(refusal(number, node)),
     }
 }
 
@@ -45,6 +61,10 @@ impl Calls for Engine {
 
     fn create(&self, table: &[u8], sheet: &[u8], out: &mut [u8]) -> Expected {
         as_reference(noontrough::create(table, sheet, out))
+    }
+
+    fn clash(&self, table: &[u8], out: &mut [u8]) -> ExpectedClash {
+        clash_as_reference(noontrough::clash(table, out))
     }
 }
 

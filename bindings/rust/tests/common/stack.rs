@@ -5,8 +5,10 @@
 //! far down it went. A frame may reserve a little below the lowest word that it
 //! writes, so a thread needs a few kilobytes more than the figure.
 
-use noontrough::in_place::{check, create, get, put};
-use noontrough::{Answer, MAX_TEXT};
+#![allow(dead_code)] // Each file that measures uses its own part of this.
+
+use noontrough::in_place::{check, clash, create, get, put};
+use noontrough::{Answer, ClashAnswer, MAX_CLASH, MAX_TEXT};
 use noontrough_reference::generator::draft::{Draft, NodeNumber};
 
 /// The stack of the thread that measures, and how much of it is painted: more
@@ -66,12 +68,45 @@ impl Case {
 
     /// The stack that a call takes, in bytes.
     pub fn stack_of(&self, call: Call) -> usize {
-        std::thread::scope(|scope| {
-            let thread = std::thread::Builder::new().stack_size(THREAD);
-            let measured = thread.spawn_scoped(scope, || taken(&|| self.make(call)));
-            measured.expect("a thread can be started").join().expect("the call gives a result")
-        })
+        measured(|| self.make(call))
     }
+
+    /// The same program, for the call clash.
+    pub fn to_clash(&self) -> ClashCase {
+        ClashCase { name: self.name.clone(), table: self.table.clone(), shows: None }
+    }
+}
+
+/// A program, and the rule and the length of the text that clash shows of it; none if
+/// it is accepted.
+pub struct ClashCase {
+    pub name: String,
+    pub table: Vec<u8>,
+    shows: Option<(u64, usize)>,
+}
+
+impl ClashCase {
+    /// Makes the call on this thread's stack.
+    pub fn make(&self) {
+        let mut out = vec![0; MAX_CLASH];
+        let answer = clash(&self.table, &mut out);
+        let shown = answer.clash().map(|clash| (clash.number, clash.text.len()));
+        let is_refused = matches!(answer, ClashAnswer::Refusal { .. });
+        assert!(!is_refused && shown == self.shows, "{}: clash gives {answer:?}", self.name);
+    }
+
+    pub fn stack(&self) -> usize {
+        measured(|| self.make())
+    }
+}
+
+/// The stack that a call takes on a thread of its own.
+fn measured(call: impl Fn() + Sync) -> usize {
+    std::thread::scope(|scope| {
+        let thread = std::thread::Builder::new().stack_size(THREAD);
+        let measured = thread.spawn_scoped(scope, || taken(&call));
+        measured.expect("a thread can be started").join().expect("the call gives a result")
+    })
 }
 
 /// The stack that a call takes below this frame. Only for a thread of `THREAD`
@@ -326,4 +361,130 @@ fn nest_over_long_keys() -> Case {
     let name = format!("{levels} repeats and twice as many joins over 256 entries with long keys");
     let [source, old] = [2, 256].map(|entries| nested(levels, &vec![b'n'; entries]));
     Case { name, table: draft.table(), source, old, sheet: nested(levels, &[&shown[..], b"x;"].concat()) }
+}
+
+/// The calls of clash: of all programs above, which are accepted, and of programs that
+/// clash by few pairs of positions and by many, with a way down to them and without.
+pub fn clash_cases() -> Vec<ClashCase> {
+    let accepted = cases().iter().map(Case::to_clash).collect::<Vec<_>>();
+    let few = [clash_of_k(), few_words(0), few_words(MAX_NODES - 18)];
+    let many = [long_clash(), long_clash_and_joins(), dense_clash(), clashing_repeat(), clashing_join()];
+    accepted.into_iter().chain(few).chain(many).collect()
+}
+
+/// Program K with its semicolon hidden, so that the names in a sheet run together.
+pub fn clash_of_k() -> ClashCase {
+    let mut draft = Draft::new();
+    let (capital, digit) = (draft.range(b'A', b'Z'), draft.range(b'0', b'9'));
+    let name = draft.pattern_some(capital);
+    let digits = draft.pattern_repeat(digit);
+    let row = [draft.key(name), draft.delete(digits, b"0"), draft.replace(b";", b"")];
+    let line = draft.lens_row(&row);
+    let entry = draft.matched(line);
+    draft.lens_repeat(entry);
+    ClashCase { name: "K with a hidden semicolon".to_string(), table: draft.table(), shows: Some((11, 2)) }
+}
+
+/// `abcd`, cut in three ways; so many joins of nothing come before it.
+pub fn few_words(joins: usize) -> ClashCase {
+    let mut draft = Draft::new();
+    let nothing = draft.copy_word(b"");
+    (0..joins).fold(nothing, |root, _| draft.lens_join(nothing, root));
+    let [first, second] = [["a", "ab", "abc"], ["bcd", "cd", "d"]].map(|words| {
+        let words = words.map(|word| draft.word(word.as_bytes()));
+        let any = words.into_iter().reduce(|any, word| draft.pattern_union(any, word)).expect("three words");
+        draft.copy(any)
+    });
+    draft.lens_join(first, second);
+    let name = if joins == 0 { "abcd".to_string() } else { format!("abcd behind {joins} joins") };
+    ClashCase { name, table: draft.table(), shows: Some((7, 4)) }
+}
+
+/// The longest text known.
+fn long_clash() -> ClashCase {
+    let table = include_bytes!("../../examples/tables/longest.table").to_vec();
+    ClashCase { name: "a text of 16,004 bytes".to_string(), table, shows: Some((10, 16_004)) }
+}
+
+/// The same behind joins with about as many positions a side as there can be.
+fn long_clash_and_joins() -> ClashCase {
+    let mut draft = Draft::new();
+    let half = draft.copy_word(&[b'a'; 64]);
+    let nothing = draft.copy_word(b"");
+    let whole = draft.lens_join(half, half);
+    let joins = MAX_NODES - draft.len() - LONG_NODES;
+    (0..joins).fold(whole, |root, _| draft.lens_join(nothing, root));
+    long_repeat(&mut draft);
+    let name = format!("the same behind {joins} joins of 128 positions a side");
+    ClashCase { name, table: draft.table(), shows: Some((10, 16_004)) }
+}
+
+const LONG_NODES: usize = 11;
+
+/// Parts `b (a^63 [ab]? a^63)*`, as in `longest.table`.
+fn long_repeat(draft: &mut Draft) {
+    let (letters, either, nothing) = (draft.word(&[b'a'; 63]), draft.range(b'a', b'b'), draft.word(b""));
+    let option = draft.pattern_union(either, nothing);
+    let row = draft.pattern_join(letters, option);
+    let round = draft.pattern_join(row, letters);
+    let (rounds, begin) = (draft.pattern_repeat(round), draft.word(b"b"));
+    let line = draft.pattern_join(begin, rounds);
+    let part = draft.copy(line);
+    draft.lens_repeat(part);
+}
+
+/// Parts of 124 positions of which each may follow each, and two letters before them.
+fn dense_clash() -> ClashCase {
+    let mut draft = Draft::new();
+    let class = draft.range(b'a', b'z');
+    let mut doubled = vec![class];
+    for _ in 0..6 {
+        let last = doubled[doubled.len() - 1];
+        doubled.push(draft.pattern_union(last, last));
+    }
+    // 64, 32, 16, 8 and 4 of them
+    let all = doubled[2..].iter().copied().reduce(|sum, more| draft.pattern_union(sum, more)).expect("several");
+    let many = draft.pattern_repeat(all);
+    let begin = draft.word(b"aa");
+    let row = draft.pattern_join(begin, many);
+    let line = draft.pattern_join(row, class);
+    let part = draft.copy(line);
+    draft.lens_repeat(part);
+    ClashCase { name: "126 dense positions".to_string(), table: draft.table(), shows: Some((10, 6)) }
+}
+
+/// A text of so many letters or more, in a program that is full but for its last
+/// node: the other nodes are joins of that text and of nothing.
+fn letters_in_a_full_program(draft: &mut Draft, least: usize) -> NodeNumber {
+    let nothing = draft.copy_word(b"");
+    let letter = draft.word(b"a");
+    let some = draft.pattern_some(letter);
+    let mut letters = draft.copy(some);
+    for length in [least - 1 - (least - 1) / 2, (least - 1) / 2] {
+        let further = draft.copy_word(&vec![b'a'; length]);
+        letters = draft.lens_join(further, letters);
+    }
+    while draft.len() < MAX_NODES - 1 {
+        draft.lens_join(nothing, letters);
+    }
+    letters
+}
+
+/// About as many rows as a program can have, and 128 positions under the last
+/// node. No clash is known that takes more stack.
+pub fn clashing_repeat() -> ClashCase {
+    let mut draft = Draft::new();
+    let letters = letters_in_a_full_program(&mut draft, 127);
+    draft.lens_repeat(letters);
+    let name = "a repeat of 128 positions in a full program".to_string();
+    ClashCase { name, table: draft.table(), shows: Some((10, 254)) }
+}
+
+/// The same with a join.
+fn clashing_join() -> ClashCase {
+    let mut draft = Draft::new();
+    let letters = letters_in_a_full_program(&mut draft, 63);
+    draft.lens_join(letters, letters);
+    let name = "a join of 128 positions in a full program".to_string();
+    ClashCase { name, table: draft.table(), shows: Some((7, 127)) }
 }

@@ -13,6 +13,7 @@ pub enum Command {
     Get,
     Put,
     Create,
+    Clash,
     Assemble,
     Show,
     Where,
@@ -30,7 +31,7 @@ struct Form {
 impl Form {
     /// Whether something is told beside a result, and can be left out.
     fn tells_more(&self) -> bool {
-        self.command == Command::Put
+        matches!(self.command, Command::Put | Command::Clash)
     }
 }
 
@@ -38,7 +39,7 @@ impl Form {
 const NODE: &str = "NODE";
 
 #[rustfmt::skip]
-const FORMS: [Form; 7] = [
+const FORMS: [Form; 8] = [
     Form {
         command: Command::Check,
         name: "check",
@@ -46,7 +47,7 @@ const FORMS: [Form; 7] = [
         brief: "tells whether the engine takes a program",
         help: "Writes 'ok', the number of nodes, and the positions of the whole program in the\n\
                source and in the sheet. A program that is refused is told with its line, and an\n\
-               ambiguous one with a text that can be read in two ways.",
+               ambiguous one with a text that can be read in two ways ('clash' writes it).",
     },
     Form {
         command: Command::Get,
@@ -72,6 +73,17 @@ const FORMS: [Form; 7] = [
         operands: &["PROGRAM", "SHEET"],
         brief: "makes a source from a sheet alone",
         help: "Writes the source, byte for byte, with the defaults for what the sheet hides.",
+    },
+    Form {
+        command: Command::Clash,
+        name: "clash",
+        operands: &["PROGRAM"],
+        brief: "writes a text that a program could read in two ways",
+        help: "Writes the text, byte for byte: of those that show why the program is refused (7 to\n\
+               11) a shortest one, and of these the lowest in byte order. It can be empty, and has\n\
+               16,512 bytes at most. A program that the engine takes has no such text: that is\n\
+               told, and is no result.\n\n\
+               Then it tells on standard error the line of the program, and the two ways.",
     },
     Form {
         command: Command::Assemble,
@@ -107,14 +119,14 @@ const OPTIONS: &str = "  -o, --output FILE   write the result to FILE ('-': stan
                       save the SOURCE of put
   -h, --help          this text";
 
-/// Only put tells anything beside a result.
-const QUIET: &str = "  -q, --quiet         put: don't tell what became of the entries";
+/// Only put and clash tell anything beside a result.
+const QUIET: &str = "  -q, --quiet         put, clash: don't tell anything beside the result";
 
 const VERSION: &str = "  -V, --version       the version";
 
 const STATUS: &str = "\
-Exit status: 0 a result, 1 a refusal (nothing is written), 2 wrong usage or a file that
-can't be read or written. What was refused, and where, is told on standard error.";
+Exit status: 0 a result, 1 a refusal or no clash (nothing is written), 2 wrong usage or a
+file that can't be read or written. What was refused, and where, is told on standard error.";
 
 /// A command with its operands.
 #[derive(Debug)]
@@ -124,7 +136,7 @@ pub struct Call {
     /// Only `where` has one.
     pub node: Option<usize>,
     pub output: Place,
-    /// A put's tally is not told.
+    /// What is known beside a result is not told.
     pub is_quiet: bool,
 }
 

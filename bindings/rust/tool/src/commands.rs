@@ -1,20 +1,21 @@
 //! What each command does.
 
-use noontrough::{Answer, Tally, MAX_TEXT};
+use noontrough::{Answer, ClashAnswer, MAX_CLASH, MAX_TEXT};
 use noontrough_assembler::show;
 use noontrough_reference::table::Table;
 
 use crate::arguments::{Call, Command};
+use crate::clashes;
 use crate::descriptors::OUTPUT;
 use crate::failure::Failure;
 use crate::files::{self, Place};
 use crate::program::{self, Program};
 use crate::refusals::{told, wrong_sizes, Text, Texts};
 
-/// What is to be written, and what became of the entries if it is a put's.
+/// What is to be written, and what is to be told once it is.
 pub struct Done {
     pub bytes: Vec<u8>,
-    pub tally: Option<Tally>,
+    pub told: Option<String>,
 }
 
 pub fn run(call: &Call) -> Result<Done, Failure> {
@@ -25,11 +26,12 @@ pub fn run(call: &Call) -> Result<Done, Failure> {
         Command::Get => get(&program, &call.files[1]),
         Command::Put => return put(&program, &call.files[1], &call.files[2]),
         Command::Create => create(&program, &call.files[1]),
+        Command::Clash => return clash(&program),
         Command::Assemble => assemble(program),
         Command::Show => shown(&program),
         Command::Where => origin(&program, call.node.unwrap_or(0)),
     };
-    bytes.map(|bytes| Done { bytes, tally: None })
+    bytes.map(|bytes| Done { bytes, told: None })
 }
 
 /// The result must not take the place of a file that it was made from: a sheet in
@@ -77,12 +79,26 @@ fn put(program: &Program, sheet: &Place, source: &Place) -> Result<Done, Failure
         tally = answer.tally();
         answer.into()
     })?;
-    Ok(Done { bytes, tally })
+    Ok(Done { bytes, told: tally.map(|tally| tally.to_string()) })
 }
 
 fn create(program: &Program, sheet: &Place) -> Result<Vec<u8>, Failure> {
     let texts = Texts { sheet: Some(text(sheet)?), source: None };
     given(program, &texts, |out| noontrough::create(&program.table, texts.sheet(), out))
+}
+
+fn clash(program: &Program) -> Result<Done, Failure> {
+    let mut out = vec![0; MAX_CLASH];
+    match noontrough::clash(&program.table, &mut out) {
+        ClashAnswer::Clash(clash) => {
+            Ok(Done { bytes: clash.text.to_vec(), told: Some(clashes::told(program, &clash)) })
+        }
+        ClashAnswer::NoClash => {
+            let name = program.place.name();
+            Err(Failure::Refused(format!("{name}: there is no clash; the engine takes this program")))
+        }
+        ClashAnswer::Refusal { number, node } => Err(Failure::Refused(told(program, &Texts::default(), number, node))),
+    }
 }
 
 fn text(place: &Place) -> Result<Text, Failure> {

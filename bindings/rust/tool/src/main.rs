@@ -1,10 +1,10 @@
 //! `noontrough`: lens programs, sheets and sources on the command line.
 //!
 //! The answers are the linked engine's, which is proved, and so are the counts of
-//! entries that `put` tells on standard error. What this program adds is not: where
-//! a refusal comes from, told there too, and the two numbers of positions that
-//! `check` writes behind its `ok`. They are worked out by the reference, by the
-//! assembler and here.
+//! entries that `put` tells on standard error, and the text and the two ends or arms
+//! that show an ambiguity. What this program adds is not: where a refusal comes from,
+//! told there too, and the two numbers of positions that `check` writes behind its
+//! `ok`. They are worked out by the reference, by the assembler and here.
 //!
 //! It never harms a file. The exit status is 0 for a result, 1 for a refusal and
 //! 2 for wrong usage or a file that can't be read or written; standard output and
@@ -20,11 +20,13 @@
 //! | [`commands`] | what each command does |
 //! | [`refusals`] | what is told of a refusal |
 //! | [`programs`] | where in a program a refusal comes from, and what shows it |
+//! | [`clashes`] | the text that a program could read in two ways, and both ways |
 //! | [`texts`] | how far a text could be read, and what could have followed |
 //! | [`words`] | bytes, names and lists in words |
 //! | [`failure`] | why there is no result, and the exit status for it |
 
 mod arguments;
+mod clashes;
 mod commands;
 mod descriptors;
 mod failure;
@@ -43,7 +45,6 @@ use std::process::ExitCode;
 use arguments::{Call, Request};
 use failure::Failure;
 use files::Place;
-use noontrough::Tally;
 
 fn main() -> ExitCode {
     descriptors::let_writes_fail();
@@ -63,16 +64,16 @@ fn run(words: &[OsString]) -> Result<(), Failure> {
         Request::Run(call) => {
             let done = commands::run(&call)?;
             files::write(&call.output, &done.bytes)?;
-            done.tally.into_iter().for_each(|tally| tell(&call, tally));
+            done.told.into_iter().for_each(|told| tell(&call, &told));
             Ok(())
         }
     }
 }
 
-/// Tells what became of the entries, unless it is not wanted or would stand in the
-/// new source. The result is written by now, so nothing is wrong if this can't be.
-fn tell(call: &Call, tally: Tally) {
+/// Tells what is known beside a result, unless it is not wanted or would stand in
+/// the result. That is written by now, so nothing is wrong if this can't be.
+fn tell(call: &Call, told: &str) {
     if !call.is_quiet && !files::is_told_into(&call.output) {
-        let _ = writeln!(io::stderr(), "{tally}");
+        let _ = writeln!(io::stderr(), "{told}");
     }
 }

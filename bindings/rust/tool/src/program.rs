@@ -53,6 +53,12 @@ impl Program {
         }
     }
 
+    /// The line of the text that made a node.
+    pub fn line_of(&self, node: usize) -> Option<usize> {
+        let origins = self.assembled.as_ref().filter(|_| self.is_text).map(|assembled| &assembled.origins);
+        origins.and_then(|origins| origins.get(node)).map(|origin| origin.line)
+    }
+
     /// How a message calls a node: by its name, or by the words that made it.
     pub fn name_of(&self, node: usize) -> String {
         let origin = self.assembled.as_ref().and_then(|assembled| assembled.origins.get(node));

@@ -1,26 +1,28 @@
-//! Where in a program a refusal from 2 to 11 comes from, and what shows it.
+//! Where in a program a refusal from 2 to 11 comes from, and what shows it. (Of 7 to
+//! 11 that is told by [`crate::clashes`].)
 
 use noontrough_assembler::assembly::MAX_PAIRS;
 use noontrough_assembler::kinds::{by_byte, is_lens, Kind, Sort, MATCH, RANGE, SET, WORD};
 use noontrough_assembler::line::quote_byte;
 use noontrough_assembler::too_large;
-use noontrough_reference::clash::{clash, parts_from, Clash};
-use noontrough_reference::table::Side;
 
+use crate::clashes;
 use crate::program::Program;
-use crate::words::{list, quote_shortened};
+use crate::words::quote_shortened;
 
 const MAX_WORD: usize = 64;
 
 /// The place, the node's name and what is wrong there.
 pub fn told(program: &Program, number: u64, node: usize) -> Option<String> {
+    if number >= 7 {
+        return clashes::behind_refusal(program);
+    }
     let what = match number {
         2 => unknown_kind(program, node),
         3 => wrong_operand(program, node),
         4 => inner_match(program, node),
         5 => program.assembled.as_ref().and_then(|assembled| too_large(assembled, node)),
-        6 => wrong_default(program, node),
-        _ => clashing(program, number, node),
+        _ => wrong_default(program, node),
     };
     let what = what.unwrap_or_else(|| program.name_of(node));
     Some(format!("{}: {what}", program.place_of(node)))
@@ -116,53 +118,4 @@ fn wrong_default(program: &Program, node: usize) -> Option<String> {
     let (_, [pattern, _, default]) = program.record(node)?;
     let text = quote_shortened(program.word(default)?);
     Some(format!("{}: the default {text} is no text of {}", program.name_of(node), program.name_of(pattern)))
-}
-
-/// The halves, arms or parts by their names, with a text that shows it.
-fn clashing(program: &Program, number: u64, node: usize) -> Option<String> {
-    let (refusal, clash) = clash(&program.table)?;
-    if (u64::from(refusal.number), usize::from(refusal.node)) != (number, node) {
-        return None;
-    }
-    let (_, operands) = program.record(node)?;
-    let name = program.name_of(node);
-    let side = if clash.side == Side::Source { "source" } else { "sheet" };
-    let shown = match number {
-        9 => both_arms(program, &clash, operands),
-        7 | 8 => both_cuts(program, &clash, operands),
-        _ => both_lists(program, &clash, node, operands[0]),
-    };
-    Some(format!("{name}, in the {side}: {shown}"))
-}
-
-fn both_arms(program: &Program, clash: &Clash, [a, b, _]: [usize; 3]) -> String {
-    format!("{} is of {} and of {}", quote_shortened(&clash.text), program.name_of(a), program.name_of(b))
-}
-
-fn both_cuts(program: &Program, clash: &Clash, [a, b, _]: [usize; 3]) -> String {
-    let cut = |end: usize| {
-        let (first, second) = clash.text.split_at(end);
-        let [first, second] = [first, second].map(quote_shortened);
-        format!("{} {first} and {} {second}", program.name_of(a), program.name_of(b))
-    };
-    let [early, late] = clash.numbers.map(cut);
-    format!("{} is {early}, or {late}", quote_shortened(&clash.text))
-}
-
-/// How many parts of a list are shown.
-const PARTS: usize = 6;
-
-fn both_lists(program: &Program, clash: &Clash, node: usize, part: usize) -> String {
-    let name = program.name_of(part);
-    if clash.text.is_empty() {
-        return format!("the empty text is one of {name}, so nobody could count the parts");
-    }
-    let parts = |end: usize| {
-        let cuts = parts_from(&program.table, node, clash.side, &clash.text, end).unwrap_or_default();
-        let shown = cuts.iter().take(PARTS).map(|cut| quote_shortened(&clash.text[cut.clone()]));
-        let more = (cuts.len() > PARTS).then(|| format!("{} more", cuts.len() - PARTS));
-        list(&shown.chain(more).collect::<Vec<String>>(), "and")
-    };
-    let [early, late] = clash.numbers.map(parts);
-    format!("{} is the parts {early} of {name}, or {late}", quote_shortened(&clash.text))
 }

@@ -11,12 +11,17 @@
 //! put "C;" on 2 times "C1;"          gives "C1;"
 //! put "C;" on "C1;D2;"               gives "C1;"     kept 1 made 0 dropped 1
 //! create "AB;" into 2                refused 16 0
+//! clash                              shows "abcd" cut at 1 and 2
+//! clash                              shows "M" of first and second
+//! clash                              shows none
+//! clash into 3                       refused 17 0
 //! ```
 //!
-//! `in both` says which line of the text made the node. `into 2` lends a buffer
-//! of 2 bytes; otherwise it is 4,096 bytes long. A put's tally may be said or not. A line that ends in a backslash
-//! goes on in the next. Each call is made on the linked engine and on the
-//! reference, and both must do what the line says.
+//! `in both` says which line of the text made the node, `of first and second` which
+//! lines made the arms. `into 2` lends a buffer of 2 bytes; otherwise it is 4,096
+//! bytes long, and for a clash 16,512. A put's tally may be said or not. A line that
+//! ends in a backslash goes on in the next. Each call is made on the linked engine
+//! and on the reference, and both must do what the line says.
 //!
 //! A block marked `console k` is run in a copy of the folder examples/k: each line
 //! behind `$ ` is a command, and below it stands all that it writes, standard
@@ -31,9 +36,11 @@ use std::collections::BTreeSet;
 
 use common::*;
 use linked::Engine;
+use noontrough::MAX_CLASH;
 use noontrough_assembler::line::{quote_text, tokens, Token};
 use noontrough_assembler::{assemble, Origin};
-use noontrough_reference::{Calls, Reference, Refusal, Tally};
+use noontrough_reference::answer::UNION_OVERLAPS;
+use noontrough_reference::{Calls, Reference, Refusal, Shown, Tally};
 
 const BUFFER: usize = 4096;
 
@@ -85,6 +92,9 @@ enum Saying {
     Ok(usize),
     /// With a tally if it is a put's; a line need not say it.
     Gives(Vec<u8>, Option<Tally>),
+    /// A clash's text, and the two ways to read it in the words of a line.
+    Shows(Vec<u8>, String),
+    ShowsNone,
     Refused(Refusal),
 }
 
@@ -149,11 +159,23 @@ impl Reader<'_> {
         Some(Tally { kept: count("kept")?, made: count("made")?, dropped: count("dropped")? })
     }
 
-    fn lent(&mut self) -> usize {
+    /// `cut at 1 and 2` or `of first and second`: the rest of the line.
+    fn ways(&mut self) -> String {
+        let words = self.rest.iter().map(|token| match token {
+            Token::Name(word) => word.clone(),
+            Token::Number(number) => number.to_string(),
+            other => panic!("a word or a number is wanted: {other:?}"),
+        });
+        let words: Vec<String> = words.collect();
+        self.rest = &[];
+        words.join(" ")
+    }
+
+    fn lent(&mut self, usual: usize) -> usize {
         if self.word("into") {
             self.number()
         } else {
-            BUFFER
+            usual
         }
     }
 }
@@ -164,6 +186,7 @@ enum Wanted {
     Get(Vec<u8>, usize),
     Put(Vec<u8>, Vec<u8>, usize),
     Create(Vec<u8>, usize),
+    Clash(usize),
 }
 
 /// The call at the start of a line.
@@ -171,21 +194,30 @@ fn wanted(reader: &mut Reader) -> Wanted {
     if reader.word("check") {
         Wanted::Check
     } else if reader.word("get") {
-        Wanted::Get(reader.text(), reader.lent())
+        Wanted::Get(reader.text(), reader.lent(BUFFER))
     } else if reader.word("put") {
         let sheet = reader.text();
         assert!(reader.word("on"), "'on' is wanted: {:?}", reader.rest);
-        Wanted::Put(sheet, reader.text(), reader.lent())
+        Wanted::Put(sheet, reader.text(), reader.lent(BUFFER))
     } else if reader.word("create") {
-        Wanted::Create(reader.text(), reader.lent())
+        Wanted::Create(reader.text(), reader.lent(BUFFER))
+    } else if reader.word("clash") {
+        Wanted::Clash(reader.lent(MAX_CLASH))
     } else {
         panic!("a call is wanted: {:?}", reader.rest)
     }
 }
 
-/// What comes of a call.
-fn outcome(calls: &dyn Calls, table: &[u8], wanted: &Wanted) -> Saying {
-    let mut out = vec![b'?'; BUFFER.max(8192)];
+/// What comes of a call, which both must agree on.
+fn outcome_by_both(subject: &Subject, wanted: &Wanted) -> Saying {
+    let happened = outcome(&Engine, subject, wanted);
+    assert_eq!(happened, outcome(&Reference, subject, wanted), "by the reference");
+    happened
+}
+
+fn outcome(calls: &dyn Calls, subject: &Subject, wanted: &Wanted) -> Saying {
+    let table = &subject.table;
+    let mut out = vec![b'?'; MAX_CLASH];
     let answer = match wanted {
         Wanted::Check => return calls.check(table).map_or_else(Saying::Refused, Saying::Ok),
         Wanted::Get(source, lent) => calls.get(table, source, &mut out[..*lent]).map(|length| (length, None)),
@@ -193,8 +225,24 @@ fn outcome(calls: &dyn Calls, table: &[u8], wanted: &Wanted) -> Saying {
             calls.put(table, sheet, source, &mut out[..*lent]).map(|put| (put.length, Some(put.tally)))
         }
         Wanted::Create(sheet, lent) => calls.create(table, sheet, &mut out[..*lent]).map(|length| (length, None)),
+        Wanted::Clash(lent) => return clash_outcome(calls, subject, &mut out[..*lent]),
     };
     answer.map_or_else(Saying::Refused, |(length, tally)| Saying::Gives(out[..length].to_vec(), tally))
+}
+
+fn clash_outcome(calls: &dyn Calls, subject: &Subject, out: &mut [u8]) -> Saying {
+    match calls.clash(&subject.table, out) {
+        Ok(None) => Saying::ShowsNone,
+        Ok(Some(Shown { rule, length, numbers: [a, b] })) => {
+            let name = |node: usize| &subject.origins[node].name;
+            let ways = match rule.number {
+                UNION_OVERLAPS => format!("of {} and {}", name(a), name(b)),
+                _ => format!("cut at {a} and {b}"),
+            };
+            Saying::Shows(out[..length].to_vec(), ways)
+        }
+        Err(refusal) => Saying::Refused(refusal),
+    }
 }
 
 /// What the rest of a line says; a refusal of a node must name its line.
@@ -203,6 +251,12 @@ fn saying(reader: &mut Reader, subject: &Subject) -> Result<Saying, String> {
         Saying::Ok(reader.number())
     } else if reader.word("gives") {
         Saying::Gives(reader.text(), reader.tally())
+    } else if reader.word("shows") {
+        if reader.word("none") {
+            Saying::ShowsNone
+        } else {
+            Saying::Shows(reader.text(), reader.ways())
+        }
     } else if reader.word("refused") {
         let refusal = Refusal { number: reader.number() as u8, node: reader.number() as u8 };
         let name = match reader.rest {
@@ -217,7 +271,7 @@ fn saying(reader: &mut Reader, subject: &Subject) -> Result<Saying, String> {
         reader.rest = &[];
         Saying::Refused(refusal)
     } else {
-        return Err(format!("ok, gives or refused is wanted: {:?}", reader.rest));
+        return Err(format!("ok, gives, shows or refused is wanted: {:?}", reader.rest));
     };
     if reader.rest.is_empty() {
         Ok(said)
@@ -233,6 +287,8 @@ fn told(saying: &Saying) -> String {
         Saying::Gives(text, Some(Tally { kept, made, dropped })) => {
             format!("gives {} kept {kept} made {made} dropped {dropped}", quote_text(text))
         }
+        Saying::Shows(text, ways) => format!("shows {} {ways}", quote_text(text)),
+        Saying::ShowsNone => "shows none".to_string(),
         Saying::Refused(refusal) => format!("refused {} {}", refusal.number, refusal.node),
     }
 }
@@ -255,8 +311,7 @@ impl Run {
         self.count += 1;
         let mut reader = Reader { rest: &tokens };
         let wanted = wanted(&mut reader);
-        let happened = outcome(&Engine, &subject.table, &wanted);
-        assert_eq!(happened, outcome(&Reference, &subject.table, &wanted), "{call}: by the reference");
+        let happened = outcome_by_both(subject, &wanted);
         if let (Saying::Refused(refusal), Some(heading)) = (&happened, block.heading) {
             self.shown.extend((refusal.number == heading).then_some(heading));
         }
@@ -292,7 +347,7 @@ fn programs_and_calls() {
     }
     assert!(!waiting, "the last program has no calls");
     assert!(run.faults.is_empty(), "\n{}", run.faults.join("\n"));
-    assert_eq!(run.shown, (1..=16).collect(), "every refusal is shown under its own heading");
+    assert_eq!(run.shown, (1..=17).collect(), "every refusal is shown under its own heading");
     println!("{} calls", run.count);
 }
 

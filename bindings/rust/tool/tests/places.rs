@@ -82,7 +82,10 @@ fn sets_that_break_a_rule() {
 #[test]
 fn sets_that_meet() {
     let arms = |other: &str| format!("first = copy [az]\nsecond = copy {other}\nletter = lens union first second\n");
-    check(&arms("[mz]"), &["refused 9 ", "p.lens:3:10: 'letter', in the source: \"z\" is of 'first' and of 'second'"]);
+    check(
+        &arms("[mz]"),
+        &["refused 9 ", "p.lens:3:10: 'letter' is a union; in the source, \"z\" belongs to both arms: 'first' (line 1) and 'second' (line 2)"],
+    );
     let folder = Folder::new();
     folder.write("p.lens", arms("[m]"));
     folder.gives("noontrough check p.lens", "ok 5 2 2\n");
@@ -123,7 +126,7 @@ fn kinds_matches_and_defaults() {
 fn joins_that_can_be_cut_in_two_ways() {
     check("left = key [A-Z]*\nright = copy [A-Z]*\npair = lens join left right\n", &[
         "refused 7 4: A source of this join",
-        "p.lens:3:8: 'pair', in the source: \"A\" is 'left' \"\" and 'right' \"A\", or 'left' \"A\" and 'right' \"\"",
+        "p.lens:3:8: 'pair' joins 'left' (line 1) and 'right' (line 2); in the source, \"A\" can be cut as \"\" + \"A\" and as \"A\" + \"\"",
     ]);
     let hidden = "left = key [A-Z]*\ncomma = const \",\" \"\" \",\"\nright = copy [A-Z]*\n\
         rest = lens join comma right\npair = lens join left rest\n";
@@ -131,25 +134,25 @@ fn joins_that_can_be_cut_in_two_ways() {
         hidden,
         &[
             "refused 8 ",
-            "p.lens:5:8: 'pair', in the sheet: \"A\" is 'left' \"\" and 'rest' \"A\", or 'left' \"A\" and 'rest' \"\"",
+            "p.lens:5:8: 'pair' joins 'left' (line 1) and 'rest' (line 4); in the sheet, \"A\" can be cut as \"\" + \"A\" and as \"A\" + \"\"",
         ],
     );
     // Of all cuts of the text the two that come first; {a, ab, abc} before {bcd, cd, d}.
     let three = "left = copy (union \"a\" \"ab\" \"abc\")\nright = copy (union \"bcd\" \"cd\" \"d\")\npair = lens join left right\n";
-    check(three, &["\"abcd\" is 'left' \"a\" and 'right' \"bcd\", or 'left' \"ab\" and 'right' \"cd\""]);
+    check(three, &["\"abcd\" can be cut as \"a\" + \"bcd\" and as \"ab\" + \"cd\""]);
 }
 
 #[test]
 fn halves_without_a_name_are_told_by_their_words() {
     let row = "pair = lens join (key \"x\") (copy [A-Z]*) (copy [B-Z]*)\n";
-    check(row, &["p.lens:1:", "in the source: \"B\" is 'copy [A-Z]*' \"\" and 'copy [B-Z]*' \"B\", or 'copy [A-Z]*' \"B\" and 'copy [B-Z]*' \"\""]);
+    check(row, &["p.lens:1:", " joins 'copy [A-Z]*' and 'copy [B-Z]*'; in the source, \"B\" can be cut as \"\" + \"B\" and as \"B\" + \"\"\n"]);
 }
 
 #[test]
 fn unions_whose_arms_overlap() {
     check(
         "first = copy [A-M]\nsecond = copy [M-Z]\nletter = lens union first second\n",
-        &["refused 9 ", "p.lens:3:10: 'letter', in the source: \"M\" is of 'first' and of 'second'"],
+        &["refused 9 ", "p.lens:3:10: 'letter' is a union; in the source, \"M\" belongs to both arms: 'first' (line 1) and 'second' (line 2)"],
     );
 }
 
@@ -159,19 +162,19 @@ fn repeats_that_can_be_cut_in_two_ways() {
         "label = copy [A-Z]+\nlabels = lens repeat label\n",
         &[
             "refused 10 ",
-            "p.lens:2:10: 'labels', in the source: \"AA\" is the parts \"A\" and \"A\" of 'label', or \"AA\"",
+            "p.lens:2:10: 'labels' repeats 'label' (line 1); in the source, \"AA\" can be cut as \"A\" + \"A\" and as \"AA\"",
         ],
     );
     check(
         "label = copy [A-Z]*\nlabels = lens repeat label\n",
         &[
             "refused 10 ",
-            "p.lens:2:10: 'labels', in the source: the empty text is one of 'label', so nobody could count the parts",
+            "p.lens:2:10: 'labels' repeats 'label' (line 1); in the source, the empty text is a part, so nobody could count the parts",
         ],
     );
     check(
         "line = lens join (key [A-Z]+) (const [0-9] \"\" \"0\")\nlines = line*\n",
-        &["refused 11 ", "p.lens:2:9: 'lines', in the sheet: \"AA\" is the parts \"A\" and \"A\" of 'line', or \"AA\""],
+        &["refused 11 ", "p.lens:2:9: 'lines' repeats 'line' (line 1); in the sheet, \"AA\" can be cut as \"A\" + \"A\" and as \"AA\""],
     );
 }
 
@@ -185,7 +188,7 @@ fn a_table_has_no_lines() {
         1,
         &[
             "refused 7 4",
-            "p.table: node 4: 'n4', in the source: \"A\" is 'n2' \"\" and 'n3' \"A\", or 'n2' \"A\" and 'n3' \"\"",
+            "p.table: node 4: 'n4' joins 'n2' and 'n3'; in the source, \"A\" can be cut as \"\" + \"A\" and as \"A\" + \"\"",
         ],
     );
 }
@@ -328,7 +331,7 @@ fn parts_go_by_their_own_words() {
     check("d = [0-9]*\nr = const [0-9]* \"\" \"x\"\n", &["p.lens:2:5: 'r': the default \"x\" is no text of '[0-9]*'"]);
     check(
         "v = lens join (copy \"a\") (copy \"b\"?)?\n",
-        &["in the source: \"\" is of 'copy \"\"' and of 'copy \"b\"?'"],
+        &["in the source, \"\" belongs to both arms: 'copy \"\"' and 'copy \"b\"?'\n"],
     );
 }
 
@@ -336,11 +339,11 @@ fn parts_go_by_their_own_words() {
 #[test]
 fn suffixes_of_lenses() {
     check("p = (copy [A-Z]+){3}\n", &[
-        "'2 of copy [A-Z]+', in the source: \"AAA\" is 'copy [A-Z]+' \"A\" and 'copy [A-Z]+' \"AA\", or 'copy [A-Z]+' \"AA\" and 'copy [A-Z]+' \"A\"",
+        "'2 of copy [A-Z]+' joins 'copy [A-Z]+' and 'copy [A-Z]+'; in the source, \"AAA\" can be cut as \"A\" + \"AA\" and as \"AA\" + \"A\"",
     ]);
-    check("p = (copy [A-Z]+)+\n", &["'any number of copy [A-Z]+', in the source: \"AA\" is the parts \"A\" and \"A\" of 'copy [A-Z]+', or \"AA\""]);
+    check("p = (copy [A-Z]+)+\n", &["'any number of copy [A-Z]+' repeats 'copy [A-Z]+'; in the source, \"AA\" can be cut as \"A\" + \"A\" and as \"AA\"\n"]);
     check("p = (copy [A-Z]+){1,3}\n", &[
-        "in the source: \"AA\" is 'copy [A-Z]+' \"A\" and 'up to 1 of copy [A-Z]+' \"A\", or 'copy [A-Z]+' \"AA\" and 'up to 1 of copy [A-Z]+' \"\"",
+        " joins 'copy [A-Z]+' and 'up to 1 of copy [A-Z]+'; in the source, \"AA\" can be cut as \"A\" + \"A\" and as \"AA\" + \"\"\n",
     ]);
 }
 

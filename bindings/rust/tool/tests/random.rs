@@ -1,14 +1,14 @@
 //! Random programs and texts through the tool: it ends with one of its exit
 //! statuses, writes nothing to standard output beside a refusal, tells the engine's
 //! number and node of it, and otherwise gives what the linked engine gives, and
-//! tells a put's tally.
+//! tells a put's tally. A clash is written as the engine gives it.
 
 mod common;
 
 use common::*;
-use noontrough::{Answer, Tally, MAX_TEXT};
+use noontrough::{Answer, ClashAnswer, Tally, MAX_CLASH, MAX_TEXT};
 use noontrough_assembler::{assemble, show};
-use noontrough_reference::generator::cases::{program_cases, Call, Case};
+use noontrough_reference::generator::cases::{cases_without_clash, Call, Case};
 use noontrough_reference::generator::faults::mutated;
 use noontrough_reference::generator::programs::accepted;
 use noontrough_reference::generator::random::Random;
@@ -29,6 +29,7 @@ fn answer(case: &Case) -> (Answer, Vec<u8>, Option<Tally>) {
             answer.into()
         }
         Call::Create => noontrough::create(&case.table, &case.sheet, &mut out),
+        Call::Clash => unreachable!("none is drawn"),
     };
     if let Answer::Result { length } = answer {
         out.truncate(length);
@@ -47,6 +48,7 @@ fn agrees(folder: &Folder, case: &Case) -> bool {
         Call::Get => "noontrough get table source > result",
         Call::Put => "noontrough put table sheet source > result",
         Call::Create => "noontrough create table sheet > result",
+        Call::Clash => unreachable!("none is drawn"),
     };
     let done = folder.sh(line);
     let result = folder.read("result");
@@ -75,9 +77,50 @@ fn agrees(folder: &Folder, case: &Case) -> bool {
 fn calls() {
     let folder = Folder::new();
     let mut random = Random::new(1);
-    let cases: Vec<Case> = (0..PROGRAMS).flat_map(|_| program_cases(&mut random)).collect();
+    let cases: Vec<Case> = (0..PROGRAMS).flat_map(|_| cases_without_clash(&mut random)).collect();
     let refused = cases.iter().filter(|case| agrees(&folder, case)).count();
     assert!(refused > 100 && cases.len() - refused > 100, "{refused} of {} calls were refused", cases.len());
+}
+
+/// The status of a clash, and what is written: the engine's text, if there is one.
+fn clash_of(table: &[u8]) -> (i32, Vec<u8>, &'static str) {
+    match noontrough::clash(table, &mut [0; MAX_CLASH]) {
+        ClashAnswer::Clash(clash) => (0, clash.text.to_vec(), "table: node "),
+        ClashAnswer::NoClash => (1, Vec::new(), "table: there is no clash"),
+        ClashAnswer::Refusal { number: 1, .. } => (1, Vec::new(), ""),
+        ClashAnswer::Refusal { .. } => (1, Vec::new(), "noontrough: refused "),
+    }
+}
+
+#[test]
+fn clashes() {
+    let folder = Folder::new();
+    let mut random = Random::new(3);
+    let mut shown = 0;
+    for _ in 0..2 * PROGRAMS {
+        let table = ambiguous(&mut random);
+        folder.write("table", &table);
+        let done = folder.sh("noontrough clash table > result");
+        let (status, text, told) = clash_of(&table);
+        assert_eq!((done.status, folder.read("result")), (status, text), "{table:?}: {}", done.stderr);
+        assert!(done.stderr.starts_with(told), "{table:?}: {}", done.stderr);
+        shown += usize::from(status == 0);
+    }
+    assert!(shown > PROGRAMS / 2, "{shown} clashes were shown");
+}
+
+/// A program with two of its lenses joined, united or repeated once more, which
+/// often makes it ambiguous.
+fn ambiguous(random: &mut Random) -> Vec<u8> {
+    let mut draft = accepted(random);
+    let (root, other) = (draft.len() as u8 - 1, random.below(draft.len()) as u8);
+    match random.below(4) {
+        0 => draft.lens_join(root, root),
+        1 => draft.lens_union(root, root),
+        2 => draft.lens_join(root, other),
+        _ => draft.lens_repeat(root),
+    };
+    draft.table()
 }
 
 /// A program's text as it is shown, often with some bytes changed, or that of a

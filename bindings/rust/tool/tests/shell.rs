@@ -419,6 +419,8 @@ fn wrong_usage_names_the_argument() {
         ),
         ("noontrough -q put program.lens sheet source", "noontrough: '-q' stands before the command"),
         ("noontrough get program.lens source -q", "noontrough get: there is no option '-q'"),
+        ("noontrough clash", "noontrough clash: PROGRAM is missing\nusage: noontrough clash PROGRAM [-o FILE] [-q]"),
+        ("noontrough clash program.lens source", "noontrough clash: 'source' is one argument too many"),
         ("noontrough check --quiet program.lens", "noontrough check: there is no option '--quiet'"),
         ("noontrough put program.lens sheet source --quiet=yes", "noontrough put: there is no option '--quiet=yes'"),
         ("noontrough get program.lens source more", "noontrough get: 'more' is one argument too many"),
@@ -441,15 +443,16 @@ fn help_and_version() {
     let k = Folder::new();
     k.gives("noontrough --version", "noontrough 0.1.0\n");
     let all = k.sh("noontrough --help");
-    for command in ["check", "get", "put", "create", "assemble", "show", "where"] {
+    for command in ["check", "get", "put", "create", "clash", "assemble", "show", "where"] {
         assert!(all.stdout.contains(&format!("\n  {command} PROGRAM")), "{}", all.stdout);
         let one = k.sh(&format!("noontrough {command} --help"));
         assert!(one.stdout.starts_with(&format!("usage: noontrough {command} PROGRAM")), "{}", one.stdout);
         assert_eq!((one.status, one.stderr.as_str()), (0, ""));
         assert_eq!(k.sh(&format!("noontrough help {command}")).stdout, one.stdout);
-        assert_eq!(one.stdout.contains("\n  -q, --quiet  "), command == "put", "{}", one.stdout);
+        assert_eq!(one.stdout.contains("\n  -q, --quiet  "), ["put", "clash"].contains(&command), "{}", one.stdout);
     }
     assert!(all.stdout.contains("\n  -q, --quiet  "), "{}", all.stdout);
     assert!(k.sh("noontrough put --help").stdout.contains("'kept 1 made 1 dropped 1'"));
-    assert!(all.stdout.contains("Exit status: 0 a result, 1 a refusal"));
+    assert!(k.sh("noontrough clash --help").stdout.contains("16,512 bytes"));
+    assert!(all.stdout.contains("Exit status: 0 a result, 1 a refusal or no clash"));
 }

@@ -2,17 +2,17 @@
 //! form of a list in an antt module, so that the definitions themselves can be
 //! evaluated against them.
 //!
-//! `crosscheck [SEED [CHECKS GETS PUTS CREATES]]`; without arguments seed 1 and
-//! 100, 100, 120 and 80 calls.
+//! `crosscheck [SEED [CHECKS GETS PUTS CREATES CLASHES]]`; without arguments seed 1
+//! and 100, 100, 120, 80 and 60 calls.
 
 use std::collections::HashSet;
 
 use noontrough_reference::generator::cases::{Call, Case};
 use noontrough_reference::generator::faults::PROGRAM_REFUSALS;
 use noontrough_reference::generator::random::Random;
-use noontrough_reference::generator::small::{small_call, small_check};
+use noontrough_reference::generator::small::{small_call, small_check, small_clash};
 use noontrough_reference::trial::run;
-use noontrough_reference::Reference;
+use noontrough_reference::{Reference, Refusal, Shown};
 
 fn main() {
     let mut arguments = std::env::args().skip(1).map(|text| text.parse().expect("arguments are numbers"));
@@ -24,6 +24,7 @@ fn main() {
     for (call, usual) in [(Call::Get, 100), (Call::Put, 120), (Call::Create, 80)] {
         print_lines(next(usual), || small_call(&mut random, call));
     }
+    print_lines(next(60), || small_clash(&mut random));
 }
 
 /// Prints so many different lines.
@@ -45,15 +46,22 @@ fn line_of(case: &Case) -> String {
         Call::Get => format!("gets {table} {source} {lent} {answer}"),
         Call::Put => format!("puts {table} {sheet} {source} {lent} {answer}"),
         Call::Create => format!("creates {table} {sheet} {lent} {answer}"),
+        Call::Clash => format!("clashes {table} {lent} {answer}"),
     }
 }
 
-/// Check gives a number, the other calls give a text.
+/// Check gives a number; clash tells of a rule with its text and ends, or that there
+/// is nothing to tell; the other calls give a text.
 fn answer_of(case: &Case) -> String {
     let outcome = run(&Reference, case);
     match outcome.answer {
+        Ok(length) if case.call == Call::Clash => outcome.shown.map_or("noClash".to_string(), |shown| {
+            let Shown { rule: Refusal { number, node }, numbers: [first, second], .. } = shown;
+            format!("(clash {number} {node} {} ({first} , {second}))", bytes(&outcome.buffer[..length]))
+        }),
         Ok(length) if case.call == Call::Check => format!("(gives {length})"),
         Ok(length) => format!("(gives {})", bytes(&outcome.buffer[..length])),
+        Err(refusal) if case.call == Call::Clash => format!("(refused {} {})", refusal.number, refusal.node),
         Err(refusal) => format!("(refuses {} {})", refusal.number, refusal.node),
     }
 }

@@ -12,6 +12,7 @@ use crate::generator::cases::{Call, Case};
 use crate::program::Program;
 use crate::table::{Node, Side, SIDES};
 
+mod clashes;
 mod puts;
 mod sets;
 
@@ -137,6 +138,37 @@ pub enum Kind {
     /// An old entry has a key of such a length.
     KeyAt4095To4097,
 
+    // Calls of clash.
+    /// No clash exists.
+    NoClash,
+    /// One is shown with 7, 8, 9, 10, 11.
+    SourceJoinShown,
+    SheetJoinShown,
+    UnionShown,
+    SourceRepeatShown,
+    SheetRepeatShown,
+    /// It is longer than the buffer; and longer than other texts can be.
+    ClashTooLong,
+    ClashTooLongAndHuge,
+    /// The text is empty, has over 64 bytes, has over 4,096.
+    EmptyClash,
+    ClashOver64,
+    ClashOver4096,
+    /// The text has more than two cuts, so that the two smallest need not be those by
+    /// which it was found.
+    ThreeCuts,
+    /// The second end is the whole text.
+    EndAtTheEnd,
+    /// The arms of the union are one node; the first has the higher number.
+    UnionOfOneChild,
+    UnionTurned,
+    /// Two classes of several runs share a byte of the text, and none in the first run of
+    /// one of them.
+    SharedInALaterRun,
+    /// Another text of the same length has two cuts, or is of both arms: with one byte
+    /// of the text raised.
+    HigherTextToo,
+
     // Puts that give a result, by what became of the entries.
     /// An entry was made, was dropped; some were kept, some made, some dropped.
     EntryMade,
@@ -158,7 +190,7 @@ pub enum Kind {
 }
 
 impl Kind {
-    pub const ALL: [Kind; 78] = [
+    pub const ALL: [Kind; 95] = [
         Kind::UnionsTwoDeep,
         Kind::UnionsThreeDeep,
         Kind::UnionsOnTheLeft,
@@ -227,6 +259,23 @@ impl Kind {
         Kind::LongKeys,
         Kind::LongKeysFound,
         Kind::KeyAt4095To4097,
+        Kind::NoClash,
+        Kind::SourceJoinShown,
+        Kind::SheetJoinShown,
+        Kind::UnionShown,
+        Kind::SourceRepeatShown,
+        Kind::SheetRepeatShown,
+        Kind::ClashTooLong,
+        Kind::ClashTooLongAndHuge,
+        Kind::EmptyClash,
+        Kind::ClashOver64,
+        Kind::ClashOver4096,
+        Kind::ThreeCuts,
+        Kind::EndAtTheEnd,
+        Kind::UnionOfOneChild,
+        Kind::UnionTurned,
+        Kind::SharedInALaterRun,
+        Kind::HigherTextToo,
         Kind::EntryMade,
         Kind::EntryDropped,
         Kind::KeptMadeAndDropped,
@@ -272,6 +321,7 @@ impl Census {
     /// Notes the calls of one program with their answers.
     pub fn note(&mut self, calls: &[(Case, Answer)]) {
         let Some((first, _)) = calls.first() else { return };
+        self.note_clashes(&first.table, calls);
         let program = match Program::read(&first.table) {
             Ok(program) => program,
             Err(refusal) => return self.note_refused(&sets::refusal_kinds(&first.table, refusal), calls.len()),
@@ -290,6 +340,20 @@ impl Census {
         }
         met.sort_unstable();
         met.dedup();
+        for kind in met {
+            *self.programs.entry(kind).or_default() += 1;
+        }
+    }
+
+    fn note_clashes(&mut self, table: &[u8], calls: &[(Case, Answer)]) {
+        let mut met = BTreeSet::new();
+        for (_, answer) in calls.iter().filter(|(case, _)| case.call == Call::Clash) {
+            let of_call = clashes::clash_kinds(table, answer);
+            for kind in &of_call {
+                *self.calls.entry(*kind).or_default() += 1;
+            }
+            met.extend(of_call);
+        }
         for kind in met {
             *self.programs.entry(kind).or_default() += 1;
         }
@@ -314,7 +378,8 @@ impl fmt::Display for Census {
 }
 
 fn has_legal_texts(case: &Case, answer: &Answer) -> bool {
-    case.call != Call::Check && answer.map_or_else(|refusal| refusal.number == RESULT_TOO_LONG, |_| true)
+    !matches!(case.call, Call::Check | Call::Clash)
+        && answer.map_or_else(|refusal| refusal.number == RESULT_TOO_LONG, |_| true)
 }
 
 /// What is worked out once for a program.

@@ -1,5 +1,6 @@
 //! Random calls: a program, its texts, and the length of the lent buffer.
 
+use super::clashes::clashing;
 use super::draft::Draft;
 use super::faults::{mutated, refused, refused_for_sets, PROGRAM_REFUSALS};
 use super::keys::like_key_cases;
@@ -8,7 +9,7 @@ use super::many_empty::many_empty_cases;
 use super::programs::accepted;
 use super::random::Random;
 use super::texts::{draw, draw_of_length, edit, garbage};
-use crate::calls::{MAX_ENTRIES, MAX_TEXT};
+use crate::calls::{Reads, Remembering, MAX_CLASH, MAX_ENTRIES, MAX_TEXT};
 use crate::program::Program;
 use crate::table::{Node, Side};
 
@@ -18,6 +19,7 @@ pub enum Call {
     Get,
     Put,
     Create,
+    Clash,
 }
 
 /// One call. Texts that a call does not take are empty.
@@ -34,9 +36,17 @@ pub struct Case {
 /// Calls about one program: refused ones are checked and called with texts that
 /// would fit other programs, accepted ones get texts of all sorts. Programs with
 /// long old entries, with many empty matches or with keys that are much alike
-/// bring their own texts.
+/// bring their own texts. All are asked for their clash.
 pub fn program_cases(random: &mut Random) -> Vec<Case> {
-    let table = match random.below(30) {
+    let mut cases = cases_without_clash(random);
+    let clashes = clash_cases(random, &cases[0].table);
+    cases.extend(clashes);
+    cases
+}
+
+/// The same without the calls of clash.
+pub fn cases_without_clash(random: &mut Random) -> Vec<Case> {
+    let table = match random.below(34) {
         0..=2 => return long_entry_cases(random),
         3..=4 => return many_empty_cases(random),
         5 => return like_key_cases(random),
@@ -49,9 +59,26 @@ pub fn program_cases(random: &mut Random) -> Vec<Case> {
             mutated(random, &table)
         }
         12..=13 => refused_for_sets(random, &mut accepted),
+        14..=17 => clashing(random),
         _ => accepted(random).table(),
     };
     cases_of(random, table)
+}
+
+/// The clash of a table with buffers of lengths around the text's; at the limit for
+/// other texts, where this one knows none; and of the greatest length that a text can
+/// have.
+pub fn clash_cases(random: &mut Random, table: &[u8]) -> Vec<Case> {
+    let others = [0, MAX_TEXT, MAX_CLASH];
+    let lent = match Remembering.find(table) {
+        Ok(Some((_, clash))) => {
+            let exact = clash.text.len();
+            let around = [exact.checked_sub(1), Some(exact), Some(exact + 1)];
+            around.into_iter().flatten().chain(others).collect()
+        }
+        _ => vec![0, *random.pick(&[1, 20, MAX_TEXT, MAX_CLASH])],
+    };
+    lent.into_iter().map(|lent| case(Call::Clash, table, (Vec::new(), Vec::new()), lent)).collect()
 }
 
 /// A check of a table, and gets, puts and creates with it.
@@ -77,7 +104,7 @@ pub fn cases_of(random: &mut Random, table: Vec<u8>) -> Vec<Case> {
 /// A call with those of the two texts, sheet and source, that it takes.
 pub(super) fn case(call: Call, table: &[u8], (sheet, source): (Vec<u8>, Vec<u8>), lent: usize) -> Case {
     let (sheet, source) = match call {
-        Call::Check => (Vec::new(), Vec::new()),
+        Call::Check | Call::Clash => (Vec::new(), Vec::new()),
         Call::Get => (Vec::new(), source),
         Call::Put => (sheet, source),
         Call::Create => (sheet, Vec::new()),

@@ -15,11 +15,13 @@
 //! | [`many_empty`] | calls with up to 126 empty matches in a part |
 //! | [`keys`] | calls with old entries whose keys are much alike |
 //! | [`faults`] | programs refused with a wanted number |
+//! | [`clashes`] | programs that clash, by texts of all lengths |
 //! | [`texts`] | sources, sheets, edits, garbage |
 //! | [`cases`] | whole calls, with buffers of every interesting size |
 //! | [`small`] | calls small enough to be evaluated from definitions |
 
 pub mod cases;
+pub mod clashes;
 pub mod counted_arms;
 pub mod depths;
 pub mod draft;

@@ -7,7 +7,7 @@ use super::faults::refused;
 use super::programs::{grown, records, two_kinds, Room};
 use super::random::Random;
 use super::texts::{draw, edit, garbage};
-use crate::answer::{Answer, LIMIT_PASSED, NOT_A_SHEET, NOT_A_SOURCE};
+use crate::answer::*;
 use crate::calls::Remembering;
 use crate::program::Program;
 use crate::table::{Side, Table};
@@ -26,6 +26,21 @@ pub fn small_check(random: &mut Random, number: Option<u8>) -> Case {
         None => accepted_table(random),
     };
     Case { call: Call::Check, table, sheet: Vec::new(), source: Vec::new(), lent: 0 }
+}
+
+/// A clash of a small program, mostly of one that has one, with a short text.
+pub fn small_clash(random: &mut Random) -> Case {
+    loop {
+        let least = if random.once_in(8) { SIZES_WRONG } else { SOURCE_JOIN_AMBIGUOUS };
+        let any = random.between(usize::from(least), usize::from(SHEET_REPEAT_AMBIGUOUS)) as u8;
+        let number = (!random.once_in(8)).then_some(any);
+        let mut case = with_texts(Call::Clash, small_check(random, number).table, Vec::new(), Vec::new(), TEXT);
+        let answer = run(&Remembering, &case).answer;
+        if answer.is_ok_and(|length| length <= 4) || answer.is_err_and(|refusal| refusal.number != CLASH_TOO_LONG) {
+            case.lent = lent_length(random, answer);
+            return case;
+        }
+    }
 }
 
 /// A small get, put or create.
@@ -51,7 +66,7 @@ fn is_telling(case: &Case) -> bool {
     let text = &outcome.buffer[..length];
     let created = || Program::read(&case.table).map(|program| program.create(&case.sheet));
     match case.call {
-        Call::Check => true,
+        Call::Check | Call::Clash => true,
         Call::Get => text != case.source,
         Call::Put => text != case.sheet && text != case.source && created().is_ok_and(|created| created != text),
         Call::Create => text != case.sheet,
