@@ -3,9 +3,10 @@
  *
  * A lens program turns a source into a sheet (get), and an edited sheet back
  * into a source (put, create). A program that could read some text in two ways is
- * refused (check), and such a text is shown (clash). A program is a table of bytes, made for instance
- * by `noontrough assemble`; docs/GUIDE.md says how to write one. Texts are
- * bytes, with no terminating zero: a zero byte is a byte like any other.
+ * refused (check), and such a text is shown (clash). A program is a table of
+ * bytes, made for instance by `noontrough assemble`; docs/GUIDE.md says how to
+ * write one. Texts are bytes, with no terminating zero: a zero byte is a byte like
+ * any other.
  *
  * What holds for every call:
  *
@@ -54,10 +55,10 @@ extern "C" {
 
 /* The stack that any call of any program keeps to: 1.8 MiB. A call takes what
  * its program needs. For a program like that of examples/k, check, get and create
- * take under 64 KiB, and a put or a clash under 96 KiB. The 2 MiB that a default thread of
- * Rust has are enough for every call. The bound is measured on x86-64, not proved
- * (docs/PERFORMANCE.md); the tests of bindings/rust fail if a call of the
- * programs that take most passes it. */
+ * take under 64 KiB, and a put or a clash under 96 KiB. The 2 MiB that a default
+ * thread of Rust has are enough for every call. The bound is measured on x86-64,
+ * not proved (docs/PERFORMANCE.md); the tests of bindings/rust fail if a call of
+ * the programs that take most passes it. */
 #define NOONTROUGH_STACK_BYTES (1840 * 1024)
 
 /* The stack that check and get of any program keep to: 704 KiB. Measured and

@@ -1,5 +1,6 @@
 //! What each refusal means and what to do, in a sentence: the words that the
-//! proved program `sheet` has for them (`crates/meanings/src/lib.rt`).
+//! proved program `sheet` has for them (`crates/meanings/src/lib.rt`), and those
+//! for 17, which only a clash gives; `sheet` makes none.
 
 /// The sentence of a refusal, without a newline.
 pub fn sentence(number: u64) -> Option<&'static str> {

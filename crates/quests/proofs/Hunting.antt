@@ -14,9 +14,9 @@ use Rattle.search.specs.declared.patches.Quest.{Quest}
 use Rattle.search.specs.Graph.{Graph, Way, Accepts}
 use Rattle.search.specs.Pairs.{graphOf, QuestFits}
 use Rattle.search.specs.Layers.{AllFresh, Layered, Filled}
-use Rattle.search.specs.Texts.{EntriesRoom, NoneAlive}
+use Rattle.spelling.specs.Texts.{EntriesRoom, NoneAlive}
 use Rattle.search.proofs.Queues.{graph-bounded}
-use Rattle.search.proofs.Writing.{accepted-long, accepted-some}
+use Rattle.spelling.proofs.Writing.{accepted-long, accepted-some}
 use Rattle.quests.specs.Quests.{QuestOf, Cleared, Tables, FreshIn, Asks, Answerable, Hunted}
 use Rattle.quests.proofs.Filling.{all-fresh, quest-fits, room-of, shared-below, entry-shared}
 

@@ -7,7 +7,7 @@ use positions::Set;
 use search::layers::fill_layers;
 use search::patches::Patch;
 use search::patches::Quest;
-use search::texts::write_text;
+use spelling::write_text;
 ghost use mathlib.Core.Path.{_≡_};
 ghost use mathlib.Core.Bool.{Bool, true};
 ghost use Prim.Native.Nat.{ℕ, _+_, _*_, _≤_};

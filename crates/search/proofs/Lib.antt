@@ -1,4 +1,3 @@
 -- What the proofs share, and the crates above cite.
 pub mod Queues
 pub mod Layering
-pub mod Writing

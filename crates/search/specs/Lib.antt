@@ -3,4 +3,3 @@ pub mod Graph
 pub mod Pairs
 pub mod Queue
 pub mod Layers
-pub mod Texts

@@ -54,7 +54,7 @@ fn every_refusal_comes_up_and_none_touches_the_buffer() {
         }
     }
     println!("{} calls\n{counts}", counts.total());
-    for number in 0..=16 {
+    for number in 0..=17 {
         assert!(counts.of_number(number) >= 20, "{number} came up {} times", counts.of_number(number));
     }
 }

@@ -1,15 +1,15 @@
--- `search::texts::may_come` meets its contract, for the first byte and for a later one. Assumes nothing.
+-- `spelling::may_come` meets its contract, for the first byte and for a later one. Assumes nothing.
 use mathlib.Core.Path.{sym, subst, _∙_}
 use mathlib.Core.Logic.{inl, inr, ⊎-elim}
 use Prim.Native.Nat.{_-_, _*_, _/_, _%_}
 use native.Mathlib.Omega.{arith}
 use borrow.Author.Needs.{needs}
 use Rattle.laws.specs.Basics.{not-both}
 use Rattle.search.specs.Pairs.{PatchFits}
 use Rattle.search.proofs.Queues.{before-fits, linked-fits}
-use Rattle.search.proofs.Writing.{AliveIn, comes-first, comes-later}
-use Rattle.search.proofs.texts.may_come.Statement.{statement}
-use Rattle.search.proofs.texts.may_come.Tie as tie
+use Rattle.spelling.proofs.Writing.{AliveIn, comes-first, comes-later}
+use Rattle.spelling.proofs.may_come.Statement.{statement}
+use Rattle.spelling.proofs.may_come.Tie as tie
 
 begins-requires : tie.Need-begins-requires
 begins-requires c κs = search needs

@@ -1,13 +1,13 @@
--- `search::texts::mark` meets its contract: nothing is set where the byte does not stand, or the pair does not come; else one pair is. Assumes nothing.
+-- `spelling::mark` meets its contract: nothing is set where the byte does not stand, or the pair does not come; else one pair is. Assumes nothing.
 use mathlib.Core.Path.{_≡_, sym, subst, _∙_}
 use mathlib.Core.Logic.{⊎-elim}
 use borrow.Author.Needs.{needs}
 use borrow.Author.Tests.{not-true, not-false}
 use Rattle.laws.specs.Basics.{not-both}
 use Rattle.automaton.specs.Rows.{RowRoom}
-use Rattle.search.proofs.Writing.{stands-iff, marked-none, marked-one}
-use Rattle.search.proofs.texts.mark.Statement.{statement}
-use Rattle.search.proofs.texts.mark.Tie as tie
+use Rattle.spelling.proofs.Writing.{stands-iff, marked-none, marked-one}
+use Rattle.spelling.proofs.mark.Statement.{statement}
+use Rattle.spelling.proofs.mark.Tie as tie
 
 rows-of-requires : tie.Need-rows-of-requires
 rows-of-requires c κs = search needs

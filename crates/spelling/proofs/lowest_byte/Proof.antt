@@ -1,11 +1,11 @@
--- `search::texts::lowest_byte` meets its contract. The loop's invariant: the byte is the lowest one of the entries before k. Assumes nothing.
+-- `spelling::lowest_byte` meets its contract. The loop's invariant: the byte is the lowest one of the entries before k. Assumes nothing.
 use Prim.Native.Nat.{_-_, _≤_, max}
 use native.Mathlib.Omega.{arith}
 use Rattle.search.specs.Pairs.{graphOf}
-use Rattle.search.specs.Texts.{Comes, LowestByte}
-use Rattle.search.proofs.Writing.{lowest-begins, lowest-more, lowest-all}
-use Rattle.search.proofs.texts.lowest_byte.Statement.{statement}
-use Rattle.search.proofs.texts.lowest_byte.Tie as tie
+use Rattle.spelling.specs.Texts.{Comes, LowestByte}
+use Rattle.spelling.proofs.Writing.{lowest-begins, lowest-more, lowest-all}
+use Rattle.spelling.proofs.lowest_byte.Statement.{statement}
+use Rattle.spelling.proofs.lowest_byte.Tie as tie
 
 abbrev Inv-loop : tie.InvT-loop
 Inv-loop prepared quest leads alive i order from to lowest₀ k₀ lowest k =

@@ -1,12 +1,12 @@
--- `search::texts::lower_byte` meets its contract, for each way that it returns. Assumes nothing.
+-- `spelling::lower_byte` meets its contract, for each way that it returns. Assumes nothing.
 use mathlib.Core.Path.{sym, subst}
 use borrow.Author.Needs.{needs}
 use borrow.Author.Tests.{not-true, not-false}
 use Rattle.laws.specs.Basics.{not-both}
 use Rattle.automaton.specs.Rows.{RowRoom}
-use Rattle.search.proofs.Writing.{lower-past, lower-not, lower-by}
-use Rattle.search.proofs.texts.lower_byte.Statement.{statement}
-use Rattle.search.proofs.texts.lower_byte.Tie as tie
+use Rattle.spelling.proofs.Writing.{lower-past, lower-not, lower-by}
+use Rattle.spelling.proofs.lower_byte.Statement.{statement}
+use Rattle.spelling.proofs.lower_byte.Tie as tie
 
 rows-of-requires : tie.Need-rows-of-requires
 rows-of-requires c κs = search needs

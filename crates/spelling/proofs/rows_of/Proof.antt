@@ -1,8 +1,8 @@
--- `search::texts::rows_of` meets its contract, for an early pair and for a late one. Assumes nothing.
+-- `spelling::rows_of` meets its contract, for an early pair and for a late one. Assumes nothing.
 use native.Mathlib.Omega.{arith}
-use Rattle.search.proofs.Writing.{rows-early, rows-late}
-use Rattle.search.proofs.texts.rows_of.Statement.{statement}
-use Rattle.search.proofs.texts.rows_of.Tie as tie
+use Rattle.spelling.proofs.Writing.{rows-early, rows-late}
+use Rattle.spelling.proofs.rows_of.Statement.{statement}
+use Rattle.spelling.proofs.rows_of.Tie as tie
 
 add-t7 : tie.Need-add-t7
 add-t7 c =

@@ -1,9 +1,9 @@
 // The bytes of the text, from the front: each the lowest by which a pair of the next layer can be reached from those that the text so far leads to.
-use crate::layers::begins;
-use crate::patches::Patch;
-use crate::patches::Quest;
-use crate::patches::before;
-use crate::patches::linked;
+use search::layers::begins;
+use search::patches::Patch;
+use search::patches::Quest;
+use search::patches::before;
+use search::patches::linked;
 use automaton::first_shared;
 use automaton::set_at;
 use automaton::stands;
@@ -15,9 +15,9 @@ ghost use mathlib.Core.Logic.{_↔_};
 ghost use Prim.Native.Nat.{ℕ, _≤_, _<_};
 ghost use lib.ListN.{length, getD};
 ghost use Rattle.clash.specs.Clash.{Given};
 ghost use Rattle.search.specs.Graph.{Accepts};
 ghost use Rattle.search.specs.Pairs.{heldIn, pairIn, leftRow, rightRow, graphOf, PatchFits, QuestFits, PairRoom};
-ghost use Rattle.search.specs.Texts.{Comes, LowerByte, LowestByte, Among, Marked, NoneAlive, EntriesRoom, WrittenOut};
+ghost use Rattle.spelling.specs.Texts.{Comes, LowerByte, LowestByte, Among, Marked, NoneAlive, EntriesRoom, WrittenOut};
 
 // Where the positions of a pair have their rows in the prepared program.
 struct Rows {

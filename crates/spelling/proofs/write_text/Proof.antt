@@ -1,11 +1,11 @@
--- `search::texts::write_text` meets its contract. The loop's invariant: the first i bytes are written. Assumes nothing.
+-- `spelling::write_text` meets its contract. The loop's invariant: the first i bytes are written. Assumes nothing.
 use mathlib.Core.Path.{refl, sym, _∙_}
 use Prim.Native.Nat.{_-_}
 use native.Mathlib.Omega.{arith}
 use lib.ListN.{length}
-use Rattle.search.proofs.Writing.{Written, layer-room, written-begins, written-byte, written-more, written-ends}
-use Rattle.search.proofs.texts.write_text.Statement.{statement}
-use Rattle.search.proofs.texts.write_text.Tie as tie
+use Rattle.spelling.proofs.Writing.{Written, layer-room, written-begins, written-byte, written-more, written-ends}
+use Rattle.spelling.proofs.write_text.Statement.{statement}
+use Rattle.spelling.proofs.write_text.Tie as tie
 
 abbrev Inv-loop : tie.InvT-loop
 Inv-loop prepared quest leads order starts alive₀ out₀ length i₀ alive out i = Written prepared quest leads order starts length alive out i

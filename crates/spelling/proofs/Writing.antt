@@ -17,13 +17,13 @@ use Rattle.positions.specs.declared.Set.{Set}
 use Rattle.positions.specs.Positions.{holds, Added, FirstFrom, Shared as Meet}
 use Rattle.automaton.specs.Rows.{setAt, standsIn, FirstShared}
 use Rattle.language.specs.Sets.{Stored}
 use Rattle.search.specs.declared.patches.Patch.{Patch}
 use Rattle.search.specs.declared.patches.Quest.{Quest}
 use Rattle.search.specs.Pairs.{heldIn, pairIn, beforeOf, linkedOf, insideOf, leftRow, rightRow, precedesIn, beginsIn, graphOf, QuestFits}
 use Rattle.search.specs.Graph.{Graph, Shared, Way, Accepts, Far}
 use Rattle.search.specs.Layers.{InLayer, Layered, Filled, Bounded}
-use Rattle.search.specs.Texts.{Comes, LowerByte, LowestByte, Among, Marked, NoneAlive, EntriesRoom, WrittenOut}
+use Rattle.spelling.specs.Texts.{Comes, LowerByte, LowestByte, Among, Marked, NoneAlive, EntriesRoom, WrittenOut}
 use Rattle.search.proofs.Queues.{in-patch-parts, in-patch-of, held-below, patch-below, before-fits, linked-fits, graph-bounded}
 
 -- ---- Distances
 

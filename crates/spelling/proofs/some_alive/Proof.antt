@@ -1,4 +1,4 @@
--- `search::texts::some_alive` meets its contract. The loop's invariant: p is a row of the patch or past all, and no pair of the rows before it is alive.
+-- `spelling::some_alive` meets its contract. The loop's invariant: p is a row of the patch or past all, and no pair of the rows before it is alive.
 -- Assumes nothing.
 use mathlib.Core.Path.{_≡_, refl, sym, subst}
 use mathlib.Core.Bool.{true, false≢true}
@@ -7,9 +7,9 @@ use native.Mathlib.Omega.{arith}
 use borrow.Author.Needs.{needs}
 use Rattle.laws.specs.Basics.{not-both}
 use Rattle.positions.specs.Positions.{holds, Shared}
-use Rattle.search.proofs.Writing.{NoneTo, none-begins, none-next, some-found, none-found}
-use Rattle.search.proofs.texts.some_alive.Statement.{statement}
-use Rattle.search.proofs.texts.some_alive.Tie as tie
+use Rattle.spelling.proofs.Writing.{NoneTo, none-begins, none-next, some-found, none-found}
+use Rattle.spelling.proofs.some_alive.Statement.{statement}
+use Rattle.spelling.proofs.some_alive.Tie as tie
 
 abbrev Inv-loop : tie.InvT-loop
 Inv-loop alive table base rows columns p₀ p = NoneTo alive table (record { base = base; rows = rows; columns = columns }) p × (p < 128 → holds rows p ≡ true)

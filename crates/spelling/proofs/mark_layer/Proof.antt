@@ -1,13 +1,13 @@
--- `search::texts::mark_layer` meets its contract. The loop's invariant: the entries before k are dealt with; which pairs come is told by the other table,
+-- `spelling::mark_layer` meets its contract. The loop's invariant: the entries before k are dealt with; which pairs come is told by the other table,
 -- which stays. Assumes nothing.
 use mathlib.Core.Path.{_∙_}
 use Prim.Native.Nat.{_-_, _≤_, max}
 use native.Mathlib.Omega.{arith}
 use Rattle.search.specs.Pairs.{graphOf}
-use Rattle.search.specs.Texts.{Comes, Among, Marked}
-use Rattle.search.proofs.Writing.{marked-none, marked-more, marked-all, comes-same}
-use Rattle.search.proofs.texts.mark_layer.Statement.{statement}
-use Rattle.search.proofs.texts.mark_layer.Tie as tie
+use Rattle.spelling.specs.Texts.{Comes, Among, Marked}
+use Rattle.spelling.proofs.Writing.{marked-none, marked-more, marked-all, comes-same}
+use Rattle.spelling.proofs.mark_layer.Statement.{statement}
+use Rattle.spelling.proofs.mark_layer.Tie as tie
 
 abbrev Inv-loop : tie.InvT-loop
 Inv-loop prepared quest leads alive₀ i order from to byte k₀ alive k =

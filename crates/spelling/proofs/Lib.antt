@@ -1,0 +1,2 @@
+-- What the proofs share, and the crates above cite.
+pub mod Writing

@@ -1,0 +1,2 @@
+-- What the functions of this crate say of their results.
+pub mod Texts
