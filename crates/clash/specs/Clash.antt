@@ -1,7 +1,7 @@
 -- Document 02 (iii): 'A house that gets 7 to 11 can't see why. Give a shortest text that breaks the rule, the rule's number and node, and the two
 -- smallest ends that the first half of a join, or the first part of a repeat, can have in a cut of it (for a union, its two child numbers).'
 use mathlib.Core.Path.{_≡_}
-use mathlib.Core.Bool.{Bool, true, false, _&&_, _||_, cond}
+use mathlib.Core.Bool.{Bool, _&&_, _||_, cond}
 use mathlib.Core.List.{List, [], _∷_, _++_}
 use mathlib.Core.Logic.{_⊎_}
 use Prim.Native.Nat.{ℕ, zero, suc, _+_, _-_, _≤_, _<_}

@@ -1,11 +1,11 @@
 -- From the text that is shown to the answer of the call. Assumes nothing.
-use mathlib.Core.Path.{_≡_, refl, sym, ap, ap₂, _∙_, subst}
-use mathlib.Core.Bool.{Bool, true, false, _||_, cond}
-use mathlib.Core.List.{List, _++_}
+use mathlib.Core.Path.{_≡_, refl, sym, ap, ap₂, _∙_}
+use mathlib.Core.Bool.{_||_}
+use mathlib.Core.List.{_++_}
 use mathlib.Core.Logic.{_⊎_, ⊎-elim}
 use Prim.Native.Nat.{ℕ, _≤_, _<_}
 use native.Mathlib.Omega.{arith}
-use lib.Dec.{eqb, leb, ltb}
+use lib.Dec.{eqb, leb}
 use lib.ListN.{length, drop}
 use borrow.Author.Tests.{le-leb, lt-leb, lt-ltb, le-ltb, eq-eqb, ne-eqb}
 use Rattle.semantics.specs.Text.{Text}
@@ -15,11 +15,10 @@ use Rattle.semantics.specs.Table.{nodeCount, nodeAt, treeAt, trees}
 use Rattle.semantics.specs.Calls.{refuses, program, withProgram, checkCall}
 use Rattle.laws.specs.Basics.{cond-true, cond-false, or-left, or-right}
 use Rattle.laws.specs.Refusals.{program-refusal}
-use Rattle.clash.specs.Clash.{Rule, ruleAt, clashText, endsOf, Outcome, clash, refused, sideOf, shown, clashAt, clashOf, clashCall, bufferAfter}
+use Rattle.clash.specs.Clash.{ruleAt, clashText, endsOf, clash, refused, sideOf, shown, clashAt, clashOf, clashCall, bufferAfter}
 use Rattle.clash.specs.Calls.{rule-broken}
 use Rattle.answers.specs.declared.ClashAnswer.the-variants.{Clash, Refusal}
 use Rattle.answers.specs.Contracts.{clashAnswerFor, GivesClash}
-use Rattle.answers.proofs.Verdicts.{check-refuses}
 use Rattle.clashes.specs.declared.texts.Shown.{Shown}
 use Rattle.clashes.specs.Shows.{Shows, BrokenAt}
 

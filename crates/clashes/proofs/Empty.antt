@@ -1,15 +1,12 @@
 -- Where a part of a repeat is empty, the empty text is shown. Assumes nothing.
-use mathlib.Core.Path.{_≡_, refl, sym, ap, _∙_}
+use mathlib.Core.Path.{_≡_, sym, ap, _∙_}
 use mathlib.Core.Bool.{true}
-use mathlib.Core.List.{[]}
-use Prim.Native.Nat.{ℕ}
-use native.Mathlib.Omega.{arith}
 use Rattle.semantics.specs.Text.{Text}
 use Rattle.semantics.specs.Pattern.{Pattern, nullable}
 use Rattle.semantics.specs.Table.{Node}
-use Rattle.clash.specs.Clash.{oneList, clashText, endsOf}
+use Rattle.clash.specs.Clash.{oneList, endsOf}
 use Rattle.clashes.specs.declared.texts.Shown.{Shown}
-use Rattle.clashes.specs.Shows.{ShowsText, Shows}
+use Rattle.clashes.specs.Shows.{Shows}
 use Rattle.clashes.proofs.Showing.{empty-clash, shows-empty}
 use Rattle.clashes.proofs.Rules.{empty-breaks, empty-ends}
 

@@ -1,16 +1,15 @@
 -- What a built program says of the rule of a node, by its kind. Assumes nothing.
-use mathlib.Core.Path.{_≡_, refl, sym, ap, ap₂, _∙_, subst}
+use mathlib.Core.Path.{_≡_, refl, sym, subst}
 use mathlib.Core.Bool.{true}
 use mathlib.Core.List.{List, []}
 use Prim.Native.Nat.{ℕ, _+_, _*_, _≤_, _<_}
 use native.Mathlib.Omega.{arith}
 use Rattle.semantics.specs.Text.{Text}
-use Rattle.semantics.specs.Pattern.{Pattern, word, concat, alt, star, nullable}
-use Rattle.semantics.specs.Lens.{Lens, join, union, repeat, language}
-use Rattle.semantics.specs.Table.{Node, at, nodeCount, nodeAt, positions, Tree, lens, treeAt, trees}
-use Rattle.clash.specs.Clash.{Rule, oneCut, oneArm, oneList, breaks, clashText, endsOf, ruleAt, ruleFor}
+use Rattle.semantics.specs.Pattern.{Pattern, word, nullable}
+use Rattle.semantics.specs.Lens.{join, union, repeat, language}
+use Rattle.semantics.specs.Table.{Node, at, nodeCount, nodeAt, positions, lens, treeAt, trees}
+use Rattle.clash.specs.Clash.{Rule, oneArm, oneList, breaks, clashText, endsOf, ruleAt, ruleFor}
 use Rattle.table.specs.Prepared.{OneLens, TwoLenses}
-use Rattle.automaton.specs.declared.Automaton.{Automaton}
 use Rattle.automaton.specs.declared.Side.{Side}
 use Rattle.automaton.specs.Rows.{sideOf, automatonAt, Describes}
 use Rattle.automaton.specs.Built.{Built}

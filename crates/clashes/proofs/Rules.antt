@@ -1,21 +1,17 @@
 -- The rules of joins and repeats as rules about two cuts, and what a built program says of a node's rule. Assumes nothing.
-use mathlib.Core.Path.{_≡_, refl, sym, ap, _∙_, subst}
-use mathlib.Core.Bool.{Bool, true, false, cond}
-use mathlib.Core.List.{List, [], _∷_, _++_}
-use Prim.Native.Nat.{ℕ, _+_, _*_, _≤_, _<_}
-use native.Mathlib.Omega.{arith}
-use lib.ListN.{length, drop}
+use mathlib.Core.Path.{_≡_, refl, sym, _∙_}
+use mathlib.Core.Bool.{true, false}
+use mathlib.Core.List.{List, [], _∷_}
+use Prim.Native.Nat.{ℕ, _+_, _≤_}
 use Rattle.semantics.specs.Text.{Text}
-use Rattle.semantics.specs.Pattern.{Pattern, concat, alt, star, nullable}
-use Rattle.semantics.specs.Lens.{Lens, join, union, repeat, language}
-use Rattle.semantics.specs.Table.{Node, nodeCount, nodeAt, positions, Tree, lens, treeAt, trees}
+use Rattle.semantics.specs.Pattern.{Pattern, concat, star, nullable}
+use Rattle.semantics.specs.Table.{Node, positions}
 use Rattle.laws.specs.Basics.{not-both}
-use Rattle.clash.specs.Clash.{Rule, oneCut, oneArm, oneList, cutTwice, firstEnd, secondEnd, breaks, clashText, endsOf, ruleAt, ruleFor}
-use Rattle.clash.specs.Twofold.{Whole, join-whole, repeat-whole, cut-end}
+use Rattle.clash.specs.Clash.{oneCut, oneList, cutTwice, firstEnd, secondEnd, breaks, endsOf}
+use Rattle.clash.specs.Twofold.{join-whole, repeat-whole, cut-end}
 use Rattle.automaton.specs.declared.Automaton.{Automaton}
-use Rattle.automaton.specs.declared.Side.{Side}
 use Rattle.automaton.specs.Rows.{Describes}
-use Rattle.clashes.specs.Shows.{CutRule, CutAsked, ArmRule, ListRule, ListAsked}
+use Rattle.clashes.specs.Shows.{CutRule, CutAsked, ListRule, ListAsked}
 
 -- ---- The rules of joins and repeats
 

@@ -5,7 +5,6 @@ use crate::texts::show_cut;
 use crate::texts::show_overlap;
 use automaton::Side;
 use automaton::automaton_of;
-ghost use mathlib.Core.Path.{_≡_};
 ghost use Rattle.semantics.specs.Pattern.{Pattern};
 ghost use Rattle.semantics.specs.Table.{Node};
 ghost use Rattle.clash.specs.Clash.{Rule, oneArm, oneList};

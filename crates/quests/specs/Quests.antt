@@ -12,7 +12,6 @@ use Rattle.positions.specs.declared.Set.{Set}
 use Rattle.positions.specs.Positions.{holds}
 use Rattle.automaton.specs.declared.Automaton.{Automaton}
 use Rattle.automaton.specs.Rows.{setAt, followOf, shareIn}
-use Rattle.search.specs.declared.patches.Patch.{Patch}
 use Rattle.search.specs.declared.patches.Quest.{Quest}
 use Rattle.search.specs.Graph.{Accepts}
 use Rattle.search.specs.Pairs.{noSet, noPatch, graphOf}

@@ -6,7 +6,7 @@ use mathlib.Core.Logic.{_⊎_}
 use Prim.Native.Nat.{ℕ, _+_, _≤_, _<_}
 use lib.ListN.{length, getD}
 use Rattle.semantics.specs.Text.{Text}
-use Rattle.search.specs.Graph.{Graph, Shared, Way, Accepts, Far}
+use Rattle.search.specs.Graph.{Graph, Shared, Way, Far}
 use Rattle.search.specs.Pairs.{heldIn}
 use Rattle.search.specs.Queue.{Queue}
 

@@ -1,10 +1,9 @@
 -- Pairs of positions as numbers: 128 times the row and the column. A text may hold the byte c at a pair if it may stand at both positions.
 use mathlib.Core.Path.{_≡_}
-use mathlib.Core.Bool.{Bool, true, false, _&&_, _||_, cond}
+use mathlib.Core.Bool.{Bool, true, _&&_, _||_, cond}
 use mathlib.Core.List.{List}
-use Prim.Native.Nat.{ℕ, _+_, _-_, _*_, _/_, _%_, _≤_, _<_}
+use Prim.Native.Nat.{ℕ, _+_, _-_, _*_, _/_, _%_, _≤_}
 use lib.Dec.{leb, ltb}
-use lib.ListN.{length}
 use Rattle.positions.specs.declared.Set.{Set}
 use Rattle.positions.specs.Positions.{holds}
 use Rattle.automaton.specs.Rows.{setAt, standsIn, RowRoom}

@@ -8,11 +8,9 @@ use language::keep;
 use positions::Set;
 ghost use mathlib.Core.Path.{_≡_};
 ghost use mathlib.Core.Bool.{true};
-ghost use Prim.Native.Nat.{ℕ, _+_, _*_, _/_, _≤_, _<_};
+ghost use Prim.Native.Nat.{_+_, _*_, _/_, _≤_, _<_};
 ghost use lib.ListN.{length};
-ghost use Rattle.positions.specs.Positions.{holds};
-ghost use Rattle.search.specs.Graph.{Graph};
-ghost use Rattle.search.specs.Pairs.{heldIn, pairIn, PatchFits, graphOf};
+ghost use Rattle.search.specs.Pairs.{heldIn, pairIn, PatchFits};
 ghost use Rattle.search.specs.Queue.{Queue, Found, OfRow, Before, BeforeOne};
 
 // A fresh pair is found.

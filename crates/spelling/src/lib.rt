@@ -1,14 +1,14 @@
 // The bytes of the text, from the front: each the lowest by which a pair of the next layer can be reached from those that the text so far leads to.
-use search::layers::begins;
-use search::patches::Patch;
-use search::patches::Quest;
-use search::patches::before;
-use search::patches::linked;
 use automaton::first_shared;
 use automaton::set_at;
 use automaton::stands;
 use language::keep;
 use positions::Set;
+use search::layers::begins;
+use search::patches::Patch;
+use search::patches::Quest;
+use search::patches::before;
+use search::patches::linked;
 ghost use mathlib.Core.Path.{_≡_};
 ghost use mathlib.Core.Bool.{true};
 ghost use mathlib.Core.Logic.{_↔_};

@@ -1,6 +1,6 @@
 -- `clashes::show` meets its contract, kind by kind. Assumes nothing.
 use borrow.Author.Needs.{needs}
-use mathlib.Core.Path.{refl, ap, _∙_}
+use mathlib.Core.Path.{ap}
 use Rattle.clash.specs.Clash.{ruleAt, ruleFor}
 use Rattle.table.specs.Prepared.{Shows}
 use Rattle.automaton.specs.Rows.{sideOf}

@@ -3,7 +3,6 @@ use borrow.Author.Needs.{needs}
 use Rattle.classes.proofs.Class.first_shared.Statement.{statement}
 use Rattle.classes.proofs.Class.first_shared.Tie as tie
 use Rattle.classes.proofs.Bytes.{shared-below, shared-above, shared-none}
-use native.Mathlib.Omega.{arith}
 
 intersect-requires : tie.Need-intersect-requires
 intersect-requires c κs = search needs
