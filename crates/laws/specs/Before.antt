@@ -1,6 +1,7 @@
 -- The definitions as they were before document 02 (ii) added sets, word for word and without their comments: those of the crate `semantics`
--- that speak of patterns, lenses or trees, where a range was a pattern of its own. What speaks of none of these has not changed, and is
--- today's. `WithoutSets` holds today's calls to those here; nothing else uses them.
+-- that speak of patterns, lenses or trees, where a range was a pattern of its own. What speaks of none of these is not what sets changed, and is
+-- today's; so is `takeEntry`, for which keys are equal once trailing spaces are cut, as document 02 (iv) has it for all programs, with sets
+-- or without. `WithoutSets` holds today's calls to those here; nothing else uses them.
 use mathlib.Core.Bool.{Bool, true, false, not, _&&_, _||_, cond}
 use mathlib.Core.List.{List, [], _∷_, _++_, map}
 use mathlib.Core.Option.{Option, none, some}

@@ -12,7 +12,7 @@ use lib.ListN.{length}
 use borrow.Author.Tests.{ltb-false, le-ltb, not-false}
 use Rattle.semantics.specs.Text.{Text, joined, All, Different}
 use Rattle.semantics.specs.Pattern.{In, matches}
-use Rattle.semantics.specs.Lens.{Lens, Book, repeat, match, Side, source, sheet, language, Written, parts, get, keyOf, entries, write, put, create}
+use Rattle.semantics.specs.Lens.{Lens, Book, repeat, match, Side, source, sheet, language, Written, parts, get, keyOf, trimmed, entries, write, put, create}
 use Rattle.semantics.specs.Table.{trees}
 use Rattle.semantics.specs.Calls.{Answer, gives, refuses, refuseIf, program, withProgram, tooLong, notOf, output, getCall, putCall, createCall}
 use Rattle.laws.specs.Basics.{never, or-neither}
@@ -265,7 +265,8 @@ put-restores l typed t i =
     ap (λ (b : Book). (write l (some t) (get l t) b) .text) (sym (append-nil (entries l t)))
     ∙ ap (λ (w : Written). w .text) (get-put l typed t i [])
 
--- 'wherever get gave a sheet for a source of at most 256 entries, putting that sheet back on it unedited gives exactly that source'
+-- 'wherever get gave a sheet for a source of at most 256 entries, putting that sheet back on it unedited gives exactly that source'. Nothing is
+-- asked of the keys: also where they differ only by trailing spaces, 'putting back an unedited sheet must still change nothing' (document 02, iv).
 pub unedited :
     (bytes t a : Text) (l : Lens)
     → getCall bytes t 4096 ≡ gives a
@@ -310,13 +311,14 @@ create-then-get bytes a t e = wrote-then-get bytes a t (create-wrote bytes a t 4
 -- 'where the program is one repeated entry and a source of at most 256 entries and 4,096 bytes has keys that all differ, whichever of its
 -- sheet entries are put back on it, none twice, 4,096 bytes at most, and in whatever order, put gives exactly those old entries set in
 -- that order.' A program is one repeated entry if its root is a lens repeat whose child is a match; the entries are then the parts of the
--- source at the root, counted from 1, and the claim is about a list of different part numbers.
+-- source at the root, counted from 1, and the claim is about a list of different part numbers. Document 02 (iv): 'A source whose keys differ
+-- only by such spaces no longer counts as having different keys when its entries are shuffled', so keys differ once trailing spaces are cut.
 pub record OneRepeatedEntry (bytes t : Text) (n : ℕ) (l : Lens) : Type 0 where
   pub is-program : program bytes ≡ gives (repeat (match n l))
   pub in-source : In (language source (repeat (match n l))) t
   pub short-source : length t ≤ 4096
   pub few-entries : length (parts (language source l) t) ≤ 256
-  pub keys-differ : Different (map (λ p. keyOf l (get l p)) (parts (language source l) t))
+  pub keys-differ : Different (map (λ p. trimmed (keyOf l (get l p))) (parts (language source l) t))
 
 pub reordered :
     (bytes t : Text) (n : ℕ) (l : Lens)

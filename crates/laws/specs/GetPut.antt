@@ -14,7 +14,8 @@ use Rattle.semantics.specs.Text.{Text, joined, All, orElse}
 use Rattle.semantics.specs.Pattern.{Pattern, word, oneOf, concat, alt, star, In, matches}
 use Rattle.semantics.specs.Lens.{Lens, copy, const, key, join, union, repeat, match, source, sheet, language, constLanguage, cutAt, parts, Entry, Book, Written, andThen, writeParts, writeMatch, get, sameKey, entryOf, answers, keeping, takeEntry, entries, write}
 use Rattle.semantics.specs.Table.{holdsMatch, positions}
-use Rattle.laws.specs.Basics.{and-of, cond-true, sameText-refl, or-neither}
+use Rattle.laws.specs.Basics.{and-of, cond-true, or-neither}
+use Rattle.laws.specs.Keys.{same-key-refl}
 use Rattle.laws.specs.WellTyped.{WellTyped}
 use Rattle.laws.specs.Pieces.{write-join, write-left, write-right, write-repeat, get-join, get-left, get-right, get-repeat, entries-join, entries-left, entries-right, entries-repeat}
 
@@ -229,9 +230,9 @@ restored-repeat l typed law ps all b =
     (get-repeat l (typed .0 source) ps all, entries-repeat l (typed .0 source) ps all)
     (write-repeat l (typed .0) ps all (map (get l) ps) sheets (joined (map (entries l) ps) ++ b) ∙ restored-parts l law ps all b)
 
--- the first entry of the book is the one that is looked up
+-- the first entry of the book is the one that is looked up, also where later ones have the same key
 pub takes-first : (e : Entry) (b : Book) → takeEntry (e .child) (e .key-text) (e ∷ b) ≡ record { found = some (e .text); left = b }
-unfolding takeEntry answers sameKey
+unfolding takeEntry answers
 takes-first e b =
     let n = e .child in
     let k = e .key-text in
@@ -239,7 +240,7 @@ takes-first e b =
     (answers n k e)
     (record { found = some (e .text); left = b })
     (keeping e (takeEntry n k b))
-    (and-of (eqb n n) (sameKey k k) (eq-eqb n n refl) (sameText-refl k))
+    (and-of (eqb n n) (sameKey k k) (eq-eqb n n refl) (same-key-refl k))
 
 -- The match's child has no entries of its own, so that the book behind the first entry is left as it is.
 restored-match : (n : ℕ) (l : Lens) → WellTyped (match n l) → (t : Text) → Restored l t → Restored (match n l) t

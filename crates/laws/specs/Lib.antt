@@ -1,5 +1,6 @@
 -- What follows from the definitions. The files build on each other in this order.
 pub mod Basics
+pub mod Keys
 pub mod Classes
 pub mod Membership
 pub mod Cuts

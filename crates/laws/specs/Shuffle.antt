@@ -1,4 +1,4 @@
--- Entries whose keys all differ are found by key: put back in whatever order, each comes back as it was.
+-- Entries whose keys all differ, trailing spaces cut, are found by key: put back in whatever order, each comes back as it was.
 use mathlib.Core.Path.{_≡_, refl, ap, subst}
 use mathlib.Core.Bool.{true, false}
 use mathlib.Core.List.{List, [], _∷_, _++_, map}
@@ -9,12 +9,13 @@ use native.Mathlib.Omega.{arith}
 use lib.Dec.{eqb}
 use lib.ListN.{length, getD, length-append}
 use borrow.Author.Tests.{eqb-true, eqb-false, eq-eqb}
-use Rattle.semantics.specs.Text.{Text, joined, orElse, apply, sameText, All, Member, Different}
+use Rattle.semantics.specs.Text.{Text, joined, orElse, apply, All, Member, Different}
 use Rattle.semantics.specs.Pattern.{Pattern, In, star}
 use Rattle.semantics.specs.Ambiguity.{BadRepeat}
-use Rattle.semantics.specs.Lens.{Lens, repeat, match, source, sheet, language, Book, Writer, get, keyOf, sameKey, parts, entryOf, entries, answers, keeping, takeEntry, andThen, writeParts, writeMatch, write, put}
+use Rattle.semantics.specs.Lens.{Lens, repeat, match, source, sheet, language, Book, Writer, get, keyOf, trimmed, sameKey, parts, entryOf, entries, answers, keeping, takeEntry, andThen, writeParts, writeMatch, write, put}
 use Rattle.semantics.specs.Table.{holdsMatch}
-use Rattle.laws.specs.Basics.{bool-cases, and-both, and-of, cond-true, cond-false, false-of-not-true, sameText-refl, sameText-eq, all-at, all-of, member-map, map-member}
+use Rattle.laws.specs.Basics.{bool-cases, and-both, and-of, cond-true, cond-false, false-of-not-true, all-at, all-of, member-map, map-member}
+use Rattle.laws.specs.Keys.{same-key-refl, same-key-eq}
 use Rattle.laws.specs.Cuts.{parts-is}
 use Rattle.laws.specs.WellTyped.{WellTyped}
 use Rattle.laws.specs.GetPut.{get-in, no-entries, get-put}
@@ -179,6 +180,10 @@ selected-in P ps (n ∷ ns) in-range all =
 abbrev keyIn : Lens → Text → Text
 keyIn l p = keyOf l (get l p)
 
+-- and what tells it from other keys
+abbrev trimmedKey : Lens → Text → Text
+trimmedKey l p = trimmed (keyIn l p)
+
 -- parts of one element each join to the list of those
 joined-singles : {A B : Type 0} (f : A → B) (xs : List A) → joined (map (λ x. f x ∷ []) xs) ≡ map f xs
 unfolding joined
@@ -201,25 +206,25 @@ writes-first w (old ∷ olds) a rest b = (some old, olds, refl)
 module _ (n : ℕ) (l : Lens) where
   -- an entry answers to its own key
   answers-own : (p : Text) → answers n (keyIn l p) (entryOf n l p) ≡ true
-  unfolding answers entryOf sameKey
-  answers-own p = and-of (eqb n n) (sameText (keyIn l p) (keyIn l p)) (eq-eqb n n refl) (sameText-refl (keyIn l p))
+  unfolding answers entryOf
+  answers-own p = and-of (eqb n n) (sameKey (keyIn l p) (keyIn l p)) (eq-eqb n n refl) (same-key-refl (keyIn l p))
 
   -- and to no other
-  answers-no-other : (p q : Text) → ¬ (keyIn l q ≡ keyIn l p) → answers n (keyIn l p) (entryOf n l q) ≡ false
-  unfolding answers entryOf sameKey
+  answers-no-other : (p q : Text) → ¬ (trimmedKey l q ≡ trimmedKey l p) → answers n (keyIn l p) (entryOf n l q) ≡ false
+  unfolding answers entryOf
   answers-no-other p q other =
       false-of-not-true
       (answers n (keyIn l p) (entryOf n l q))
-      (λ e. other (sameText-eq (keyIn l q) (keyIn l p) (and-both (eqb n n) (sameText (keyIn l q) (keyIn l p)) e .1)))
+      (λ e. other (same-key-eq (keyIn l q) (keyIn l p) (and-both (eqb n n) (sameKey (keyIn l q) (keyIn l p)) e .1)))
 
   -- where no key stands twice, the lookup takes out the entry that is meant
   takes-own :
-      {p : Text} {qs rs : List Text} → Out p qs rs → Different (map (keyIn l) qs)
+      {p : Text} {qs rs : List Text} → Out p qs rs → Different (map (trimmedKey l) qs)
       → takeEntry n (keyIn l p) (map (entryOf n l) qs) ≡ record { found = some p; left = map (entryOf n l) rs }
   unfolding takeEntry keeping entryOf
   takes-own {p} here keys = rw (cond-true _ _ _ (answers-own p))
   takes-own {p} (later {y = q} {ys = qs} o) keys =
-      let other : ¬ (keyIn l q ≡ keyIn l p) = λ e. keys .0 (rw e (member-map (keyIn l) p qs (out-member o))) in
+      let other : ¬ (trimmedKey l q ≡ trimmedKey l p) = λ e. keys .0 (rw e (member-map (trimmedKey l) p qs (out-member o))) in
       rw (cond-false _ _ _ (answers-no-other p q other)) (ap (keeping (entryOf n l q)) (takes-own o (keys .1)))
 
   -- put, said on the parts of the source and of the sheet
@@ -238,7 +243,7 @@ module _ (n : ℕ) (l : Lens) where
   module _ (free : holdsMatch l ≡ false) (typed : WellTyped l) where
     -- the sheet of a part brings that part back, whatever the old text at its place
     writes-own :
-        {p : Text} {qs rs : List Text} → Out p qs rs → Different (map (keyIn l) qs) → In (language source l) p → (old : Option Text)
+        {p : Text} {qs rs : List Text} → Out p qs rs → Different (map (trimmedKey l) qs) → In (language source l) p → (old : Option Text)
         → write (match n l) old (get l p) (map (entryOf n l) qs) ≡ record { text = p; book = map (entryOf n l) rs }
     unfolding write writeMatch
     writes-own {p} {rs = rs} o keys i old =
@@ -246,7 +251,7 @@ module _ (n : ℕ) (l : Lens) where
 
     -- and so do the sheets of the picked parts, one after the other
     writes-picked :
-        {sel qs : List Text} → Picked sel qs → Different (map (keyIn l) qs) → All (In (language source l)) sel → (olds : List Text)
+        {sel qs : List Text} → Picked sel qs → Different (map (trimmedKey l) qs) → All (In (language source l)) sel → (olds : List Text)
         → (writeParts (write (match n l)) olds (map (get l) sel) (map (entryOf n l) qs)) .text ≡ joined sel
     unfolding joined andThen
     writes-picked nothing keys all olds = unfold writeParts in refl
@@ -254,14 +259,14 @@ module _ (n : ℕ) (l : Lens) where
         let step = writes-first (write (match n l)) olds (get l p) (map (get l) sel) (map (entryOf n l) qs) in
         rw
         (step .2, writes-own o keys (all .0) (step .0))
-        (ap (λ s. p ++ s) (writes-picked picked (out-different (out-map (keyIn l) o) keys) (all .1) (step .1)))
+        (ap (λ s. p ++ s) (writes-picked picked (out-different (out-map (trimmedKey l) o) keys) (all .1) (step .1)))
 
 -- Demand 3: the sheets of selected parts, put on the source whose keys all differ, give those parts as they were, in the order of
 -- the sheets.
 pub shuffle :
     (n : ℕ) (l : Lens) → WellTyped (repeat (match n l))
     → (t : Text) → In (language source (repeat (match n l))) t
-    → Different (map (λ p. keyOf l (get l p)) (parts (language source l) t))
+    → Different (map (λ p. trimmed (keyOf l (get l p))) (parts (language source l) t))
     → (ns : List ℕ) → PartNumbers (parts (language source l) t) ns → Different ns
     → put (repeat (match n l)) (joined (map (get l) (selected (parts (language source l) t) ns))) t ≡ joined (selected (parts (language source l) t) ns)
 unfolding language WellTyped

@@ -76,9 +76,20 @@ keyOf (union l m) t = cond (matches (language sheet l) t) (keyOf l t) (keyOf m t
 keyOf (repeat l) t = joined (map (keyOf l) (parts (language sheet l) t))
 keyOf (match n l) t = keyOf l t
 
--- 'Keys are equal if their bytes are.'
+-- whether a text is spaces (0x20) alone
+unfoldable pub blank : Text → Bool
+blank [] = true
+blank (c ∷ t) = eqb c 32 && blank t
+
+-- a text without its trailing spaces, those at its end: where nothing but spaces follows, nothing is left
+unfoldable pub trimmed : Text → Text
+trimmed [] = []
+trimmed (c ∷ t) = let kept = c ∷ trimmed t in cond (blank (c ∷ t)) [] kept
+
+-- Document 02 (iv): 'Keys are from now on equal if their bytes are equal once trailing spaces (0x20) are cut.' It is the whole key, its parts
+-- joined, that is cut; 'key text itself is copied untouched, spaces included', so nothing but this comparison cuts anything.
 unfoldable pub sameKey : Text → Text → Bool
-sameKey = sameText
+sameKey k m = sameText (trimmed k) (trimmed m)
 
 -- ---- The book: 'Put first lists the old source's entries in order, the book.'
 
