@@ -1,13 +1,13 @@
 -- When keys are equal, document 02 (iv): what is cut off a key, what is left of it, and what the test says of two keys.
 use mathlib.Core.Path.{_≡_, refl, sym, ap, ap₂, _∙_}
-use mathlib.Core.Bool.{Bool, true, false, _&&_, true≢false, false≢true}
-use mathlib.Core.List.{List, [], _∷_, _++_}
+use mathlib.Core.Bool.{Bool, true, false, _&&_}
+use mathlib.Core.List.{[], _∷_, _++_}
 use Prim.Native.Nat.{ℕ, zero, suc, _+_, _-_, _≤_, _<_}
 use native.Mathlib.Omega.{arith}
 use lib.Dec.{eqb}
 use lib.ListN.{length, take, drop, getD, take-append-drop, length-append}
-use lib.Seq.{length-take-le, getD-take}
-use borrow.Author.Tests.{eqb-true, eq-eqb}
+use lib.Seq.{length-take-le, getD-take, take-append-seam}
+use borrow.Author.Tests.{eqb-true}
 use Rattle.semantics.specs.Text.{Text, sameText}
 use Rattle.semantics.specs.Lens.{blank, trimmed, sameKey}
 use Rattle.laws.specs.Basics.{not-both, and-both, and-of, cond-true, cond-false, sameText-refl, sameText-eq}
@@ -75,6 +75,10 @@ padding (c ∷ t) = go (blank (c ∷ t)) refl (padding t)
     go : (b : Bool) → blank (c ∷ t) ≡ b → (u : Text) × (blank u ≡ true) × (t ≡ trimmed t ++ u) → (u : Text) × (blank u ≡ true) × (c ∷ t ≡ trimmed (c ∷ t) ++ u)
     go true b later = (c ∷ t, b, ap (λ s. s ++ c ∷ t) (sym (trimmed-blank (c ∷ t) b)))
     go false b (u, spaces, e) = (u, spaces, ap (λ s. c ∷ s) e ∙ ap (λ s. s ++ u) (sym (trimmed-cons c t b)))
+
+-- what is left stands at the front,
+pub trimmed-take : (t : Text) → take (length (trimmed t)) t ≡ trimmed t
+trimmed-take t = let (u, spaces, e) = padding t in ap (take (length (trimmed t))) e ∙ take-append-seam (trimmed t) u
 
 -- so no text gets longer,
 pub trimmed-short : (t : Text) → length (trimmed t) ≤ length t
