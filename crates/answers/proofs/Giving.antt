@@ -153,7 +153,7 @@ finish-full {result} {before} {wrote} e =
         → Writes text start result wrote
         → GivesText (output (length before) text) before before (Refusal 16 0)
     go text start room w =
-        let over : length start < length text = full-over text start (sym e ∙ w .answer-is) in
+        let over : length start < length text = full-over false text start (sym e ∙ w .answer-is) in
         let same : length result ≡ length start = rw (w .buffer-is) (overlay-length text start) in
         let large : min (length before) maxText < length text = rw (← room) (omega arith) in
         refused 16 (gives text) refl (lt-ltb (min (length before) maxText) (length text) large)

@@ -14,5 +14,5 @@ front-written n out h =
     let fits : length (take n out) ≤ length out = omega (arith, long, h) in
     record {
       buffer-is = sym (overlay-fits (take n out) out fits ∙ rw long (take-append-drop n out));
-      answer-is = sym (wrote-fits (take n out) out fits ∙ ap Count long);
+      answer-is = sym (wrote-fits false (take n out) out fits ∙ ap Count long);
     }

@@ -82,7 +82,7 @@ module _ {bytes : Text} {prepared : List ℕ} {child : ℕ} (known : LensNode by
       → length room < 128 + 128 * length text
   unfolding reading
   sheet-over path room {text} {most = most} fits short most-is emits paths =
-      let over = full-over (get (known .tree) text) (take (most - 0) room) (emits .writes (known .tree) (known .tree-is) .answer-is) in
+      let over = full-over false (get (known .tree) text) (take (most - 0) room) (emits .writes (known .tree) (known .tree-is) .answer-is) in
       omega (arith, over, length-take (most - 0) room, sheet-size fits)
 
   -- It ends within the room that it was lent.

@@ -114,7 +114,7 @@ module _ (card rest : Text) (long : length card ≡ 4098) where
               long = λ h. absurd (omega (arith, fits, room));
             }
         go Full writes sealed =
-            let over = full-over key (behindHead card) (writes .answer-is) in
+            let over = full-over false key (behindHead card) (writes .answer-is) in
             record {
               within = omega (arith, sealed .length-is, as-long);
               small = omega (arith, sealed .length-is);

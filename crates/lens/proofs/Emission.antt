@@ -21,10 +21,11 @@ use Rattle.automaton.specs.Rows.{automatonAt, Describes}
 use Rattle.lens.specs.declared.Mode.{Mode}
 use Rattle.lens.specs.declared.Wrote.{Wrote}
 use Rattle.lens.specs.declared.Wrote.the-variants.{Count, Full}
-use Rattle.lens.specs.Overlay.{Writes, overlay-length, writes-full, writes-lent, writes-within}
+use Rattle.lens.specs.Overlay.{Lays, overlay-length, writes-full, writes-lent, writes-within}
 use Rattle.lens.specs.Reading.{
   reading,
   modeSide,
+  keyed,
   copied,
   givenWord,
   reading-copy,
@@ -61,10 +62,10 @@ use Rattle.lens.specs.Nodes.{same-lens, shown-copy, shown-const, shown-k
 pub its-lens :
     {bytes : Text} {node : ℕ} {mode : Mode} {text before after : Text} {answer : Wrote} (l : Lens)
     → treeAt (trees bytes) node ≡ lens l
-    → Writes (reading mode l text) before after answer
+    → Lays (keyed mode) (reading mode l text) before after answer
     → Emits bytes node mode text before after answer
 its-lens {mode} {text} {before} {after} {answer} l e w =
-    record { writes = λ m f. subst (λ k. Writes (reading mode k text) before after answer) (same-lens l m (sym e ∙ f)) w }
+    record { writes = λ m f. subst (λ k. Lays (keyed mode) (reading mode k text) before after answer) (same-lens l m (sym e ∙ f)) w }
 
 -- a match gives what its child gives
 match-emits :
@@ -77,7 +78,7 @@ match-emits {a = a} {mode} {text} s w =
 
 module _ {bytes : Text} {node : ℕ} {r : Node} {mode : Mode} {text before after : Text} {answer : Wrote} (read : NodeRead bytes node r) where
   -- a copy gives its text
-  pub emits-copy : {a : ℕ} → r .kind ≡ Copy a → Writes (copied mode text) before after answer → Emits bytes node mode text before after answer
+  pub emits-copy : {a : ℕ} → r .kind ≡ Copy a → Lays (keyed mode) (copied mode text) before after answer → Emits bytes node mode text before after answer
   emits-copy e w = let s = shown-copy read e in its-lens (copy (s .child)) (s .tree-is) (rw (reading-copy mode (s .child) text) w)
 
   -- a const gives its word, or its default
@@ -86,7 +87,7 @@ module _ {bytes : Text} {node : ℕ} {r : Node} {mode : Mode} {text before after
       → r .kind ≡ Const a b c
       → given ≡ givenWord mode b c
       → WordIs bytes given letters
-      → Writes (copied mode letters) before after answer
+      → Lays (keyed mode) (copied mode letters) before after answer
       → Emits bytes node mode text before after answer
   emits-const e given-is letters w =
       let s = shown-const read e in
@@ -96,7 +97,7 @@ module _ {bytes : Text} {node : ℕ} {r : Node} {mode : Mode} {text before after
       (rw (reading-const mode (s .child) (s .sheet-word) (s .default-word) text, ← (given-letters mode s given-is letters)) w)
 
   -- a key gives its text
-  pub emits-key : {a : ℕ} → r .kind ≡ Key a → Writes text before after answer → Emits bytes node mode text before after answer
+  pub emits-key : {a : ℕ} → r .kind ≡ Key a → Lays (keyed mode) text before after answer → Emits bytes node mode text before after answer
   emits-key e w = let s = shown-key read e in its-lens (key (s .child)) (s .tree-is) (rw (reading-key mode (s .child) text) w)
 
   -- a join gives what its halves give together
@@ -191,11 +192,11 @@ further n Full = Full
 
 -- a text that is written behind the n bytes of another
 pub writes-further :
-    (s t before after rest : Text) (n : ℕ) (answer w : Wrote)
-    → Writes s before after (Count n)
-    → Writes t (take (length after - n) (drop n after)) rest answer
+    {padded : Bool} (s t before after rest : Text) (n : ℕ) (answer w : Wrote)
+    → Lays padded s before after (Count n)
+    → Lays padded t (take (length after - n) (drop n after)) rest answer
     → answer ≡ w
-    → Writes (s ++ t) before (take n after ++ (rest ++ drop (length after - n) (drop n after))) (further n w)
+    → Lays padded (s ++ t) before (take n after ++ (rest ++ drop (length after - n) (drop n after))) (further n w)
 writes-further s t before after rest n answer (Count m) first second e =
     writes-lent s t before after rest n answer first second (Count (n + m)) (λ k f. cc) (λ f. absurd (let z : _≡_ {A = ℕ} 0 1 = cc in omega arith))
 writes-further s t before after rest n answer Full first second e =
@@ -277,7 +278,7 @@ module _
 
     module _ {before after : Text} {answer : Wrote} (first : Emits bytes left mode (take (i - 0) text) before after answer) where
       -- the left half's reading is written
-      left-written : (l : Lens) → treeAt (trees bytes) left ≡ lens l → Writes (reading mode l (take i text)) before after answer
+      left-written : (l : Lens) → treeAt (trees bytes) left ≡ lens l → Lays (keyed mode) (reading mode l (take i text)) before after answer
       left-written l e = rw sub-zero at (first .writes l e)
 
       -- where it did not fit, the join does not

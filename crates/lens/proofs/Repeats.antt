@@ -17,8 +17,8 @@ use Rattle.automaton.specs.Rows.{automatonAt, Describes}
 use Rattle.lens.specs.declared.Mode.{Mode}
 use Rattle.lens.specs.declared.Wrote.{Wrote}
 use Rattle.lens.specs.declared.Wrote.the-variants.{Count, Full}
-use Rattle.lens.specs.Overlay.{Writes, overlay-length, writes-full, writes-nothing, writes-within}
-use Rattle.lens.specs.Reading.{reading, modeSide, reading-repeat, firstPart, parts-none, parts-next}
+use Rattle.lens.specs.Overlay.{Lays, overlay-length, writes-full, writes-nothing, writes-within}
+use Rattle.lens.specs.Reading.{reading, modeSide, keyed, reading-repeat, firstPart, parts-none, parts-next}
 use Rattle.lens.specs.Cutting.{rest-lent}
 use Rattle.lens.specs.Emitting.{sideFor, LensNode, Emits}
 use Rattle.lens.specs.Parsed.{
@@ -54,7 +54,7 @@ pub record Repeating
   pub parsed : ParsedFrom bytes node (modeSide mode) base path text o
   pub done : Text
   pub reading-is : reading mode (repeat (part .child)) text ≡ done ++ reading mode (repeat (part .child)) (drop o text)
-  pub written : Writes done out₀ out (Count n)
+  pub written : Lays (keyed mode) done out₀ out (Count n)
 
 module _ (mode : Mode) (l : Lens) where
   -- the empty text has nothing to be read
@@ -116,7 +116,7 @@ module _
   -- what is written is that of the repeat
   its-repeat :
       {after : Text} {answer : Wrote}
-      → Writes (reading mode (repeat (inv .part .child)) text) out₀ after answer
+      → Lays (keyed mode) (reading mode (repeat (inv .part .child)) text) out₀ after answer
       → Emits bytes node mode text out₀ after answer
   its-repeat w = its-lens (repeat (inv .part .child)) (inv .part .tree-is) w
 
@@ -125,7 +125,7 @@ module _
   repeat-ends end =
       let whole : reading mode (repeat (inv .part .child)) text ≡ inv .done =
       inv .reading-is ∙ rw (drop-of-length-le text end, repeat-none mode (inv .part .child), append-nil) in
-      its-repeat (subst (λ t. Writes t out₀ out (Count n)) (sym whole) (inv .written))
+      its-repeat (subst (λ t. Lays (keyed mode) t out₀ out (Count n)) (sym whole) (inv .written))
 
   -- what is written lies within the buffer, which is as long as before
   pub repeat-room : n ≤ length out
@@ -177,7 +177,8 @@ module _
       part-written :
           (w : Wrote)
           → answer ≡ w
-          → Writes
+          → Lays
+          (keyed mode)
           (inv .done ++ reading mode (inv .part .child) (take (o + i - o) (drop o text)))
           out₀
           (take n out ++ (rest ++ drop (length out - n) (drop n out)))

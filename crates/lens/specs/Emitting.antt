@@ -19,8 +19,8 @@ use Rattle.automaton.specs.Built.{Built}
 use Rattle.lens.specs.declared.Mode.{Mode}
 use Rattle.lens.specs.declared.Mode.the-variants.{Get, Key, Create, SourceKey}
 use Rattle.lens.specs.declared.Wrote.{Wrote}
-use Rattle.lens.specs.Overlay.{Writes}
-use Rattle.lens.specs.Reading.{reading}
+use Rattle.lens.specs.Overlay.{Lays}
+use Rattle.lens.specs.Reading.{reading, keyed}
 
 -- the side of the text that is read, as the automata have it
 unfoldable pub sideFor : Mode → Side
@@ -61,7 +61,7 @@ pub record WordIs (bytes : Text) (node : ℕ) (letters : Text) : Type 0 where
 
 -- What is read is written: at a node,
 pub record Emits (bytes : Text) (node : ℕ) (mode : Mode) (text before after : Text) (answer : Wrote) : Type 0 where
-  pub writes : (l : Lens) → treeAt (trees bytes) node ≡ lens l → Writes (reading mode l text) before after answer
+  pub writes : (l : Lens) → treeAt (trees bytes) node ≡ lens l → Lays (keyed mode) (reading mode l text) before after answer
 
 -- and at the join of two.
 pub record EmitsJoin (bytes : Text) (left right : ℕ) (mode : Mode) (text before after : Text) (answer : Wrote) : Type 0 where
@@ -69,7 +69,7 @@ pub record EmitsJoin (bytes : Text) (left right : ℕ) (mode : Mode) (text befor
       (l m : Lens)
       → treeAt (trees bytes) left ≡ lens l
       → treeAt (trees bytes) right ≡ lens m
-      → Writes (reading mode (join l m) text) before after answer
+      → Lays (keyed mode) (reading mode (join l m) text) before after answer
 
 -- The node r gives what a node gives: it is the node itself, or the node is a match and r its child. Which of the two it is for a match is left open: both give the same.
 pub record ReadBy (bytes : Text) (node r : ℕ) : Type 0 where

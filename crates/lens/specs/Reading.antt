@@ -1,6 +1,6 @@
 -- What is read off a text, as one reading over the mode, and the parts of a repeat one by one.
 use mathlib.Core.Path.{_≡_, refl, ap}
-use mathlib.Core.Bool.{true, false, _&&_, cond}
+use mathlib.Core.Bool.{Bool, true, false, _&&_, cond}
 use mathlib.Core.List.{[], _∷_, _++_, map}
 use Prim.Native.Nat.{ℕ, zero, suc, _+_, _-_, _≤_, _<_}
 use native.Mathlib.Nat.{not-suc-le-zero, le-refl}
@@ -37,6 +37,13 @@ modeSide Get = source
 modeSide Key = sheet
 modeSide Create = sheet
 modeSide SourceKey = source
+
+-- whether it is a key, whose trailing spaces don't count
+abbrev pub keyed : Mode → Bool
+keyed Get = false
+keyed Key = true
+keyed Create = false
+keyed SourceKey = true
 
 -- what a copy gives: its text, and no key
 unfoldable pub copied : Mode → Text → Text

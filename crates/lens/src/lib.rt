@@ -2,7 +2,7 @@
 pub mod read;
 pub mod texts;
 
-// What a writer did: it set that many bytes, or the text did not fit and every byte of the buffer is set.
+// What a writer did: it set that many bytes, which are the text, or a key but for trailing spaces; or the text did not fit, and every byte of the buffer is set.
 pub enum Wrote {
     Count(usize),
     Full,

@@ -1,6 +1,7 @@
 // What is read off a text at a node: a sheet, a key or a source.
 use crate::Mode;
 use crate::Wrote;
+use crate::texts::write_key;
 use crate::texts::write_text;
 use automaton::Automaton;
 use automaton::Side;
@@ -20,8 +21,8 @@ ghost use Rattle.semantics.specs.Lens.{repeat};
 ghost use Rattle.table.specs.Prepared.{OneLens};
 ghost use Rattle.automaton.specs.Rows.{automatonAt};
 ghost use Rattle.paths.specs.Finding.{MarksRoom};
-ghost use Rattle.lens.specs.Overlay.{Writes};
-ghost use Rattle.lens.specs.Reading.{modeSide, copied, givenWord};
+ghost use Rattle.lens.specs.Overlay.{Lays};
+ghost use Rattle.lens.specs.Reading.{modeSide, keyed, copied, givenWord};
 ghost use Rattle.lens.specs.Emitting.{sideFor, Prepared, WordNode, WordIs, LensNode, Fits, Emits, EmitsJoin, ReadBy};
 ghost use Rattle.lens.specs.Parsed.{Parsed, ParsedJoin};
 
@@ -62,13 +63,25 @@ fn word_of<'a>(bytes: &'a [u8], prepared: &[u64], node: usize) -> &'a [u8]
 
 // What a copy gives: its text, and no key.
 fn emit_copy(mode: Mode, text: &[u8], out: &mut [u8]) -> Wrote
-    ensures { λ r. ⌜ Writes (copied mode (now (text .entry))) (now (out .entry)) (now (out .exit)) r ⌝ }
+    ensures { λ r. ⌜ Lays (keyed mode) (copied mode (now (text .entry))) (now (out .entry)) (now (out .exit)) r ⌝ }
 {
     match mode {
         Mode::Get => write_text(text, out),
         Mode::Key => Wrote::Count(0),
         Mode::Create => write_text(text, out),
         Mode::SourceKey => Wrote::Count(0),
+    }
+}
+
+// What a key gives: its text, which may be padded where it is read as a key.
+fn emit_key(mode: Mode, text: &[u8], out: &mut [u8]) -> Wrote
+    ensures { λ r. ⌜ Lays (keyed mode) (now (text .entry)) (now (out .entry)) (now (out .exit)) r ⌝ }
+{
+    match mode {
+        Mode::Get => write_text(text, out),
+        Mode::Key => write_key(text, out),
+        Mode::Create => write_text(text, out),
+        Mode::SourceKey => write_key(text, out),
     }
 }
 
@@ -113,7 +126,7 @@ pub fn emit(
             let given = given_word(mode, sheet, default);
             emit_copy(mode, word_of(bytes, prepared, given), out)
         }
-        Kind::Key { .. } => write_text(text, out),
+        Kind::Key { .. } => emit_key(mode, text, out),
         Kind::LensJoin { left, right } => {
             emit_join(bytes, prepared, left, right, mode, base, text, path, out)
         }

@@ -1,8 +1,10 @@
 // Texts: written into a buffer, and compared.
 use crate::Wrote;
+use padding::is_blank;
 ghost use mathlib.Core.Path.{_≡_};
+ghost use mathlib.Core.Bool.{true};
 ghost use Rattle.semantics.specs.Text.{sameText};
-ghost use Rattle.lens.specs.Overlay.{Writes};
+ghost use Rattle.lens.specs.Overlay.{Lays, Writes};
 
 // The text is written from the buffer's first byte on, as much of it as fits.
 pub fn write_text(text: &[u8], out: &mut [u8]) -> Wrote
@@ -17,6 +19,23 @@ pub fn write_text(text: &[u8], out: &mut [u8]) -> Wrote
         i += 1;
     }
     Wrote::Count(i)
+}
+
+// The same of a text whose trailing spaces don't count: those that have no room are left out. What is behind the room tells whether they are trailing ones.
+pub fn write_key(text: &[u8], out: &mut [u8]) -> Wrote
+    ensures { λ r. ⌜ Lays true (now (text .entry)) (now (out .entry)) (now (out .exit)) r ⌝ }
+{
+    let wrote = write_text(text, out);
+    match wrote {
+        Wrote::Count(n) => Wrote::Count(n),
+        Wrote::Full => {
+            let n = out.len();
+            if is_blank(&text[n..]) {
+                return Wrote::Count(n);
+            }
+            Wrote::Full
+        }
+    }
 }
 
 pub fn same_text(a: &[u8], b: &[u8]) -> bool

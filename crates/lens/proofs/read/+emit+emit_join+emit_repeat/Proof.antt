@@ -74,10 +74,10 @@ use Rattle.lens.proofs.read.emit_repeat.Kinds as emit-repeat-kinds
 use Rattle.lens.proofs.read.+emit+emit_join+emit_repeat.Lts-emit_repeat as emit-repeat-lts
 use Rattle.lens.proofs.read.automaton_for.Reads as automaton-for-reads
 use Rattle.lens.proofs.read.emit_copy.Reads as emit-copy-reads
+use Rattle.lens.proofs.read.emit_key.Reads as emit-key-reads
 use Rattle.lens.proofs.read.given_word.Reads as given-word-reads
 use Rattle.lens.proofs.read.read_by.Reads as read-by-reads
 use Rattle.lens.proofs.read.word_of.Reads as word-of-reads
-use Rattle.lens.proofs.texts.write_text.Reads as write-text-reads
 use Rattle.cuts.proofs.border.Reads as border-reads
 use Rattle.cuts.proofs.ends_of.Reads as ends-of-reads
 use Rattle.cuts.proofs.first_loop.Reads as first-loop-reads
@@ -136,8 +136,8 @@ emit-calls t = (
   given-word-reads.Learnt,
   word-of-reads.Asked,
   word-of-reads.Learnt,
-  write-text-reads.Asked,
-  write-text-reads.Learnt,
+  emit-key-reads.Asked,
+  emit-key-reads.Learnt,
   emit-join-below t,
   emit-join.Post,
   automaton-for-reads.Asked,
@@ -210,8 +210,8 @@ emit-emit-copy-requires-2 t c κs = search needs
 emit-enum-told-7 : (t : ℕ) → emit-lts.Need-enum-told-7 (emit-calls t) (emit-at t) emit.Post
 emit-enum-told-7 t c = search needs
 
-emit-write-text-requires : (t : ℕ) → emit-lts.Need-write-text-requires (emit-calls t) (emit-at t) emit.Post
-emit-write-text-requires t c κs = search needs
+emit-emit-key-requires : (t : ℕ) → emit-lts.Need-emit-key-requires (emit-calls t) (emit-at t) emit.Post
+emit-emit-key-requires t c κs = search needs
 
 emit-enum-known-kind-2 : (t : ℕ) → emit-lts.Need-enum-known-kind-2 (emit-calls t) (emit-at t) emit.Post
 emit-enum-known-kind-2 t c = search needs
@@ -374,10 +374,10 @@ emit-same-length-4 t c = search needs
 
 emit-returns-9 : (t : ℕ) → emit-lts.Need-returns-9 (emit-calls t) (emit-at t) emit.Post
 emit-returns-9 t c =
-    let at-write-text = c .before .before in
-    let at-enum-told7 = at-write-text .before .before in
+    let at-emit-key = c .before .before in
+    let at-enum-told7 = at-emit-key .before .before in
     let at-node = at-enum-told7 .before .before in
-    emits-key (at-node .node .ensures) (at-enum-told7 .enum-told7 .given .1) (at-write-text .write-text .ensures)
+    emits-key (at-node .node .ensures) (at-enum-told7 .enum-told7 .given .1) (at-emit-key .emit-key .ensures)
 
 emit-same-length-5 : (t : ℕ) → emit-lts.Need-same-length-5 (emit-calls t) (emit-at t) emit.Post
 emit-same-length-5 t c = search needs
@@ -744,7 +744,7 @@ pub +emit+emit-join+emit-repeat-spec : {M : Type 1} → statement M
     (emit-word-of-requires t)
     (emit-emit-copy-requires-2 t)
     (emit-enum-told-7 t)
-    (emit-write-text-requires t)
+    (emit-emit-key-requires t)
     (emit-enum-known-kind-2 t)
     (emit-emit-join-requires t)
     (emit-enum-known-kind-3 t)
