@@ -1,4 +1,4 @@
--- The card of a key: equal keys have equal cards, and cards of different keys differ. Beside it goes a byte of the key's fingerprint.
+-- The card of a key: equal keys, which may differ by trailing spaces, have equal cards, and cards of different keys differ. Beside it goes a byte of the key's fingerprint.
 use mathlib.Core.Path.{_≡_, refl, sym, ap, _∙_}
 use mathlib.Core.Bool.{Bool, true, false, _&&_, cond}
 use mathlib.Core.List.{[], _∷_, _++_, map}
@@ -10,8 +10,9 @@ use lib.Seq.{take-take, take-append-seam}
 use borrow.Author.Tests.{leb-true, leb-false}
 use Rattle.semantics.specs.Text.{Text, sameText, joined, least}
 use Rattle.semantics.specs.Pattern.{Pattern, star, matches}
-use Rattle.semantics.specs.Lens.{Lens, copy, const, key, join, union, repeat, match, sheet, language, cutAt, parts, partsWithin, keyOf, sameKey}
+use Rattle.semantics.specs.Lens.{Lens, copy, const, key, join, union, repeat, match, sheet, language, cutAt, parts, partsWithin, keyOf, trimmed, sameKey}
 use Rattle.laws.specs.Basics.{not-both, false-of-not-true, sameText-refl, sameText-eq}
+use Rattle.laws.specs.Keys.{trimmed-short, same-key-eq, same-key-of}
 
 -- the fingerprint with one byte more
 unfoldable pub printNext : ℕ → ℕ → ℕ
@@ -25,17 +26,17 @@ printFrom print (byte ∷ text) = printFrom (printNext print byte) text
 unfoldable pub printOf : Text → ℕ
 printOf text = printFrom 0 text
 
--- the byte of the fingerprint that goes beside a card
+-- the byte that goes beside the card of a key: of the fingerprint of what its card holds
 unfoldable pub printByte : Text → ℕ
-printByte text = printOf text / 256
+printByte k = printOf (trimmed k) / 256
 
 -- a number in two bytes, the high one first
 abbrev pub twoBytes : ℕ → Text
 twoBytes n = n / 256 ∷ n % 256 ∷ []
 
--- the card of a key
+-- the card of a key: its text without trailing spaces, and before that the length of it
 unfoldable pub cardOf : Text → Text
-cardOf text = twoBytes (length text) ++ text
+cardOf k = twoBytes (length (trimmed k)) ++ trimmed k
 
 -- whether a text begins with another
 unfoldable pub begins : Text → Text → Bool
@@ -46,12 +47,13 @@ pub record Tells (key slot : Text) (print : ℕ) : Type 0 where
   pub tells : (k : Text) → length k ≤ 4096 → begins (cardOf k) slot ≡ sameKey key k
   pub prints : (k : Text) → length k ≤ 4096 → sameKey key k ≡ true → print ≡ printByte k
 
--- A slot begins with the card of a key, of `size` bytes, and `print` goes beside it; or the key has more than 4,096 bytes, and the slot begins with a length that no card has.
+-- A slot begins with the card of a key, of `size` bytes, and `print` goes beside it; or the key has more than 4,096 bytes, trailing spaces not counted, and the slot begins with a length that
+-- no card has.
 pub record CardAt (key slot : Text) (size print : ℕ) : Type 0 where
   pub within : size ≤ length slot
   pub small : size ≤ 4098
-  pub short : length key ≤ 4096 → (take size slot ≡ cardOf key) × (print ≡ printByte key)
-  pub long : 4096 < length key → (2 ≤ size) × (take 2 slot ≡ twoBytes 65535)
+  pub short : length (trimmed key) ≤ 4096 → (take size slot ≡ cardOf key) × (print ≡ printByte key)
+  pub long : 4096 < length (trimmed key) → (2 ≤ size) × (take 2 slot ≡ twoBytes 65535)
 
 -- ---- What a card tells
 
@@ -59,15 +61,29 @@ pub record CardAt (key slot : Text) (size print : ℕ) : Type 0 where
 same-two : (m n : ℕ) → m / 256 ≡ n / 256 → m % 256 ≡ n % 256 → m ≡ n
 same-two m n high low = omega arith
 
+-- a card has two bytes more than its key, trailing spaces cut
+pub card-length : (k : Text) → length (cardOf k) ≡ 2 + length (trimmed k)
+unfolding cardOf
+card-length k = omega arith
+
+-- keys of which the same is left have one card, and one byte beside it
+pub card-same : (k m : Text) → trimmed k ≡ trimmed m → cardOf k ≡ cardOf m
+unfolding cardOf
+card-same k m e = rw e
+
+pub print-same : (k m : Text) → trimmed k ≡ trimmed m → printByte k ≡ printByte m
+unfolding printByte
+print-same k m e = rw e
+
 -- a slot that holds the card of a key begins with that of no other
-card-begins : (own behind k : Text) → begins (cardOf k) (cardOf own ++ behind) ≡ true → own ≡ k
+card-begins : (own behind k : Text) → begins (cardOf k) (cardOf own ++ behind) ≡ true → trimmed own ≡ trimmed k
 unfolding begins cardOf
 card-begins own behind k e =
     let same = sameText-eq _ _ e in
-    let high : length own / 256 ≡ length k / 256 = cc in
-    let low : length own % 256 ≡ length k % 256 = cc in
-    let as-long = same-two (length own) (length k) high low in
-    let rest : take (length k) (own ++ behind) ≡ k = cc in
+    let high : length (trimmed own) / 256 ≡ length (trimmed k) / 256 = cc in
+    let low : length (trimmed own) % 256 ≡ length (trimmed k) % 256 = cc in
+    let as-long = same-two (length (trimmed own)) (length (trimmed k)) high low in
+    let rest : take (length (trimmed k)) (trimmed own ++ behind) ≡ trimmed k = cc in
     rw (← as-long, take-append-seam) at rest
 
 -- a test is another's answer where each passes if the other does
@@ -77,43 +93,46 @@ same-test false b h k = sym (false-of-not-true b (λ e. not-both (k e) refl))
 
 -- a card tells its key, whatever stands behind it
 tells-card : (own behind : Text) → Tells own (cardOf own ++ behind) (printByte own)
-unfolding begins sameKey
+unfolding begins
 tells-card own behind =
     record {
       tells = λ k small.
           same-test
           (begins (cardOf k) (cardOf own ++ behind))
           (sameKey own k)
-          (λ e. rw (card-begins own behind k e) (sameText-refl k))
-          (λ e. rw (sameText-eq own k e, take-append-seam) (sameText-refl (cardOf k)));
-      prints = λ k small e. ap printByte (sameText-eq own k e);
+          (λ e. same-key-of own k (card-begins own behind k e))
+          (λ e. rw (card-same own k (same-key-eq own k e), take-append-seam) (sameText-refl (cardOf k)));
+      prints = λ k small e. print-same own k (same-key-eq own k e);
     }
 
 -- a length that no card has tells a key that is too long to be looked up
-tells-none : (own behind : Text) (print : ℕ) → 4096 < length own → Tells own (twoBytes 65535 ++ behind) print
-unfolding begins cardOf sameKey
+tells-none : (own behind : Text) (print : ℕ) → 4096 < length (trimmed own) → Tells own (twoBytes 65535 ++ behind) print
+unfolding begins cardOf
 tells-none own behind print long =
     record {
       tells = λ k small.
           false-of-not-true
           (begins (cardOf k) (twoBytes 65535 ++ behind))
-          (λ e. let same = sameText-eq _ _ e in let high : 255 ≡ length k / 256 = cc in omega arith)
-          ∙ sym (false-of-not-true (sameKey own k) (λ e. omega (arith, ap length (sameText-eq own k e))));
-      prints = λ k small e. absurd (omega (arith, ap length (sameText-eq own k e)));
+          (λ e. let same = sameText-eq _ _ e in let high : 255 ≡ length (trimmed k) / 256 = cc in omega (arith, trimmed-short k))
+          ∙ sym (false-of-not-true (sameKey own k) (λ e. longer k small (same-key-eq own k e)));
+      prints = λ k small e. absurd (longer k small (same-key-eq own k e));
     }
+  where
+    longer : (k : Text) → length k ≤ 4096 → trimmed own ≡ trimmed k → ⊥
+    longer k small e = omega (arith, long, small, ap length e, trimmed-short k)
 
 -- a slot tells the key whose card it begins with, whatever stands behind it
 pub card-tells :
     {own card slot : Text} {size print : ℕ} → CardAt own card size print → take size slot ≡ take size card → Tells own slot print
-card-tells {own} {card} {slot} {size} {print} made same = go (leb (length own) 4096) refl
+card-tells {own} {card} {slot} {size} {print} made same = go (leb (length (trimmed own)) 4096) refl
   where
-    go : (short : Bool) → leb (length own) 4096 ≡ short → Tells own slot print
+    go : (short : Bool) → leb (length (trimmed own)) 4096 ≡ short → Tells own slot print
     go true e =
-        let (card-is, print-is) = made .short (leb-true (length own) 4096 e) in
+        let (card-is, print-is) = made .short (leb-true (length (trimmed own)) 4096 e) in
         let slot-is : slot ≡ cardOf own ++ drop size slot = sym (take-append-drop size slot) ∙ ap (λ t. t ++ drop size slot) (same ∙ card-is) in
         rw (slot-is, print-is) (tells-card own (drop size slot))
     go false e =
-        let long = leb-false (length own) 4096 e in
+        let long = leb-false (length (trimmed own)) 4096 e in
         let (two, head-is) = made .long (omega (arith, long)) in
         let front : take 2 slot ≡ twoBytes 65535 =
         sym (take-take 2 size slot two) ∙ ap (take 2) same ∙ take-take 2 size card two ∙ head-is in
