@@ -36,13 +36,14 @@ use Rattle.books.specs.declared.Book.{Book}
 use Rattle.books.specs.Cards.{CardAt, card-tells, key-short}
 use Rattle.books.specs.Listed.{textAt, entryAt, InOrder}
 use Rattle.books.specs.Looking.{BookOver, EntriesParsed, placeAt, partAt, cardPlace, Dealt, same-within, entry-dealt}
-use Rattle.decks.specs.declared.cards.Card.{Card}
+use Rattle.cards.specs.declared.Card.{Card}
 use Rattle.decks.specs.declared.deck.Dealing.{Dealing}
 use Rattle.decks.specs.declared.deck.Tried.{Tried}
 use Rattle.decks.specs.declared.deck.Tried.the-variants.{Made, Long}
 use Rattle.below.specs.Below.{unionAt, BelowIs}
-use Rattle.decks.specs.Dealing.{Sealed, PathRoom, CardTried, HeadPut, CardIn, DealtTo}
-use Rattle.decks.proofs.Sealing.{card-length, writes-front, behindHead, withBehind, sealed-at}
+use Rattle.cards.specs.Sealed.{Sealed}
+use Rattle.decks.specs.Dealing.{PathRoom, CardTried, HeadPut, CardIn, DealtTo}
+use Rattle.cards.proofs.Sealing.{card-length, writes-front, behindHead, withBehind, sealed-at}
 use Rattle.decks.proofs.Heads.{head-long, head-front, head-behind, head-prints, head-places, head-print, head-place}
 
 -- ---- A text that was written

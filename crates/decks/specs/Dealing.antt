@@ -1,53 +1,20 @@
--- How the cards of keys are made, and the deck of them.
+-- The cards of old entries' keys, and the deck of them.
 use mathlib.Core.Path.{_≡_}
-use mathlib.Core.List.{List, _++_}
+use mathlib.Core.List.{List}
 use Prim.Native.Nat.{ℕ, _+_, _*_, _/_, _%_, _≤_, _<_}
 use lib.ListN.{length, take, drop, getD, set}
 use Rattle.semantics.specs.Text.{Text}
 use Rattle.semantics.specs.Lens.{Lens, get, keyOf}
 use Rattle.semantics.specs.Table.{trees, treeAt, lens}
 use Rattle.paths.specs.Finding.{MarksRoom}
-use Rattle.lens.specs.declared.Wrote.{Wrote}
-use Rattle.lens.specs.declared.Wrote.the-variants.{Count, Full}
 use Rattle.books.specs.declared.Book.{Book}
-use Rattle.books.specs.Cards.{cardOf, printByte, twoBytes, CardAt}
+use Rattle.books.specs.Cards.{CardAt}
 use Rattle.books.specs.Listed.{textAt}
 use Rattle.books.specs.Looking.{trailOf, cardPlace, Dealt}
-use Rattle.decks.specs.declared.cards.Card.{Card}
+use Rattle.cards.specs.declared.Card.{Card}
 use Rattle.decks.specs.declared.deck.Dealing.{Dealing}
 use Rattle.decks.specs.declared.deck.Tried.{Tried}
 use Rattle.decks.specs.declared.deck.Tried.the-variants.{Made, Long}
-
--- ---- One card
-
--- A key of that many bytes was written behind the head of a card.
-pub record KeyBehind (card : Text) (wrote : Wrote) : Type 0 where
-  pub within : (n : ℕ) → wrote ≡ Count n → 2 + n ≤ length card
-
--- the card that was sealed, of a key that had room; of another, a length that no card has
-abbrev pub sealedCard : Text → Wrote → Text
-sealedCard card (Count n) = cardOf (take n (drop 2 card)) ++ drop (2 + n) card
-sealedCard card Full = twoBytes 65535 ++ drop 2 card
-
-abbrev pub sealedLength : Wrote → ℕ
-sealedLength (Count n) = 2 + n
-sealedLength Full = 2
-
-abbrev pub sealedPrint : Text → Wrote → ℕ
-sealedPrint card (Count n) = printByte (take n (drop 2 card))
-sealedPrint card Full = 0
-
--- The head was set, and the rest is as it was.
-pub record Sealed (before : Text) (wrote : Wrote) (after : Text) (r : Card) : Type 0 where
-  pub card-is : after ≡ sealedCard before wrote
-  pub length-is : r .len ≡ sealedLength wrote
-  pub print-is : r .print ≡ sealedPrint before wrote
-
--- The card of the key of a sheet text at a node.
-pub record KeyCard (bytes : Text) (node : ℕ) (text card : Text) (r : Card) : Type 0 where
-  pub within : r .len ≤ length card
-  pub card-is : (l : Lens) → treeAt (trees bytes) node ≡ lens l → take (r .len) card ≡ cardOf (keyOf l text)
-  pub print-is : (l : Lens) → treeAt (trees bytes) node ≡ lens l → r .print ≡ printByte (keyOf l text)
 
 -- ---- The card of an old entry
 

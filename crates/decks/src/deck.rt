@@ -1,9 +1,9 @@
 // The deck: the old source, in the first 4,096 bytes; its path, in the next 4,096; for each of 256 entries one byte of its key's fingerprint, and three for where
 // its card stands; and then the cards, one behind the other. A sheet that is made for its key stands, until it has its card, where the card will.
-use crate::cards::Card;
-use crate::cards::seal;
 use below::has_union;
 use books::Book;
+use cards::Card;
+use cards::seal;
 use lens::Mode;
 use lens::Wrote;
 use lens::read::emit;

@@ -14,8 +14,8 @@ use Rattle.books.specs.declared.Book.{Book}
 use Rattle.books.specs.declared.Lookup.{Lookup}
 use Rattle.books.specs.Cards.{cardOf, printByte, key-short}
 use Rattle.books.specs.Looking.{BookOver, SameEntries, CardsFit, OldFits, LookedUp, cards-fit-same}
-use Rattle.decks.specs.declared.cards.Card.{Card}
-use Rattle.decks.specs.Dealing.{KeyCard}
+use Rattle.cards.specs.declared.Card.{Card}
+use Rattle.cards.specs.Sealed.{KeyCard}
 use Rattle.steps.specs.declared.Spot.{Spot}
 use Rattle.steps.specs.Steps.{ArmIs}
 use Rattle.bookless.specs.Bookless.{NewGiven, GivenOld}

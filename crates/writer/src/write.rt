@@ -15,7 +15,7 @@ use counted::next_counted;
 use counted::next_plain;
 use cuts::Ends;
 use cuts::first_loop;
-use decks::cards::card_of;
+use cards::card_of;
 use plains::Done;
 use plains::plain::write_plain;
 use std::num::wrapping_add_usize;

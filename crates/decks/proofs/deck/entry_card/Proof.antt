@@ -5,7 +5,7 @@ use lib.ListN.{take, drop}
 use lib.Seq.{length-take-le}
 use Rattle.lens.specs.Reading.{modeSide}
 use Rattle.lens.specs.Parsed.{parsed-fits}
-use Rattle.decks.proofs.Sealing.{card-long, emits-behind}
+use Rattle.cards.proofs.Sealing.{card-long, emits-behind}
 use Rattle.decks.proofs.Dealing.{source-card-made, slot-card, entry-within, tried-made}
 use borrow.Author.Needs.{needs}
 use Rattle.decks.proofs.deck.entry_card.Statement.{statement}

@@ -7,7 +7,7 @@ use lib.ListN.{length, take, drop, length-take}
 use Rattle.paths.specs.Finding.{less-marks}
 use Rattle.lens.specs.Reading.{modeSide}
 use Rattle.lens.specs.Parsed.{parsed-fits}
-use Rattle.decks.proofs.Sealing.{card-long, emits-behind}
+use Rattle.cards.proofs.Sealing.{card-long, emits-behind}
 use Rattle.decks.proofs.Dealing.{sheet-over, sheet-within, sheet-ends, sheet-back, sheet-belongs, sheet-card-made, copied-card, entry-within, entry-small, tried-made, tried-long}
 use borrow.Author.Needs.{needs}
 use Rattle.decks.proofs.deck.sheet_card.Statement.{statement}

@@ -5,7 +5,7 @@ use Rattle.writer.proofs.write.find_entry.Tie as tie
 use Rattle.writer.proofs.write.find_entry.Reads as reads
 use Rattle.writer.proofs.write.find_entry.Lts as lts
 use Rattle.books.proofs.Book.take.Reads as take-reads
-use Rattle.decks.proofs.cards.card_of.Reads as card-of-reads
+use Rattle.cards.proofs.card_of.Reads as card-of-reads
 
 -- src/write.rt:303:9
 card-of-requires : tie.Need-card-of-requires

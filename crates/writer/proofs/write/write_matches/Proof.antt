@@ -18,7 +18,7 @@ use Rattle.writer.proofs.write.write_matches.Tie as tie
 use Rattle.writer.proofs.write.write_matches.Reads as reads
 use Rattle.writer.proofs.write.write_matches.Lts as lts
 use Rattle.books.proofs.Book.take.Reads as take-reads
-use Rattle.decks.proofs.cards.card_of.Reads as card-of-reads
+use Rattle.cards.proofs.card_of.Reads as card-of-reads
 use Rattle.cuts.proofs.first_loop.Reads as first-loop-reads
 use Rattle.counted.proofs.next_plain.Reads as next-plain-reads
 

@@ -1,11 +1,11 @@
--- `decks::cards::fingerprint` meets its contract. The loop's invariant: the print is that of the first i bytes. Assumes nothing.
+-- `cards::fingerprint` meets its contract. The loop's invariant: the print is that of the first i bytes. Assumes nothing.
 use Prim.Native.Nat.{_-_}
 use native.Mathlib.Omega.{arith}
 use lib.ListN.{length}
 use borrow.Author.Needs.{needs}
-use Rattle.decks.proofs.Printing.{Printed, printed-none, printed-more, printed-all}
-use Rattle.decks.proofs.cards.fingerprint.Statement.{statement}
-use Rattle.decks.proofs.cards.fingerprint.Tie as tie
+use Rattle.cards.proofs.Printing.{Printed, printed-none, printed-more, printed-all}
+use Rattle.cards.proofs.fingerprint.Statement.{statement}
+use Rattle.cards.proofs.fingerprint.Tie as tie
 
 abbrev Inv-loop : tie.InvT-loop
 Inv-loop text print₀ i₀ print i = Printed text i print

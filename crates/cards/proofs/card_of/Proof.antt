@@ -1,9 +1,9 @@
--- `decks::cards::card_of` meets its contract. Assumes nothing.
+-- `cards::card_of` meets its contract. Assumes nothing.
 use Rattle.lens.specs.Reading.{modeSide}
-use Rattle.decks.proofs.Sealing.{card-long, emits-behind, card-made}
+use Rattle.cards.proofs.Sealing.{card-long, emits-behind, card-made}
 use borrow.Author.Needs.{needs}
-use Rattle.decks.proofs.cards.card_of.Statement.{statement}
-use Rattle.decks.proofs.cards.card_of.Tie as tie
+use Rattle.cards.proofs.card_of.Statement.{statement}
+use Rattle.cards.proofs.card_of.Tie as tie
 
 sub-room : tie.Need-sub-room
 sub-room c = search needs

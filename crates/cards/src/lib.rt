@@ -1,7 +1,8 @@
-// The card of a key: its length in two bytes, and behind them the key. Beside it goes one byte of the key's fingerprint, which tells most keys apart.
+// The card of a key: the key without its trailing spaces, and in front of it its length in two bytes. Beside it goes one byte of a fingerprint, which tells most keys apart.
 use lens::Mode;
 use lens::Wrote;
 use lens::read::emit;
+use padding::trimmed_length;
 ghost use mathlib.Core.Path.{_≡_};
 ghost use mathlib.Core.List.{_++_};
 ghost use Prim.Native.Nat.{_+_, _≤_, _<_};
@@ -10,7 +11,7 @@ ghost use Rattle.semantics.specs.Lens.{sheet};
 ghost use Rattle.lens.specs.Emitting.{LensNode};
 ghost use Rattle.lens.specs.Parsed.{Parsed};
 ghost use Rattle.books.specs.Cards.{printOf, twoBytes};
-ghost use Rattle.decks.specs.Dealing.{KeyBehind, Sealed, KeyCard};
+ghost use Rattle.cards.specs.Sealed.{KeyBehind, Sealed, KeyCard};
 
 // How many bytes a card has, and the byte of its key's fingerprint.
 pub struct Card {
@@ -41,7 +42,7 @@ fn put_two(card: &mut [u8], at: usize, number: usize)
     card[at + 1] = (number % 256) as u8;
 }
 
-// The head of a card behind which a key was written. A key of more than 4,096 bytes, which no lookup has, gets a length that no card has.
+// The head of a card behind which a key was written, with or without its trailing spaces. A key that has more than 4,096 bytes also without them, as no key of a lookup has, gets a length that no card has.
 pub fn seal(card: &mut [u8], wrote: Wrote) -> Card
     requires { ⌜ length (now card) ≡ 4098 ⌝ }
     requires { ⌜ KeyBehind (now card) wrote ⌝ }
@@ -49,9 +50,11 @@ pub fn seal(card: &mut [u8], wrote: Wrote) -> Card
 {
     match wrote {
         Wrote::Count(n) => {
-            let len = 2 + n;
+            let end = 2 + n;
+            let kept = trimmed_length(&card[2..end]);
+            let len = 2 + kept;
             let print = fingerprint(&card[2..len]);
-            put_two(card, 0, n);
+            put_two(card, 0, kept);
             Card {
                 len,
                 print: (print / 256) as u8,

@@ -1,4 +1,4 @@
--- `decks::cards::put_two` meets its contract. Assumes nothing.
+-- `cards::put_two` meets its contract. Assumes nothing.
 use mathlib.Core.Path.{_∙_}
 use mathlib.Core.List.{append-assoc}
 use Prim.Native.Nat.{_+_}
@@ -8,8 +8,8 @@ use lib.ListN.{take, drop, length-set}
 use lib.Seq.{sets-eq}
 use borrow.Author.Needs.{needs}
 use Rattle.books.specs.Cards.{twoBytes}
-use Rattle.decks.proofs.cards.put_two.Statement.{statement}
-use Rattle.decks.proofs.cards.put_two.Tie as tie
+use Rattle.cards.proofs.put_two.Statement.{statement}
+use Rattle.cards.proofs.put_two.Tie as tie
 
 cast-card : tie.Need-cast-card
 cast-card c = search needs
