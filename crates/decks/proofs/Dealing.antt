@@ -8,13 +8,14 @@ use native.Mathlib.Nat.{sub-zero, add-sub-cancel-left, mul-le-mul-right, le-tran
 use native.Mathlib.Omega.{arith}
 use lib.Dec.{leb, eqb}
 use lib.ListN.{length, take, drop, getD, length-append, length-take, length-drop}
-use lib.Seq.{length-take-le, take-take, take-append-seam, take-append-le, take-at, drop-at, getD-take}
+use lib.Seq.{length-take-le, take-all, take-take, take-append-seam, take-append-le, take-at, drop-at, getD-take}
 use borrow.Author.Tests.{leb-true, leb-false, eqb-true, eqb-false}
 use Rattle.semantics.specs.Text.{Text, orElse}
 use Rattle.semantics.specs.Pattern.{In}
-use Rattle.semantics.specs.Lens.{Lens, source as source-side, sheet, language, get, keyOf, entryOf}
+use Rattle.semantics.specs.Lens.{Lens, source as source-side, sheet, language, get, keyOf, trimmed, entryOf}
 use Rattle.semantics.specs.Lens.{Side as SideOf}
 use Rattle.semantics.specs.Table.{nodeCount, Trees, trees, treeAt, lensAt, lensOf, lens, positions}
+use Rattle.laws.specs.Keys.{trimmed-short}
 use Rattle.laws.specs.NodeTrees.{lens-below, tree-length}
 use Rattle.laws.specs.WellTyped.{WellTyped}
 use Rattle.laws.specs.GetPut.{get-in, get-length}
@@ -25,7 +26,7 @@ use Rattle.automaton.specs.Built.{Built, treeLanguage}
 use Rattle.lens.specs.declared.Mode.the-variants.{Get, Key, SourceKey}
 use Rattle.lens.specs.declared.Wrote.{Wrote}
 use Rattle.lens.specs.declared.Wrote.the-variants.{Count, Full}
-use Rattle.lens.specs.Overlay.{Writes, overlay-length, overlay-fits, full-over, writes-within}
+use Rattle.lens.specs.Overlay.{Writes, overlay-length, overlay-fits, count-fits, full-over, writes-within, front-set}
 use Rattle.lens.specs.Reading.{reading}
 use Rattle.lens.specs.SourceKeys.{hasUnion, source-key}
 use Rattle.lens.specs.Cutting.{part-length}
@@ -33,7 +34,7 @@ use Rattle.lens.specs.Emitting.{LensNode, Fits, Emits}
 use Rattle.lens.specs.Nodes.{same-lens}
 use Rattle.lens.specs.Parsed.{Parsed}
 use Rattle.books.specs.declared.Book.{Book}
-use Rattle.books.specs.Cards.{CardAt, card-tells, key-short}
+use Rattle.books.specs.Cards.{CardAt, card-tells, card-length, key-short}
 use Rattle.books.specs.Listed.{textAt, entryAt, InOrder}
 use Rattle.books.specs.Looking.{BookOver, EntriesParsed, placeAt, partAt, cardPlace, Dealt, same-within, entry-dealt}
 use Rattle.cards.specs.declared.Card.{Card}
@@ -43,7 +44,7 @@ use Rattle.decks.specs.declared.deck.Tried.the-variants.{Made, Long}
 use Rattle.below.specs.Below.{unionAt, BelowIs}
 use Rattle.cards.specs.Sealed.{Sealed}
 use Rattle.decks.specs.Dealing.{PathRoom, CardTried, HeadPut, CardIn, DealtTo}
-use Rattle.cards.proofs.Sealing.{card-length, writes-front, behindHead, withBehind, sealed-at}
+use Rattle.cards.proofs.Sealing.{behindHead, withBehind, sealed-at}
 use Rattle.decks.proofs.Heads.{head-long, head-front, head-behind, head-prints, head-places, head-print, head-place}
 
 -- ---- A text that was written
@@ -52,6 +53,10 @@ use Rattle.decks.proofs.Heads.{head-long, head-front, head-behind, head
 writes-begins : {text before after : Text} {wrote : Wrote} → Writes text before after wrote → length text ≤ length before → take (length text) after ≡ text
 writes-begins {text} {before} w room =
     rw (w .buffer-is, overlay-fits text before room) (take-append-seam text (drop (length text) before))
+
+-- and is what was set, as it is lent
+writes-front : {text before after : Text} {n : ℕ} → Writes text before after (Count n) → take n after ≡ text
+writes-front {text} {before} {n = n} w = front-set w ∙ take-all (length before) text (count-fits text before n (w .answer-is) .1)
 
 -- ---- The sheet of an entry
 
@@ -142,13 +147,13 @@ card-moves {slot = slot} {other = other} {size = size} card room same =
 
 -- a card has at most two bytes more than its key
 card-size : {key slot : Text} {size print : ℕ} → CardAt key slot size print → size ≤ 2 + length key
-card-size {key} {slot} {size} card = go (leb (length key) 4096) refl
+card-size {key} {slot} {size} card = go (leb (length (trimmed key)) 4096) refl
   where
-    go : (short : Bool) → leb (length key) 4096 ≡ short → size ≤ 2 + length key
+    go : (short : Bool) → leb (length (trimmed key)) 4096 ≡ short → size ≤ 2 + length key
     go true e =
-        let whole = ap length (card .short (leb-true (length key) 4096 e) .0) in
-        omega (arith, whole, length-take-le size slot (card .within), card-length key)
-    go false e = omega (arith, leb-false (length key) 4096 e, card .small)
+        let whole = ap length (card .short (leb-true (length (trimmed key)) 4096 e) .0) in
+        omega (arith, whole, length-take-le size slot (card .within), card-length key, trimmed-short key)
+    go false e = omega (arith, leb-false (length (trimmed key)) 4096 e, card .small, trimmed-short key)
 
 module _ {bytes : Text} {child : ℕ} {text : Text} {size print : ℕ} where
   entry-moves :
