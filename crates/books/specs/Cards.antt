@@ -8,9 +8,9 @@ use lib.Dec.{leb}
 use lib.ListN.{length, take, drop, take-append-drop, length-append, length-take, length-drop}
 use lib.Seq.{take-take, take-append-seam}
 use borrow.Author.Tests.{leb-true, leb-false}
-use Rattle.semantics.specs.Text.{Text, sameText, joined, least}
+use Rattle.semantics.specs.Text.{Text, sameText, joined, least, trimmed}
 use Rattle.semantics.specs.Pattern.{Pattern, star, matches}
-use Rattle.semantics.specs.Lens.{Lens, copy, const, key, join, union, repeat, match, sheet, language, cutAt, parts, partsWithin, keyOf, trimmed, sameKey}
+use Rattle.semantics.specs.Lens.{Lens, copy, const, key, join, union, repeat, match, sheet, language, cutAt, parts, partsWithin, keyOf, sameKey}
 use Rattle.laws.specs.Basics.{not-both, false-of-not-true, sameText-refl, sameText-eq}
 use Rattle.laws.specs.Keys.{trimmed-short, same-key-eq, same-key-of}
 

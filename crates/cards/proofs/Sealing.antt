@@ -7,8 +7,8 @@ use native.Mathlib.Nat.{add-sub-cancel-left}
 use native.Mathlib.Omega.{arith}
 use lib.ListN.{length, take, drop, take-append-drop, length-take, length-drop, drop-of-length-le}
 use lib.Seq.{length-take-le, take-take, take-append-seam, drop-drop, drop-at}
-use Rattle.semantics.specs.Text.{Text}
-use Rattle.semantics.specs.Lens.{keyOf, trimmed}
+use Rattle.semantics.specs.Text.{Text, trimmed}
+use Rattle.semantics.specs.Lens.{keyOf}
 use Rattle.laws.specs.Keys.{trimmed-append, trimmed-take, trimmed-short, trimmed-over}
 use Rattle.lens.specs.declared.Mode.{Mode}
 use Rattle.lens.specs.declared.Mode.the-variants.{Key}

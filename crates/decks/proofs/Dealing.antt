@@ -10,9 +10,9 @@ use lib.Dec.{leb, eqb}
 use lib.ListN.{length, take, drop, getD, length-append, length-take, length-drop}
 use lib.Seq.{length-take-le, take-all, take-take, take-append-seam, take-append-le, take-at, drop-at, getD-take}
 use borrow.Author.Tests.{leb-true, leb-false, eqb-true, eqb-false}
-use Rattle.semantics.specs.Text.{Text, orElse}
+use Rattle.semantics.specs.Text.{Text, orElse, trimmed}
 use Rattle.semantics.specs.Pattern.{In}
-use Rattle.semantics.specs.Lens.{Lens, source as source-side, sheet, language, get, keyOf, trimmed, entryOf}
+use Rattle.semantics.specs.Lens.{Lens, source as source-side, sheet, language, get, keyOf, entryOf}
 use Rattle.semantics.specs.Lens.{Side as SideOf}
 use Rattle.semantics.specs.Table.{nodeCount, Trees, trees, treeAt, lensAt, lensOf, lens, positions}
 use Rattle.laws.specs.Keys.{trimmed-short}

@@ -10,9 +10,9 @@ use native.Mathlib.Nat.{le-trans}
 use lib.Dec.{ltb}
 use lib.ListN.{length}
 use borrow.Author.Tests.{ltb-false, le-ltb, not-false}
-use Rattle.semantics.specs.Text.{Text, joined, All, Different}
+use Rattle.semantics.specs.Text.{Text, joined, All, Different, trimmed}
 use Rattle.semantics.specs.Pattern.{In, matches}
-use Rattle.semantics.specs.Lens.{Lens, Book, repeat, match, Side, source, sheet, language, Written, parts, get, keyOf, trimmed, entries, write, put, create}
+use Rattle.semantics.specs.Lens.{Lens, Book, repeat, match, Side, source, sheet, language, Written, parts, get, keyOf, entries, write, put, create}
 use Rattle.semantics.specs.Table.{trees}
 use Rattle.semantics.specs.Calls.{Answer, gives, refuses, refuseIf, program, withProgram, tooLong, notOf, output, getCall, putCall, createCall}
 use Rattle.laws.specs.Basics.{never, or-neither}

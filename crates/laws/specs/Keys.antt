@@ -8,8 +8,8 @@ use lib.Dec.{eqb}
 use lib.ListN.{length, take, drop, getD, take-append-drop, length-append}
 use lib.Seq.{length-take-le, getD-take, take-append-seam}
 use borrow.Author.Tests.{eqb-true}
-use Rattle.semantics.specs.Text.{Text, sameText}
-use Rattle.semantics.specs.Lens.{blank, trimmed, sameKey}
+use Rattle.semantics.specs.Text.{Text, sameText, blank, trimmed}
+use Rattle.semantics.specs.Lens.{sameKey}
 use Rattle.laws.specs.Basics.{not-both, and-both, and-of, cond-true, cond-false, sameText-refl, sameText-eq}
 
 -- ---- Texts of spaces alone

@@ -9,10 +9,10 @@ use native.Mathlib.Omega.{arith}
 use lib.Dec.{eqb}
 use lib.ListN.{length, getD, length-append}
 use borrow.Author.Tests.{eqb-true, eqb-false, eq-eqb}
-use Rattle.semantics.specs.Text.{Text, joined, orElse, apply, All, Member, Different}
+use Rattle.semantics.specs.Text.{Text, joined, orElse, apply, All, Member, Different, trimmed}
 use Rattle.semantics.specs.Pattern.{Pattern, In, star}
 use Rattle.semantics.specs.Ambiguity.{BadRepeat}
-use Rattle.semantics.specs.Lens.{Lens, repeat, match, source, sheet, language, Book, Writer, get, keyOf, trimmed, sameKey, parts, entryOf, entries, answers, keeping, takeEntry, andThen, writeParts, writeMatch, write, put}
+use Rattle.semantics.specs.Lens.{Lens, repeat, match, source, sheet, language, Book, Writer, get, keyOf, sameKey, parts, entryOf, entries, answers, keeping, takeEntry, andThen, writeParts, writeMatch, write, put}
 use Rattle.semantics.specs.Table.{holdsMatch}
 use Rattle.laws.specs.Basics.{bool-cases, and-both, and-of, cond-true, cond-false, false-of-not-true, all-at, all-of, member-map, map-member}
 use Rattle.laws.specs.Keys.{same-key-refl, same-key-eq}

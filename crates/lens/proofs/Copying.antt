@@ -7,8 +7,7 @@ use native.Mathlib.Numerals.{add-one}
 use native.Mathlib.Omega.{arith}
 use lib.ListN.{length, take, drop, getD, set, length-append, length-take, length-drop}
 use lib.Seq.{take-suc, drop-cons, set-at, length-take-le, take-length, drop-length}
-use Rattle.semantics.specs.Text.{Text}
-use Rattle.semantics.specs.Lens.{blank}
+use Rattle.semantics.specs.Text.{Text, blank}
 use Rattle.lens.specs.declared.Wrote.{Wrote}
 use Rattle.lens.specs.declared.Wrote.the-variants.{Count, Full}
 use Rattle.lens.specs.Overlay.{Lays, Writes, hasRoom, overlay-length, overlay-fits, overlay-over, wrote-room, wrote-none, wrote-fits, wrote-over, count-fits, full-over}

@@ -10,8 +10,7 @@ use lib.Dec.{leb}
 use lib.ListN.{length, take, drop, length-append, length-take, length-drop, drop-of-length-le}
 use lib.Seq.{take-nil, drop-nil, take-all, take-append-add, take-append-le, drop-drop, take-at, drop-at}
 use borrow.Author.Tests.{leb-true, leb-false, le-leb, lt-leb}
-use Rattle.semantics.specs.Text.{Text}
-use Rattle.semantics.specs.Lens.{blank}
+use Rattle.semantics.specs.Text.{Text, blank}
 use Rattle.laws.specs.Basics.{cond-true, cond-false}
 use Rattle.laws.specs.Keys.{blank-append}
 use Rattle.lens.specs.declared.Wrote.{Wrote}

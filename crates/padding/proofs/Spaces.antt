@@ -8,8 +8,7 @@ use lib.Dec.{eqb}
 use lib.ListN.{length, drop, getD, drop-of-length-le}
 use lib.Seq.{drop-cons, length-take-le}
 use borrow.Author.Tests.{eq-eqb, ne-eqb}
-use Rattle.semantics.specs.Text.{Text}
-use Rattle.semantics.specs.Lens.{blank, trimmed}
+use Rattle.semantics.specs.Text.{Text, blank, trimmed}
 use Rattle.laws.specs.Keys.{blank-step, trimmed-front}
 
 -- nothing is spaces alone

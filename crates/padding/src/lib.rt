@@ -1,7 +1,7 @@
 // Trailing spaces, which don't count where keys are compared: document 02 (iv).
 ghost use mathlib.Core.Path.{_≡_};
 ghost use lib.ListN.{length};
-ghost use Rattle.semantics.specs.Lens.{blank, trimmed};
+ghost use Rattle.semantics.specs.Text.{blank, trimmed};
 
 // Whether a text is spaces alone.
 pub fn is_blank(text: &[u8]) -> bool

@@ -8,10 +8,10 @@ use lib.ListN.{length}
 use Prim.Native.Char.{code}
 use Prim.Native.String.{String}
 use Prim.Native.String.{[] as nil, _∷_ as _then_}
-use Rattle.semantics.specs.Text.{Text, All, sameText, least, joined, somePasses, orElse, apply, apply₂}
+use Rattle.semantics.specs.Text.{Text, All, sameText, least, joined, somePasses, orElse, apply, apply₂, blank, trimmed}
 use Rattle.semantics.specs.Pattern.{range, inRun, inClass, nullable, before, heads, matches}
 use Rattle.semantics.specs.Ambiguity.{runsMeet, shareByte, nextPairs, sameRun, sameClass, samePattern, samePair, visit, explore, wordRests, rests, states, reached, bothEnd, overlaps, onward, twoCuts, badRepeat}
-use Rattle.semantics.specs.Lens.{source, sheet, constLanguage, language, cutAt, partsWithin, parts, get, keyOf, blank, trimmed, sameKey, entryOf, entries, answers, keeping, takeEntry, andThen, armOf, writeArm, writeParts, writeMatch, write, put, create}
+use Rattle.semantics.specs.Lens.{source, sheet, constLanguage, language, cutAt, partsWithin, parts, get, keyOf, sameKey, entryOf, entries, answers, keeping, takeEntry, andThen, armOf, writeArm, writeParts, writeMatch, write, put, create}
 use Rattle.semantics.specs.Table.{at, two, nodeCount, poolLength, sizesWrong, nodeAt, below, nodes, pool, kindOf, patternOf, lensOf, wordOf, treeAt, patternAt, lensAt, wordAt, provided, runsOf, reversed, setPart, setKeeps, build, treeOf, treesFrom, trees, patternSize, lensSize, positions, treePositions, treeSize, holdsMatch, line, unknownKind, isBroken, nestedMatch, nested, overLimit, firstRound, rootOf, rootLine, typingLines, treeLines, secondRound, lines, firstThatHolds}
 use Rattle.semantics.specs.Calls.{Answer, gives, refuses, refuseIf, rootAnswer, verdict, program, withProgram, tooLong, notOf, output, checkCall, getCall, putCall, createCall, digits, decimal, field, programLine, lenscheckLine}
 use Rattle.semantics.specs.Tally.{meetArm, meetParts, met, counting, tallied, tally, tallyOf, putTally, countsLine, putLine, tallyLine}

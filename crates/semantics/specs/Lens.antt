@@ -5,7 +5,7 @@ use mathlib.Core.Option.{Option, none, some}
 use Prim.Native.Nat.{ℕ, zero, suc}
 use lib.Dec.{eqb}
 use lib.ListN.{length, take, drop}
-use Rattle.semantics.specs.Text.{Text, joined, sameText, least, orElse, apply}
+use Rattle.semantics.specs.Text.{Text, joined, sameText, trimmed, least, orElse, apply}
 use Rattle.semantics.specs.Pattern.{Pattern, word, concat, alt, star, matches}
 
 -- A lens, written out as a tree. A match carries the number of its child node, by which entries are told apart.
@@ -75,16 +75,6 @@ keyOf (join l m) t = let i = cutAt (language sheet l) (language sheet m) t in ke
 keyOf (union l m) t = cond (matches (language sheet l) t) (keyOf l t) (keyOf m t)
 keyOf (repeat l) t = joined (map (keyOf l) (parts (language sheet l) t))
 keyOf (match n l) t = keyOf l t
-
--- whether a text is spaces (0x20) alone
-unfoldable pub blank : Text → Bool
-blank [] = true
-blank (c ∷ t) = eqb c 32 && blank t
-
--- a text without its trailing spaces, those at its end: where nothing but spaces follows, nothing is left
-unfoldable pub trimmed : Text → Text
-trimmed [] = []
-trimmed (c ∷ t) = let kept = c ∷ trimmed t in cond (blank (c ∷ t)) [] kept
 
 -- Document 02 (iv): 'Keys are from now on equal if their bytes are equal once trailing spaces (0x20) are cut.' It is the whole key, its parts
 -- joined, that is cut; 'key text itself is copied untouched, spaces included', so nothing but this comparison cuts anything.

@@ -18,6 +18,16 @@ sameText [] (y ∷ ys) = false
 sameText (x ∷ xs) [] = false
 sameText (x ∷ xs) (y ∷ ys) = eqb x y && sameText xs ys
 
+-- whether a text is spaces (0x20) alone
+unfoldable pub blank : Text → Bool
+blank [] = true
+blank (c ∷ t) = eqb c 32 && blank t
+
+-- a text without its trailing spaces: from where nothing but spaces follows, nothing is left
+unfoldable pub trimmed : Text → Text
+trimmed [] = []
+trimmed (c ∷ t) = let kept = c ∷ trimmed t in cond (blank (c ∷ t)) [] kept
+
 -- the least i below n for which `test i` is true, or n where there is none
 unfoldable pub least : ℕ → (ℕ → Bool) → ℕ
 least zero test = zero
