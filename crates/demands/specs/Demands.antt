@@ -34,7 +34,8 @@ pub record Made (first : Outcome Text) (second : Text → Outcome Text) (r : Two
 
 -- ---- Demand 3
 
--- 'wherever get gave a sheet for a source of at most 256 entries, putting that sheet back on it unedited gives exactly that source'
+-- 'wherever get gave a sheet for a source of at most 256 entries, putting that sheet back on it unedited gives exactly that source'. Nothing is asked of
+-- its keys, so this holds too where they differ only by trailing spaces: document 02 (iv), 'putting back an unedited sheet must still change nothing'.
 pub record Restores (bytes t : Text) (r : TwoCalls) : Type 0 where
   pub restores :
       (l : Lens)
@@ -44,7 +45,8 @@ pub record Restores (bytes t : Text) (r : TwoCalls) : Type 0 where
       → Gave (r .given) (r .first) a
       → Gave (r .again) (r .second) t
 
--- 'wherever put (on whatever old source) or create gave a source for a sheet, get takes exactly that sheet from the new source'
+-- 'wherever put (on whatever old source) or create gave a source for a sheet, get takes exactly that sheet from the new source'; so 'key text itself is
+-- copied untouched, spaces included' (document 02, iv).
 pub record TakesBack (a : Text) (r : TwoCalls) : Type 0 where
   pub takes-back : (t : Text) → Gave (r .given) (r .first) t → Gave (r .again) (r .second) a
 
@@ -60,7 +62,8 @@ pub record PutMade (bytes t : Text) (r : Chosen) : Type 0 where
 
 -- 'where the program is one repeated entry and a source of at most 256 entries and 4,096 bytes has keys that all differ, whichever of its sheet
 -- entries are put back on it, none twice, 4,096 bytes at most, and in whatever order, put gives exactly those old entries set in that order'. The
--- choice is a list of part numbers, counted from 1.
+-- choice is a list of part numbers, counted from 1. Keys differ if they do once trailing spaces are cut: document 02 (iv), 'A source whose keys differ
+-- only by such spaces no longer counts as having different keys when its entries are shuffled'.
 pub record SetsInOrder (bytes t : Text) (choice : List ℕ) (r : Chosen) : Type 0 where
   pub sets-in-order :
       (n : ℕ) (l : Lens)

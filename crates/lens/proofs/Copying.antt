@@ -7,7 +7,7 @@ use native.Mathlib.Numerals.{add-one}
 use native.Mathlib.Omega.{arith}
 use lib.ListN.{length, take, drop, getD, set, length-append, length-take, length-drop}
 use lib.Seq.{take-suc, drop-cons, set-at, length-take-le, take-length, drop-length}
-use Rattle.semantics.specs.Text.{Text, blank}
+use Rattle.semantics.specs.Text.{Text, allSpaces}
 use Rattle.lens.specs.declared.Wrote.{Wrote}
 use Rattle.lens.specs.declared.Wrote.the-variants.{Count, Full}
 use Rattle.lens.specs.Overlay.{Lays, Writes, hasRoom, overlay-length, overlay-fits, overlay-over, wrote-room, wrote-none, wrote-fits, wrote-over, count-fits, full-over}
@@ -77,10 +77,10 @@ module _ {text before after : Text} {wrote : Wrote} (w : Writes text before afte
     pub key-longer : length after ≤ length text
     key-longer = omega (arith, longer, kept)
 
-    module _ {rest : Bool} (told : rest ≡ blank (take (length text - length after) (drop (length after) text))) where
+    module _ {rest : Bool} (told : rest ≡ allSpaces (take (length text - length after) (drop (length after) text))) where
       room-told : hasRoom true text before ≡ rest
       unfolding hasRoom
-      room-told = ap (λ n. blank (drop n text)) (sym kept) ∙ sym (told ∙ ap blank (rest-lent text (length after)))
+      room-told = ap (λ n. allSpaces (drop n text)) (sym kept) ∙ sym (told ∙ ap allSpaces (rest-lent text (length after)))
 
       -- and that is spaces alone,
       pub key-spaces : rest ≡ true → Lays true text before after (Count (length after))

@@ -10,9 +10,9 @@ use lib.Dec.{leb}
 use lib.ListN.{length, take, drop, length-append, length-take, length-drop, drop-of-length-le}
 use lib.Seq.{take-nil, drop-nil, take-all, take-append-add, take-append-le, drop-drop, take-at, drop-at}
 use borrow.Author.Tests.{leb-true, leb-false, le-leb, lt-leb}
-use Rattle.semantics.specs.Text.{Text, blank}
+use Rattle.semantics.specs.Text.{Text, allSpaces}
 use Rattle.laws.specs.Basics.{cond-true, cond-false}
-use Rattle.laws.specs.Keys.{blank-append}
+use Rattle.laws.specs.Keys.{spaces-append}
 use Rattle.lens.specs.declared.Wrote.{Wrote}
 use Rattle.lens.specs.declared.Wrote.the-variants.{Count, Full}
 
@@ -21,7 +21,7 @@ overlay text buffer = take (length buffer) text ++ drop (length text) buffer
 
 -- Whether a text has room in a buffer: it is no longer than the buffer; or, of a text whose trailing spaces don't count, as a key's don't, all that has no place there is spaces.
 unfoldable pub hasRoom : Bool → Text → Text → Bool
-hasRoom padded text buffer = cond padded (blank (drop (length buffer) text)) (leb (length text) (length buffer))
+hasRoom padded text buffer = cond padded (allSpaces (drop (length buffer) text)) (leb (length text) (length buffer))
 
 -- what a writer of the text into the buffer answers: how many bytes were set, where it has room
 unfoldable pub wroteOf : Bool → Text → Text → Wrote
@@ -63,7 +63,7 @@ fits-or-over text buffer = go (leb (length text) (length buffer)) refl
 
 -- a text that is no longer has room
 pub room-fits : (padded : Bool) (text buffer : Text) → length text ≤ length buffer → hasRoom padded text buffer ≡ true
-unfolding hasRoom blank
+unfolding hasRoom allSpaces
 room-fits true text buffer h = rw (drop-of-length-le text h)
 room-fits false text buffer h = le-leb (length text) (length buffer) h
 
@@ -82,7 +82,7 @@ drop-behind (suc n) (c ∷ s) t = let less : suc n - length (c ∷ s) ≡ n - le
 room-next : (padded : Bool) (s t buffer : Text) → hasRoom padded (s ++ t) buffer ≡ hasRoom padded s buffer && hasRoom padded t (drop (length s) buffer)
 unfolding hasRoom
 room-next true s t buffer =
-    rw (length-drop (length s) buffer) (ap blank (drop-behind (length buffer) s t) ∙ blank-append (drop (length buffer) s) (drop (length buffer - length s) t))
+    rw (length-drop (length s) buffer) (ap allSpaces (drop-behind (length buffer) s t) ∙ spaces-append (drop (length buffer) s) (drop (length buffer - length s) t))
 room-next false s t buffer = go (fits-or-over s buffer)
   where
     whole : length (s ++ t) ≡ length s + length t

@@ -1,6 +1,6 @@
 // Texts: written into a buffer, and compared.
 use crate::Wrote;
-use padding::is_blank;
+use padding::all_spaces;
 ghost use mathlib.Core.Path.{_≡_};
 ghost use mathlib.Core.Bool.{true};
 ghost use Rattle.semantics.specs.Text.{sameText};
@@ -30,7 +30,7 @@ pub fn write_key(text: &[u8], out: &mut [u8]) -> Wrote
         Wrote::Count(n) => Wrote::Count(n),
         Wrote::Full => {
             let n = out.len();
-            if is_blank(&text[n..]) {
+            if all_spaces(&text[n..]) {
                 return Wrote::Count(n);
             }
             Wrote::Full

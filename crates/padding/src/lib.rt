@@ -1,11 +1,11 @@
 // Trailing spaces, which don't count where keys are compared: document 02 (iv).
 ghost use mathlib.Core.Path.{_≡_};
 ghost use lib.ListN.{length};
-ghost use Rattle.semantics.specs.Text.{blank, trimmed};
+ghost use Rattle.semantics.specs.Text.{allSpaces, trimmed};
 
 // Whether a text is spaces alone.
-pub fn is_blank(text: &[u8]) -> bool
-    ensures { λ r. ⌜ r ≡ blank (now (text .entry)) ⌝ }
+pub fn all_spaces(text: &[u8]) -> bool
+    ensures { λ r. ⌜ r ≡ allSpaces (now (text .entry)) ⌝ }
 {
     let mut i = 0;
     while i < text.len() {

@@ -8,7 +8,7 @@ use lib.ListN.{length}
 use Prim.Native.Char.{code}
 use Prim.Native.String.{String}
 use Prim.Native.String.{[] as nil, _∷_ as _then_}
-use Rattle.semantics.specs.Text.{Text, All, sameText, least, joined, somePasses, orElse, apply, apply₂, blank, trimmed}
+use Rattle.semantics.specs.Text.{Text, All, sameText, least, joined, somePasses, orElse, apply, apply₂, allSpaces, trimmed}
 use Rattle.semantics.specs.Pattern.{range, inRun, inClass, nullable, before, heads, matches}
 use Rattle.semantics.specs.Ambiguity.{runsMeet, shareByte, nextPairs, sameRun, sameClass, samePattern, samePair, visit, explore, wordRests, rests, states, reached, bothEnd, overlaps, onward, twoCuts, badRepeat}
 use Rattle.semantics.specs.Lens.{source, sheet, constLanguage, language, cutAt, partsWithin, parts, get, keyOf, sameKey, entryOf, entries, answers, keeping, takeEntry, andThen, armOf, writeArm, writeParts, writeMatch, write, put, create}
@@ -23,7 +23,7 @@ bytesOf (c then s) = code c ∷ bytesOf s
 
 -- To unfold this is to unfold every definition that a call computes with.
 unfoldable pub evaluates : Unit {0}
-unfolding sameText least joined somePasses orElse apply apply₂ range inRun inClass nullable before heads matches runsMeet shareByte nextPairs sameRun sameClass samePattern samePair visit explore wordRests rests states reached bothEnd overlaps onward twoCuts badRepeat constLanguage language cutAt partsWithin parts get keyOf blank trimmed sameKey entryOf entries answers keeping takeEntry andThen armOf writeArm writeParts writeMatch write put create at two nodeCount poolLength sizesWrong nodeAt below nodes pool kindOf patternOf lensOf wordOf treeAt patternAt lensAt wordAt provided runsOf reversed setPart setKeeps build treeOf treesFrom trees patternSize lensSize positions treePositions treeSize holdsMatch line unknownKind isBroken nestedMatch nested overLimit firstRound rootOf rootLine typingLines treeLines secondRound lines firstThatHolds refuseIf rootAnswer verdict program withProgram tooLong notOf output checkCall getCall putCall createCall digits decimal field programLine lenscheckLine meetArm meetParts met counting tallied tally tallyOf putTally countsLine putLine tallyLine
+unfolding sameText least joined somePasses orElse apply apply₂ range inRun inClass nullable before heads matches runsMeet shareByte nextPairs sameRun sameClass samePattern samePair visit explore wordRests rests states reached bothEnd overlaps onward twoCuts badRepeat constLanguage language cutAt partsWithin parts get keyOf allSpaces trimmed sameKey entryOf entries answers keeping takeEntry andThen armOf writeArm writeParts writeMatch write put create at two nodeCount poolLength sizesWrong nodeAt below nodes pool kindOf patternOf lensOf wordOf treeAt patternAt lensAt wordAt provided runsOf reversed setPart setKeeps build treeOf treesFrom trees patternSize lensSize positions treePositions treeSize holdsMatch line unknownKind isBroken nestedMatch nested overLimit firstRound rootOf rootLine typingLines treeLines secondRound lines firstThatHolds refuseIf rootAnswer verdict program withProgram tooLong notOf output checkCall getCall putCall createCall digits decimal field programLine lenscheckLine meetArm meetParts met counting tallied tally tallyOf putTally countsLine putLine tallyLine
 evaluates = tt
 
 -- a node as document 01 writes it: its kind and its operands a, b, c

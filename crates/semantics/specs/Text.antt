@@ -19,14 +19,14 @@ sameText (x ∷ xs) [] = false
 sameText (x ∷ xs) (y ∷ ys) = eqb x y && sameText xs ys
 
 -- whether a text is spaces (0x20) alone
-unfoldable pub blank : Text → Bool
-blank [] = true
-blank (c ∷ t) = eqb c 32 && blank t
+unfoldable pub allSpaces : Text → Bool
+allSpaces [] = true
+allSpaces (c ∷ t) = eqb c 32 && allSpaces t
 
 -- a text without its trailing spaces: from where nothing but spaces follows, nothing is left
 unfoldable pub trimmed : Text → Text
 trimmed [] = []
-trimmed (c ∷ t) = let kept = c ∷ trimmed t in cond (blank (c ∷ t)) [] kept
+trimmed (c ∷ t) = let kept = c ∷ trimmed t in cond (allSpaces (c ∷ t)) [] kept
 
 -- the least i below n for which `test i` is true, or n where there is none
 unfoldable pub least : ℕ → (ℕ → Bool) → ℕ

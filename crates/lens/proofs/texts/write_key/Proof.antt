@@ -13,23 +13,23 @@ enum-known-wrote c = search needs
 enum-told : tie.Need-enum-told
 enum-told c = search needs
 
-sub-is-blank : tie.Need-sub-is-blank
-sub-is-blank c = key-longer (c .before .before .before .before .write-text .ensures) (c .enum-told .given .1)
+sub-all-spaces : tie.Need-sub-all-spaces
+sub-all-spaces c = key-longer (c .before .before .before .before .write-text .ensures) (c .enum-told .given .1)
 
-part-is-blank-start : tie.Need-part-is-blank-start
-part-is-blank-start c = key-longer (c .before .before .before .before .write-text .ensures) (c .enum-told .given .1)
+part-all-spaces-start : tie.Need-part-all-spaces-start
+part-all-spaces-start c = key-longer (c .before .before .before .before .write-text .ensures) (c .enum-told .given .1)
 
-part-is-blank-end : tie.Need-part-is-blank-end
-part-is-blank-end c = search needs
+part-all-spaces-end : tie.Need-part-all-spaces-end
+part-all-spaces-end c = search needs
 
-is-blank-requires : tie.Need-is-blank-requires
-is-blank-requires c κs = search needs
+all-spaces-requires : tie.Need-all-spaces-requires
+all-spaces-requires c κs = search needs
 
 same-length : tie.Need-same-length
 same-length c = search needs
 
 returns : tie.Need-returns
-returns c = key-spaces (c .before .before .before .before .before .before .before .write-text .ensures) (c .before .before .before .enum-told .given .1) (c .before .is-blank .ensures) (c .if1 .taken)
+returns c = key-spaces (c .before .before .before .before .before .before .before .write-text .ensures) (c .before .before .before .enum-told .given .1) (c .before .all-spaces .ensures) (c .if1 .taken)
 
 same-length-2 : tie.Need-same-length-2
 same-length-2 c = search needs
@@ -41,7 +41,7 @@ same-length-3 : tie.Need-same-length-3
 same-length-3 c = search needs
 
 returns-3 : tie.Need-returns-3
-returns-3 c = key-full (c .before .before .before .before .before .before .before .write-text .ensures) (c .before .before .before .enum-told .given .1) (c .before .is-blank .ensures) (c .if1 .left)
+returns-3 c = key-full (c .before .before .before .before .before .before .before .write-text .ensures) (c .before .before .before .enum-told .given .1) (c .before .all-spaces .ensures) (c .if1 .left)
 
 pub write-key-spec : {M : Type 1} → statement M
 write-key-spec =
@@ -50,10 +50,10 @@ write-key-spec =
     write-text-requires
     enum-known-wrote
     enum-told
-    sub-is-blank
-    part-is-blank-start
-    part-is-blank-end
-    is-blank-requires
+    sub-all-spaces
+    part-all-spaces-start
+    part-all-spaces-end
+    all-spaces-requires
     same-length
     returns
     same-length-2

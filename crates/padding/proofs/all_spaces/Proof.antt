@@ -1,11 +1,11 @@
--- `padding::is_blank` meets its contract. The loop's invariant: the rest from i on tells. Assumes nothing.
+-- `padding::all_spaces` meets its contract. The loop's invariant: the rest from i on tells. Assumes nothing.
 use Prim.Native.Nat.{_-_}
 use lib.ListN.{length}
 use borrow.Author.Needs.{needs}
 use mathlib.Core.Path.{refl}
 use Rattle.padding.proofs.Spaces.{RestTells, tells-more, tells-other, tells-end}
-use Rattle.padding.proofs.is_blank.Statement.{statement}
-use Rattle.padding.proofs.is_blank.Tie as tie
+use Rattle.padding.proofs.all_spaces.Statement.{statement}
+use Rattle.padding.proofs.all_spaces.Tie as tie
 
 abbrev Inv-loop : tie.InvT-loop
 Inv-loop text i₀ i = RestTells text i
@@ -34,8 +34,8 @@ loop-again c = tells-more (c .before .before .before .loop .inv) (c .before .bef
 returns-2 : tie.Need-returns-2 Inv-loop μ-loop
 returns-2 c = tells-end (c .before .loop .inv) (c .loop-test .left)
 
-pub is-blank-spec : {M : Type 1} → statement M
-is-blank-spec =
+pub all-spaces-spec : {M : Type 1} → statement M
+all-spaces-spec =
     tie.close
     (tie.spec
     Inv-loop
