@@ -19,9 +19,9 @@ use Rattle.automaton.specs.declared.Side.{Side as SideOf}
 use Rattle.automaton.specs.Rows.{sideOf, automatonAt, Room, Describes}
 use Rattle.automaton.specs.Built.{treeLanguage}
 use Rattle.paths.specs.Finding.{PathFound}
-use Rattle.lens.specs.declared.Wrote.{Wrote}
-use Rattle.lens.specs.declared.Wrote.the-variants.{Count, Full}
-use Rattle.lens.specs.Overlay.{Writes, overlay, overlay-length, overlay-fits, count-fits, full-over, writes-within}
+use Rattle.texts.specs.declared.Wrote.{Wrote}
+use Rattle.texts.specs.declared.Wrote.the-variants.{Count, Full}
+use Rattle.texts.specs.Overlay.{Writes, overlay, overlay-length, overlay-fits, count-fits, full-over, writes-within}
 use Rattle.lens.specs.Emitting.{LensNode}
 use Rattle.answers.specs.declared.Answer.{Answer}
 use Rattle.answers.specs.declared.Answer.the-variants.{Result, Refusal}

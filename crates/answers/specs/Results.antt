@@ -12,9 +12,9 @@ use Rattle.semantics.specs.Table.{nodeCount}
 use Rattle.semantics.specs.Calls.{gives, program, maxText, output}
 use Rattle.automaton.specs.declared.Side.{Side}
 use Rattle.automaton.specs.Rows.{sideOf}
-use Rattle.lens.specs.declared.Wrote.{Wrote}
-use Rattle.lens.specs.declared.Wrote.the-variants.{Count}
-use Rattle.lens.specs.Overlay.{Writes}
+use Rattle.texts.specs.declared.Wrote.{Wrote}
+use Rattle.texts.specs.declared.Wrote.the-variants.{Count}
+use Rattle.texts.specs.Overlay.{Writes}
 use Rattle.lens.specs.Parsed.{Parsed}
 use Rattle.answers.specs.declared.Answer.{Answer}
 use Rattle.answers.specs.declared.Answer.the-variants.{Result}

@@ -16,11 +16,11 @@ use Rattle.positions.specs.Positions.{holds}
 use Rattle.table.specs.Prepared.{OneLens}
 use Rattle.automaton.specs.declared.Side.the-variants.{Source, Sheet}
 use Rattle.cuts.specs.declared.Ends.{Ends}
-use Rattle.lens.specs.declared.Wrote.{Wrote}
-use Rattle.lens.specs.declared.Wrote.the-variants.{Count, Full}
-use Rattle.lens.specs.Overlay.{Writes, overlay-length, writes-full, writes-nothing, writes-within}
+use Rattle.texts.specs.declared.Wrote.{Wrote}
+use Rattle.texts.specs.declared.Wrote.the-variants.{Count, Full}
+use Rattle.texts.specs.Overlay.{Writes, overlay-length, writes-full, writes-nothing, writes-within}
 use Rattle.lens.specs.Reading.{parts-none, parts-next}
-use Rattle.lens.specs.Cutting.{part-length, rest-lent}
+use Rattle.texts.specs.Cutting.{part-length, rest-lent}
 use Rattle.lens.specs.Emitting.{LensNode}
 use Rattle.lens.specs.Nodes.{child-below}
 use Rattle.lens.specs.Parsed.{

@@ -16,11 +16,11 @@ use Rattle.table.specs.declared.Node.{Node}
 use Rattle.table.specs.Prepared.{TwoLenses}
 use Rattle.table.specs.Rules.{NodeRead}
 use Rattle.lens.specs.declared.Mode.the-variants.{Create}
-use Rattle.lens.specs.declared.Wrote.{Wrote}
-use Rattle.lens.specs.declared.Wrote.the-variants.{Count, Full}
-use Rattle.lens.specs.Overlay.{Writes, overlay-length, writes-within, writes-full}
+use Rattle.texts.specs.declared.Wrote.{Wrote}
+use Rattle.texts.specs.declared.Wrote.the-variants.{Count, Full}
+use Rattle.texts.specs.Overlay.{Writes, overlay-length, writes-within, writes-full}
 use Rattle.lens.specs.Reading.{reading}
-use Rattle.lens.specs.Cutting.{rest-lent}
+use Rattle.texts.specs.Cutting.{rest-lent}
 use Rattle.lens.specs.Emitting.{LensNode, Emits}
 use Rattle.lens.specs.Nodes.{same-lens, shown-copy, shown-const, shown-key, shown-join, shown-match}
 use Rattle.lens.specs.Parsed.{parsed-join}

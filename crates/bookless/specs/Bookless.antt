@@ -8,8 +8,8 @@ use Rattle.semantics.specs.Text.{Text}
 use Rattle.semantics.specs.Lens.{Lens, join, source, sheet}
 use Rattle.semantics.specs.Table.{trees, treeAt, lens}
 use Rattle.laws.specs.Bookless.{plain}
-use Rattle.lens.specs.declared.Wrote.{Wrote}
-use Rattle.lens.specs.Overlay.{Writes}
+use Rattle.texts.specs.declared.Wrote.{Wrote}
+use Rattle.texts.specs.Overlay.{Writes}
 use Rattle.lens.specs.Parsed.{Parsed, ParsedJoin}
 use Rattle.books.specs.declared.Place.{Place}
 use Rattle.books.specs.declared.Old.{Old}

@@ -14,7 +14,7 @@ use Rattle.semantics.specs.Table.{trees}
 use Rattle.laws.specs.Basics.{not-both, and-both, and-of, sameText-eq, false-of-not-true}
 use Rattle.positions.specs.declared.Set.{Set}
 use Rattle.positions.specs.Positions.{Removed}
-use Rattle.lens.specs.Cutting.{rest-lent}
+use Rattle.texts.specs.Cutting.{rest-lent}
 use Rattle.books.specs.declared.Book.{Book}
 use Rattle.books.specs.declared.Old.the-variants.{At, Nothing}
 use Rattle.books.specs.Cards.{cardOf, printByte, begins}

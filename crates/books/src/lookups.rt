@@ -3,7 +3,7 @@ use crate::Book;
 use crate::Lookup;
 use crate::Old;
 use crate::Place;
-use lens::texts::same_text;
+use texts::same_text;
 ghost use mathlib.Core.Path.{_≡_};
 ghost use mathlib.Core.Bool.{true, not, _&&_};
 ghost use Prim.Native.Nat.{_+_, _*_, _≤_, _<_};

@@ -13,7 +13,7 @@ use Rattle.semantics.specs.Tally.{met, tally, putTally}
 use Rattle.semantics.specs.Tally.{Tally as Counts}
 use Rattle.laws.specs.Met.{kept-dropped, kept-made}
 use Rattle.laws.specs.Tally.{tally-is}
-use Rattle.lens.specs.declared.Wrote.the-variants.{Count}
+use Rattle.texts.specs.declared.Wrote.the-variants.{Count}
 use Rattle.books.specs.declared.Book.{Book}
 use Rattle.plains.proofs.Behind.{not-full}
 use Rattle.answers.specs.declared.Answer.{Answer}

@@ -12,11 +12,11 @@ use Rattle.semantics.specs.Lens.{keyOf}
 use Rattle.laws.specs.Keys.{trimmed-append, trimmed-take, trimmed-short, trimmed-over}
 use Rattle.lens.specs.declared.Mode.{Mode}
 use Rattle.lens.specs.declared.Mode.the-variants.{Key}
-use Rattle.lens.specs.declared.Wrote.{Wrote}
-use Rattle.lens.specs.declared.Wrote.the-variants.{Count, Full}
-use Rattle.lens.specs.Overlay.{Lays, hasRoom, count-room, full-room, writes-within, front-set}
+use Rattle.texts.specs.declared.Wrote.{Wrote}
+use Rattle.texts.specs.declared.Wrote.the-variants.{Count, Full}
+use Rattle.texts.specs.Overlay.{Lays, hasRoom, count-room, full-room, writes-within, front-set}
 use Rattle.lens.specs.Reading.{reading}
-use Rattle.lens.specs.Cutting.{part-length}
+use Rattle.texts.specs.Cutting.{part-length}
 use Rattle.lens.specs.Emitting.{LensNode, Emits}
 use Rattle.books.specs.Cards.{printOf, printByte, twoBytes, cardOf, CardAt, card-length, card-same, print-same, key-short}
 use Rattle.cards.specs.declared.Card.{Card}

@@ -6,8 +6,8 @@ use lib.ListN.{length, take, drop}
 use Rattle.semantics.specs.Text.{Text}
 use Rattle.semantics.specs.Lens.{Lens, keyOf}
 use Rattle.semantics.specs.Table.{trees, treeAt, lens}
-use Rattle.lens.specs.declared.Wrote.{Wrote}
-use Rattle.lens.specs.declared.Wrote.the-variants.{Count, Full}
+use Rattle.texts.specs.declared.Wrote.{Wrote}
+use Rattle.texts.specs.declared.Wrote.the-variants.{Count, Full}
 use Rattle.books.specs.Cards.{cardOf, printByte, twoBytes}
 use Rattle.cards.specs.declared.Card.{Card}
 

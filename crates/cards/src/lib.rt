@@ -1,6 +1,6 @@
 // The card of a key: the key without its trailing spaces, and in front of it its length in two bytes. Beside it goes one byte of a fingerprint, which tells most keys apart.
 use lens::Mode;
-use lens::Wrote;
+use texts::Wrote;
 use lens::read::emit;
 use padding::trimmed_length;
 ghost use mathlib.Core.Path.{_≡_};

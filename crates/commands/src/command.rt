@@ -1,5 +1,5 @@
 // What the first word of the command line asks for.
-use lens::texts::same_text;
+use texts::same_text;
 ghost use mathlib.Core.Path.{_≡_};
 ghost use Rattle.commands.specs.Commands.{commandOf, wordsOf};
 

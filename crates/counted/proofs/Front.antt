@@ -1,12 +1,13 @@
 -- Whatever the buffer holds, some text was written there: what stands in front of a place.
+use mathlib.Core.Bool.{false}
 use mathlib.Core.Path.{_≡_, sym, ap, _∙_}
 use Prim.Native.Nat.{ℕ, _≤_}
 use native.Mathlib.Omega.{arith}
 use lib.ListN.{length, take, take-append-drop}
 use lib.Seq.{length-take-le}
 use Rattle.semantics.specs.Text.{Text}
-use Rattle.lens.specs.declared.Wrote.the-variants.{Count}
-use Rattle.lens.specs.Overlay.{Writes, overlay-fits, wrote-fits}
+use Rattle.texts.specs.declared.Wrote.the-variants.{Count}
+use Rattle.texts.specs.Overlay.{Writes, overlay-fits, wrote-fits}
 
 pub front-written : (n : ℕ) (out : Text) → n ≤ length out → Writes (take n out) out out (Count n)
 front-written n out h =

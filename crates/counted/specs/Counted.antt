@@ -9,9 +9,9 @@ use Rattle.semantics.specs.Lens.{Lens}
 use Rattle.semantics.specs.Table.{trees, treeAt, lens}
 use Rattle.semantics.specs.Tally.{met}
 use Rattle.laws.specs.Bookless.{plain}
-use Rattle.lens.specs.declared.Wrote.{Wrote}
-use Rattle.lens.specs.declared.Wrote.the-variants.{Count}
-use Rattle.lens.specs.Overlay.{Writes}
+use Rattle.texts.specs.declared.Wrote.{Wrote}
+use Rattle.texts.specs.declared.Wrote.the-variants.{Count}
+use Rattle.texts.specs.Overlay.{Writes}
 use Rattle.counted.specs.declared.Plain.{Plain}
 
 -- So many matches are met at a node.

@@ -1,7 +1,7 @@
 // What a node writes behind what was written where none of its matches can find an entry, with no book, and the count of the matches that it meets.
 use bookless::write;
 use books::Old;
-use lens::Wrote;
+use texts::Wrote;
 use std::num::wrapping_add_usize;
 use steps::Spot;
 use steps::behind;

@@ -3,7 +3,7 @@ use mathlib.Core.Path.{_≡_}
 use mathlib.Core.Bool.{Bool, cond}
 use mathlib.Core.List.{List, [], _∷_}
 use Prim.Native.Nat.{ℕ, _+_, _-_, _≤_}
-use Rattle.lens.specs.declared.Wrote.the-variants.{Count}
+use Rattle.texts.specs.declared.Wrote.the-variants.{Count}
 use Rattle.answers.specs.declared.Tally.{Tally}
 use Rattle.counts.specs.declared.Made.{Made}
 

@@ -1,7 +1,7 @@
 // What is counted of a put: the matches that it met, and the old entries that are left.
 use answers::Tally;
 use answers::results::no_tally;
-use lens::Wrote;
+use texts::Wrote;
 ghost use mathlib.Core.Path.{_≡_};
 ghost use mathlib.Core.Bool.{cond};
 ghost use Prim.Native.Nat.{_≤_};

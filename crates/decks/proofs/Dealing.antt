@@ -24,12 +24,12 @@ use Rattle.automaton.specs.declared.Side.the-variants.{Sheet}
 use Rattle.automaton.specs.Rows.{sideOf, automatonAt}
 use Rattle.automaton.specs.Built.{Built, treeLanguage}
 use Rattle.lens.specs.declared.Mode.the-variants.{Get, Key, SourceKey}
-use Rattle.lens.specs.declared.Wrote.{Wrote}
-use Rattle.lens.specs.declared.Wrote.the-variants.{Count, Full}
-use Rattle.lens.specs.Overlay.{Writes, overlay-length, overlay-fits, count-fits, full-over, writes-within, front-set}
+use Rattle.texts.specs.declared.Wrote.{Wrote}
+use Rattle.texts.specs.declared.Wrote.the-variants.{Count, Full}
+use Rattle.texts.specs.Overlay.{Writes, overlay-length, overlay-fits, count-fits, full-over, writes-within, front-set}
 use Rattle.lens.specs.Reading.{reading}
 use Rattle.lens.specs.SourceKeys.{hasUnion, source-key}
-use Rattle.lens.specs.Cutting.{part-length}
+use Rattle.texts.specs.Cutting.{part-length}
 use Rattle.lens.specs.Emitting.{LensNode, Fits, Emits}
 use Rattle.lens.specs.Nodes.{same-lens}
 use Rattle.lens.specs.Parsed.{Parsed}

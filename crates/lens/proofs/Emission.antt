@@ -19,9 +19,9 @@ use Rattle.table.specs.Rules.{NodeRead}
 use Rattle.automaton.specs.declared.Automaton.{Automaton}
 use Rattle.automaton.specs.Rows.{automatonAt, Describes}
 use Rattle.lens.specs.declared.Mode.{Mode}
-use Rattle.lens.specs.declared.Wrote.{Wrote}
-use Rattle.lens.specs.declared.Wrote.the-variants.{Count, Full}
-use Rattle.lens.specs.Overlay.{Lays, overlay-length, writes-full, writes-lent, writes-within}
+use Rattle.texts.specs.declared.Wrote.{Wrote}
+use Rattle.texts.specs.declared.Wrote.the-variants.{Count, Full}
+use Rattle.texts.specs.Overlay.{Lays, overlay-length, writes-full, writes-lent, writes-within}
 use Rattle.lens.specs.Reading.{
   reading,
   modeSide,
@@ -36,7 +36,7 @@ use Rattle.lens.specs.Reading.{
   reading-right,
   reading-match,
 }
-use Rattle.lens.specs.Cutting.{rest-lent}
+use Rattle.texts.specs.Cutting.{rest-lent}
 use Rattle.lens.specs.Emitting.{sideFor, WordIs, LensNode, Emits, EmitsJoin, ReadBy}
 use Rattle.lens.specs.Parsed.{
   Parsed,

@@ -1,6 +1,4 @@
 -- What the loops of this crate know at each turn.
-mod Copying
-mod Comparing
 mod Emission
 mod Finding
 mod Repeats

@@ -15,11 +15,11 @@ use Rattle.table.specs.Prepared.{OneLens}
 use Rattle.automaton.specs.declared.Automaton.{Automaton}
 use Rattle.automaton.specs.Rows.{automatonAt, Describes}
 use Rattle.lens.specs.declared.Mode.{Mode}
-use Rattle.lens.specs.declared.Wrote.{Wrote}
-use Rattle.lens.specs.declared.Wrote.the-variants.{Count, Full}
-use Rattle.lens.specs.Overlay.{Lays, overlay-length, writes-full, writes-nothing, writes-within}
+use Rattle.texts.specs.declared.Wrote.{Wrote}
+use Rattle.texts.specs.declared.Wrote.the-variants.{Count, Full}
+use Rattle.texts.specs.Overlay.{Lays, overlay-length, writes-full, writes-nothing, writes-within}
 use Rattle.lens.specs.Reading.{reading, modeSide, keyed, reading-repeat, firstPart, parts-none, parts-next}
-use Rattle.lens.specs.Cutting.{rest-lent}
+use Rattle.texts.specs.Cutting.{rest-lent}
 use Rattle.lens.specs.Emitting.{sideFor, LensNode, Emits}
 use Rattle.lens.specs.Parsed.{
   Parsed,

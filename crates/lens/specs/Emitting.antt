@@ -18,8 +18,8 @@ use Rattle.automaton.specs.Rows.{automatonAt, Room}
 use Rattle.automaton.specs.Built.{Built}
 use Rattle.lens.specs.declared.Mode.{Mode}
 use Rattle.lens.specs.declared.Mode.the-variants.{Get, Key, Create, SourceKey}
-use Rattle.lens.specs.declared.Wrote.{Wrote}
-use Rattle.lens.specs.Overlay.{Lays}
+use Rattle.texts.specs.declared.Wrote.{Wrote}
+use Rattle.texts.specs.Overlay.{Lays}
 use Rattle.lens.specs.Reading.{reading, keyed}
 
 -- the side of the text that is read, as the automata have it

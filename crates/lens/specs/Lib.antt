@@ -1,7 +1,5 @@
 -- What the functions of this crate answer, in terms of the definitions.
-pub mod Overlay
 pub mod Reading
-pub mod Cutting
 pub mod Emitting
 pub mod Parsed
 pub mod Nodes

@@ -42,7 +42,7 @@ use Rattle.automaton.specs.declared.Automaton.{Automaton}
 use Rattle.automaton.specs.Rows.{automatonAt, Describes}
 use Rattle.lens.specs.declared.Mode.{Mode}
 use Rattle.lens.specs.Reading.{modeSide, firstPart, first-part-within, parts-next}
-use Rattle.lens.specs.Cutting.{rest-lent}
+use Rattle.texts.specs.Cutting.{rest-lent}
 use Rattle.lens.specs.Emitting.{sideFor, LensNode, Fits}
 use Rattle.lens.specs.Nodes.{same-lens, node-prepared, describes-lens}
 

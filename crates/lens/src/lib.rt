@@ -1,12 +1,5 @@
 // What a lens reads off a text: get, keys, and create where no old entry answers.
 pub mod read;
-pub mod texts;
-
-// What a writer did: it set that many bytes, which are the text, or a key but for trailing spaces; or the text did not fit, and every byte of the buffer is set.
-pub enum Wrote {
-    Count(usize),
-    Full,
-}
 
 // What is read off a text: the sheet of a source; the key of a sheet; the source that create makes of a sheet where no old entry answers; or the key of a source, by the
 // source's own cuts.

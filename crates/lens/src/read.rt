@@ -1,8 +1,8 @@
 // What is read off a text at a node: a sheet, a key or a source.
 use crate::Mode;
-use crate::Wrote;
-use crate::texts::write_key;
-use crate::texts::write_text;
+use texts::Wrote;
+use texts::write_key;
+use texts::write_text;
 use automaton::Automaton;
 use automaton::Side;
 use automaton::automaton_of;
@@ -21,7 +21,7 @@ ghost use Rattle.semantics.specs.Lens.{repeat};
 ghost use Rattle.table.specs.Prepared.{OneLens};
 ghost use Rattle.automaton.specs.Rows.{automatonAt};
 ghost use Rattle.paths.specs.Finding.{MarksRoom};
-ghost use Rattle.lens.specs.Overlay.{Lays};
+ghost use Rattle.texts.specs.Overlay.{Lays};
 ghost use Rattle.lens.specs.Reading.{modeSide, keyed, copied, givenWord};
 ghost use Rattle.lens.specs.Emitting.{sideFor, Prepared, WordNode, WordIs, LensNode, Fits, Emits, EmitsJoin, ReadBy};
 ghost use Rattle.lens.specs.Parsed.{Parsed, ParsedJoin};

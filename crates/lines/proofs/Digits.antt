@@ -13,8 +13,8 @@ use Rattle.semantics.specs.Text.{Text}
 use Rattle.semantics.specs.Calls.{digits, decimal}
 use Rattle.io.specs.Digits.{Fewest}
 use Rattle.io.specs.Digits.{digits as shownDigits}
-use Rattle.lens.specs.declared.Wrote.{Wrote}
-use Rattle.lens.specs.Overlay.{Writes, overlay, overlay-fits}
+use Rattle.texts.specs.declared.Wrote.{Wrote}
+use Rattle.texts.specs.Overlay.{Writes, overlay, overlay-fits}
 use Rattle.lines.specs.Line.{Puts}
 
 -- A text that fits is written into the buffer from a place on, which is lent and given back as the prover says it.

@@ -1,5 +1,5 @@
 // The lines that `lenscheck` and `sheet` print of a program and `tally` of a put, put into a buffer part by part. Each function answers the place behind what it put.
-use lens::texts::write_text;
+use texts::write_text;
 ghost use mathlib.Core.Path.{_≡_};
 ghost use Prim.Native.Nat.{_+_, _≤_};
 ghost use lib.ListN.{length};

@@ -18,7 +18,7 @@ use Rattle.automaton.specs.declared.Automaton.{Automaton}
 use Rattle.automaton.specs.declared.Side.the-variants.{Source}
 use Rattle.automaton.specs.Rows.{automatonAt, Describes}
 use Rattle.automaton.specs.Built.{Built}
-use Rattle.lens.specs.Cutting.{rest-lent}
+use Rattle.texts.specs.Cutting.{rest-lent}
 use Rattle.lens.specs.Nodes.{same-lens}
 use Rattle.lens.specs.Parsed.{
   Parsed,

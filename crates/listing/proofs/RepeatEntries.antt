@@ -20,7 +20,7 @@ use Rattle.automaton.specs.declared.Side.the-variants.{Source}
 use Rattle.automaton.specs.Rows.{automatonAt}
 use Rattle.automaton.specs.Built.{treeLanguage}
 use Rattle.lens.specs.Reading.{firstPart, parts-none, parts-next}
-use Rattle.lens.specs.Cutting.{rest-lent}
+use Rattle.texts.specs.Cutting.{rest-lent}
 use Rattle.lens.specs.Parsed.{
   Parsed,
   ParsedFrom,

@@ -12,9 +12,9 @@ use Rattle.semantics.specs.Lens.{Lens, Written, andThen, write}
 use Rattle.semantics.specs.Lens.{Book as Entries}
 use Rattle.semantics.specs.Table.{trees, treeAt, lens}
 use Rattle.semantics.specs.Tally.{met}
-use Rattle.lens.specs.declared.Wrote.{Wrote}
-use Rattle.lens.specs.declared.Wrote.the-variants.{Count, Full}
-use Rattle.lens.specs.Overlay.{Writes, overlay-over, wrote-over, writes-within, writes-full}
+use Rattle.texts.specs.declared.Wrote.{Wrote}
+use Rattle.texts.specs.declared.Wrote.the-variants.{Count, Full}
+use Rattle.texts.specs.Overlay.{Writes, overlay-over, wrote-over, writes-within, writes-full}
 use Rattle.lens.specs.Nodes.{same-lens}
 use Rattle.books.specs.declared.Book.{Book}
 use Rattle.books.specs.declared.Old.{Old}

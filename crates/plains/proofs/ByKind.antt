@@ -12,8 +12,8 @@ use Rattle.semantics.specs.Table.{trees, treeAt, lens}
 use Rattle.semantics.specs.Tally.{met}
 use Rattle.laws.specs.Bookless.{plain, Unasked, unasked-writes}
 use Rattle.table.specs.Prepared.{TwoLenses}
-use Rattle.lens.specs.declared.Wrote.{Wrote}
-use Rattle.lens.specs.Cutting.{rest-lent}
+use Rattle.texts.specs.declared.Wrote.{Wrote}
+use Rattle.texts.specs.Cutting.{rest-lent}
 use Rattle.books.specs.Listed.{unused}
 use Rattle.books.specs.Looking.{BookOver, same-all}
 use Rattle.steps.specs.declared.Spot.{Spot}

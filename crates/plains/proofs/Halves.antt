@@ -10,7 +10,7 @@ use Rattle.semantics.specs.Text.{Text, orElse, apply}
 use Rattle.semantics.specs.Lens.{join, source, sheet, language, cutAt}
 use Rattle.semantics.specs.Table.{trees, treeAt, lens}
 use Rattle.table.specs.Prepared.{TwoLenses}
-use Rattle.lens.specs.Cutting.{rest-lent, part-length}
+use Rattle.texts.specs.Cutting.{rest-lent, part-length}
 use Rattle.lens.specs.Emitting.{LensNode}
 use Rattle.lens.specs.Nodes.{same-lens, left-below, right-below}
 use Rattle.lens.specs.Parsed.{ParsedJoin, parsed-join}

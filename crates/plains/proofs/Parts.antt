@@ -19,7 +19,7 @@ use Rattle.table.specs.Prepared.{OneLens}
 use Rattle.automaton.specs.declared.Side.the-variants.{Sheet}
 use Rattle.cuts.specs.declared.Ends.{Ends}
 use Rattle.lens.specs.Reading.{firstPart, parts-none, parts-next}
-use Rattle.lens.specs.Cutting.{rest-lent, part-length}
+use Rattle.texts.specs.Cutting.{rest-lent, part-length}
 use Rattle.lens.specs.Emitting.{LensNode}
 use Rattle.lens.specs.Nodes.{same-lens, child-below}
 use Rattle.lens.specs.Parsed.{Parsed, ParsedFrom, Ends as EndsOf, parsed-length, parsed-begin, loop-inside-from, loop-moves-from, loop-part-from, loop-rest-from, loop-is-part-from}

@@ -11,8 +11,8 @@ use Rattle.semantics.specs.Table.{trees, treeAt, lens, holdsMatch}
 use Rattle.semantics.specs.Tally.{met}
 use Rattle.positions.specs.Positions.{Shared}
 use Rattle.automaton.specs.Rows.{setAt}
-use Rattle.lens.specs.declared.Wrote.the-variants.{Full}
-use Rattle.lens.specs.Overlay.{Writes}
+use Rattle.texts.specs.declared.Wrote.the-variants.{Full}
+use Rattle.texts.specs.Overlay.{Writes}
 use Rattle.lens.specs.Emitting.{LensNode}
 use Rattle.books.specs.declared.Book.{Book}
 use Rattle.books.specs.Listed.{unused}

@@ -1,6 +1,6 @@
 // Put and create where a node asks for no entry: what they write without the book, and how many matches they meet.
 use books::Book;
-use lens::Wrote;
+use texts::Wrote;
 
 pub mod plain;
 

@@ -5,7 +5,7 @@ use Prim.Native.Nat.{ℕ, _-_}
 use Rattle.semantics.specs.Text.{Text}
 use Rattle.semantics.specs.Table.{nodeCount}
 use Rattle.lens.specs.declared.Mode.{Mode}
-use Rattle.lens.specs.declared.Wrote.{Wrote}
+use Rattle.texts.specs.declared.Wrote.{Wrote}
 use Rattle.lens.specs.Reading.{reading}
 use Rattle.lens.specs.Emitting.{Emits}
 use Rattle.answers.specs.Answers.{Ready}

@@ -16,8 +16,8 @@ use Rattle.semantics.specs.Tally.{met, tallied, tally}
 use Rattle.laws.specs.Met.{writes-left, dropped-left}
 use Rattle.laws.specs.Accepted.{accepted}
 use Rattle.laws.specs.Tally.{met-few}
-use Rattle.lens.specs.declared.Wrote.the-variants.{Count}
-use Rattle.lens.specs.Overlay.{writes-nothing}
+use Rattle.texts.specs.declared.Wrote.the-variants.{Count}
+use Rattle.texts.specs.Overlay.{writes-nothing}
 use Rattle.lens.specs.Parsed.{parsed-length}
 use Rattle.books.specs.declared.Book.{Book}
 use Rattle.books.specs.Listed.{entryAt, unusedFrom, unused}
@@ -29,7 +29,7 @@ use Rattle.bookless.specs.Bookless.{Given}
 use Rattle.plains.specs.declared.Done.{Done as Did}
 use Rattle.counted.specs.Counted.{Fitted}
 use Rattle.plains.specs.Writing.{WritesBehind, wrapped, Progress}
-use Rattle.writer.specs.WithBook.{Ready as ToWrite}
+use Rattle.matches.specs.WithBook.{Ready as ToWrite}
 use Rattle.answers.specs.Answers.{Ready}
 use Rattle.answers.specs.Results.{TextReady}
 use Rattle.answers.proofs.Giving.{root-at, root-node}

@@ -7,7 +7,7 @@ use Rattle.semantics.specs.Text.{Text}
 use Rattle.semantics.specs.Lens.{Lens, put}
 use Rattle.semantics.specs.Calls.{gives, program}
 use Rattle.semantics.specs.Tally.{met, tally}
-use Rattle.lens.specs.declared.Wrote.the-variants.{Full}
+use Rattle.texts.specs.declared.Wrote.the-variants.{Full}
 use Rattle.answers.specs.Results.{Makes}
 use Rattle.books.specs.declared.Book.{Book}
 use Rattle.books.specs.declared.Place.{Place}

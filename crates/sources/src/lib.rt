@@ -12,7 +12,7 @@ use dealing::no_card;
 use decks::deck::Dealing;
 use decks::deck::begin_deck;
 use decks::deck::move_deck;
-use lens::Wrote;
+use texts::Wrote;
 use plains::Done;
 use steps::Spot;
 use table::Table;

@@ -19,10 +19,10 @@ use Rattle.positions.specs.Positions.{holds}
 use Rattle.automaton.specs.declared.Side.the-variants.{Source, Sheet}
 use Rattle.automaton.specs.Rows.{automatonAt}
 use Rattle.cuts.specs.declared.Ends.{Ends}
-use Rattle.lens.specs.declared.Wrote.{Wrote}
-use Rattle.lens.specs.declared.Wrote.the-variants.{Count, Full}
+use Rattle.texts.specs.declared.Wrote.{Wrote}
+use Rattle.texts.specs.declared.Wrote.the-variants.{Count, Full}
 use Rattle.lens.specs.declared.Mode.the-variants.{Get, Key}
-use Rattle.lens.specs.Overlay.{Writes, count-fits, writes-lent}
+use Rattle.texts.specs.Overlay.{Writes, count-fits, writes-lent}
 use Rattle.lens.specs.Reading.{modeSide, parts-none, parts-next}
 use Rattle.lens.specs.Emitting.{sideFor, LensNode}
 use Rattle.lens.specs.Nodes.{describes-lens}

@@ -20,8 +20,8 @@ use Rattle.automaton.specs.declared.Side.{Side}
 use Rattle.automaton.specs.declared.Side.the-variants.{Source, Sheet}
 use Rattle.automaton.specs.Rows.{automatonAt, Describes}
 use Rattle.cuts.specs.declared.Ends.{Ends}
-use Rattle.lens.specs.declared.Wrote.{Wrote}
-use Rattle.lens.specs.declared.Wrote.the-variants.{Count, Full}
+use Rattle.texts.specs.declared.Wrote.{Wrote}
+use Rattle.texts.specs.declared.Wrote.the-variants.{Count, Full}
 use Rattle.lens.specs.Emitting.{LensNode}
 use Rattle.lens.specs.Parsed.{Parsed}
 use Rattle.books.specs.declared.Place.{Place}

@@ -10,7 +10,7 @@ use cuts::border;
 use cuts::first_loop;
 use cuts::goes_left;
 use language::belongs;
-use lens::Wrote;
+use texts::Wrote;
 use paths::find_path;
 ghost use mathlib.Core.Path.{_≡_};
 ghost use Prim.Native.Nat.{_+_, _*_, _≤_};

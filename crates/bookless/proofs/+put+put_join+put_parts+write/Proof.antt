@@ -10,7 +10,7 @@ use lib.ListN.{length}
 use mathlib.Core.Path.{refl, sym, _∙_}
 use Rattle.automaton.specs.declared.Side.the-variants.{Source, Sheet}
 use Rattle.lens.specs.Reading.{modeSide}
-use Rattle.lens.specs.Cutting.{part-length}
+use Rattle.texts.specs.Cutting.{part-length}
 use Rattle.lens.specs.Nodes.{
   lens-read,
   shown-join,
@@ -77,7 +77,7 @@ use Rattle.bookless.proofs.write.Reads as write
 use Rattle.bookless.proofs.write.Kinds as write-kinds
 use Rattle.bookless.proofs.+put+put_join+put_parts+write.Lts-write as write-lts
 use Rattle.lens.proofs.read.emit.Reads as emit-reads
-use Rattle.lens.proofs.texts.write_text.Reads as write-text-reads
+use Rattle.texts.proofs.write_text.Reads as write-text-reads
 use Rattle.cuts.proofs.first_loop.Reads as first-loop-reads
 use Rattle.steps.proofs.behind.Reads as behind-reads
 use Rattle.steps.proofs.choose.Reads as choose-reads

@@ -1,6 +1,6 @@
 use Rattle.counted.proofs.Front.{front-written}
 use Rattle.steps.specs.Stepping.{writes-behind, behind-fits}
-use Rattle.lens.specs.Overlay.{writes-full}
+use Rattle.texts.specs.Overlay.{writes-full}
 use Rattle.laws.specs.Bookless.{plain}
 use native.Mathlib.Omega.{arith}
 use borrow.Author.Needs.{needs}

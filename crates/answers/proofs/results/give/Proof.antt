@@ -9,7 +9,7 @@ use Rattle.answers.proofs.results.give.Reads as reads
 use Rattle.answers.proofs.results.give.Lts as lts
 use Rattle.answers.proofs.results.refuse.Reads as refuse-reads
 use Rattle.answers.proofs.results.room_in.Reads as room-in-reads
-use Rattle.lens.proofs.texts.write_text.Reads as write-text-reads
+use Rattle.texts.proofs.write_text.Reads as write-text-reads
 
 -- src/results.rt:83:8
 room-in-requires : tie.Need-room-in-requires

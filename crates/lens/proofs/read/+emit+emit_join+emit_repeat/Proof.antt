@@ -7,7 +7,7 @@ use native.Mathlib.Omega.{arith}
 use borrow.Author.Needs.{needs}
 use lib.ListN.{length}
 use mathlib.Core.Path.{refl}
-use Rattle.lens.specs.declared.Wrote.the-variants.{Count, Full}
+use Rattle.texts.specs.declared.Wrote.the-variants.{Count, Full}
 use Rattle.lens.specs.Nodes.{
   lens-read,
   shown-const,

@@ -1,5 +1,5 @@
 -- `lens::read::emit_copy` meets its contract. Assumes nothing.
-use Rattle.lens.specs.Overlay.{writes-nothing}
+use Rattle.texts.specs.Overlay.{writes-nothing}
 use Rattle.lens.specs.Reading.{copied}
 use borrow.Author.Needs.{needs}
 use Rattle.lens.proofs.read.emit_copy.Statement.{statement}

@@ -5,7 +5,7 @@ use mathlib.Core.Path.{_≡_, refl, _∙_}
 use Prim.Native.Nat.{ℕ, _-_, _≤_}
 use native.Mathlib.Nat.{le-refl}
 use lib.ListN.{length, length-take, length-drop}
-use Rattle.lens.specs.Cutting.{part-length}
+use Rattle.texts.specs.Cutting.{part-length}
 use Rattle.tally.proofs.files.fill.Statement.{statement}
 use Rattle.tally.proofs.files.fill.Tie as tie
 

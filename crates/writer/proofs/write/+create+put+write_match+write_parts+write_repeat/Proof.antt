@@ -1,8 +1,8 @@
-use Rattle.writer.proofs.Ready.{found-ready, found-given, ready-below, ready-left, below-room, arm-ready}
+use Rattle.matches.proofs.Ready.{found-ready, found-given, ready-below, ready-left, below-room, arm-ready}
 use Rattle.plains.proofs.Given.{given-none, given-onto, given-at, arm-given, new-arm, choice-arm, choice-given, given-match}
 use Rattle.plains.proofs.Parts.{Parting, parting-begins, more-path, more-lent, part-inside, part-given, part-old, part-back, parting-next, parting-ends}
 use Rattle.plains.proofs.Halves.{halves-lower, near-known, far-known, at-inside, near-given, left-back, right-back, far-given, near-old, far-old, join-created, join-put}
-use Rattle.writer.proofs.Matching.{match-writes}
+use Rattle.matches.proofs.Matching.{match-writes}
 use Rattle.plains.proofs.ByKind.{union-writes}
 use Rattle.plains.proofs.Unasked.{leaf-asks-none, inner-flat, inner-met}
 use Rattle.plains.proofs.Behind.{behind-left, at-node, old-put, old-created}
@@ -46,9 +46,9 @@ use Rattle.steps.proofs.halves_of.Reads as halves-of-reads
 use Rattle.steps.proofs.next_old.Reads as next-old-reads
 use Rattle.steps.proofs.old_base.Reads as old-base-reads
 use Rattle.table.proofs.Table.node.Reads as node-reads
-use Rattle.writer.proofs.write.find_entry.Reads as find-entry-reads
-use Rattle.writer.proofs.write.plain_behind.Reads as plain-behind-reads
-use Rattle.writer.proofs.write.write_matches.Reads as write-matches-reads
+use Rattle.matches.proofs.find_entry.Reads as find-entry-reads
+use Rattle.matches.proofs.plain_behind.Reads as plain-behind-reads
+use Rattle.matches.proofs.write_matches.Reads as write-matches-reads
 use Rattle.writer.proofs.write.+create+put+write_match+write_parts+write_repeat.{statement}
 use Rattle.writer.proofs.write.+create+put+write_match+write_parts+write_repeat.Tie.{close}
 

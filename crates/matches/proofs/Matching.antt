@@ -14,7 +14,7 @@ use Rattle.semantics.specs.Tally.{Meeting, meetParts, met}
 use Rattle.laws.specs.Bookless.{plain, Unasked, unasked-writes}
 use Rattle.table.specs.Prepared.{OneLens}
 use Rattle.cuts.specs.declared.Ends.{Ends}
-use Rattle.lens.specs.declared.Wrote.{Wrote}
+use Rattle.texts.specs.declared.Wrote.{Wrote}
 use Rattle.lens.specs.Nodes.{same-lens}
 use Rattle.books.specs.declared.Book.{Book}
 use Rattle.books.specs.declared.Lookup.{Lookup}
@@ -27,7 +27,7 @@ use Rattle.counted.specs.Counted.{MeetsThere, WritesNext}
 use Rattle.plains.specs.Writing.{Progress, LensBehind, WritesBehind}
 use Rattle.plains.proofs.Behind.{then-same, counted-more, progress-is, at-node, behind-same, progress-swap, text-behind}
 use Rattle.plains.proofs.ByKind.{one-met}
-use Rattle.writer.specs.WithBook.{EntryFound, WritesMatch, WritesMatches}
+use Rattle.matches.specs.WithBook.{EntryFound, WritesMatch, WritesMatches}
 
 module _ {bytes deck : Text} where
   -- it writes what its child writes onto the entry that was found

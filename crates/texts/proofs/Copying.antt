@@ -8,10 +8,10 @@ use native.Mathlib.Omega.{arith}
 use lib.ListN.{length, take, drop, getD, set, length-append, length-take, length-drop}
 use lib.Seq.{take-suc, drop-cons, set-at, length-take-le, take-length, drop-length}
 use Rattle.semantics.specs.Text.{Text, allSpaces}
-use Rattle.lens.specs.declared.Wrote.{Wrote}
-use Rattle.lens.specs.declared.Wrote.the-variants.{Count, Full}
-use Rattle.lens.specs.Overlay.{Lays, Writes, hasRoom, overlay-length, overlay-fits, overlay-over, wrote-room, wrote-none, wrote-fits, wrote-over, count-fits, full-over}
-use Rattle.lens.specs.Cutting.{rest-lent}
+use Rattle.texts.specs.declared.Wrote.{Wrote}
+use Rattle.texts.specs.declared.Wrote.the-variants.{Count, Full}
+use Rattle.texts.specs.Overlay.{Lays, Writes, hasRoom, overlay-length, overlay-fits, overlay-over, wrote-room, wrote-none, wrote-fits, wrote-over, count-fits, full-over}
+use Rattle.texts.specs.Cutting.{rest-lent}
 
 -- The first i bytes of the text stand in front, and behind them the buffer is as it was.
 pub record Copied (text before after : Text) (i : ℕ) : Type 0 where

@@ -1,10 +1,10 @@
 use borrow.Author.Needs.{needs}
--- `lens::texts::same_text` meets its contract. The loop's invariant: the texts are the same if they are from byte i on. Assumes nothing.
+-- `texts::same_text` meets its contract. The loop's invariant: the texts are the same if they are from byte i on. Assumes nothing.
 use Prim.Native.Nat.{_-_}
 use lib.ListN.{length}
-use Rattle.lens.proofs.Comparing.{lengths-differ, Compared, compared-more, compared-other, compared-all}
-use Rattle.lens.proofs.texts.same_text.Statement.{statement}
-use Rattle.lens.proofs.texts.same_text.Tie as tie
+use Rattle.texts.proofs.Comparing.{lengths-differ, Compared, compared-more, compared-other, compared-all}
+use Rattle.texts.proofs.same_text.Statement.{statement}
+use Rattle.texts.proofs.same_text.Tie as tie
 
 abbrev Inv-loop : tie.InvT-loop
 Inv-loop a b i₀ i = Compared a b i

@@ -1,6 +1,6 @@
-use Rattle.writer.proofs.Ready.{looks-left, found-fits, may-take, entry-found}
+use Rattle.matches.proofs.Ready.{looks-left, found-fits, may-take, entry-found}
 use Rattle.plains.proofs.Given.{given-match}
-use Rattle.writer.proofs.Matching.{match-plain, none-ends, matches-written}
+use Rattle.matches.proofs.Matching.{match-plain, none-ends, matches-written}
 use Rattle.plains.proofs.Parts.{Parting, parting-begins, more-path, more-lent, part-inside, part-given, part-back, parting-next, parting-ends}
 use Rattle.plains.proofs.Unasked.{inner-flat, inner-unasked}
 use Rattle.plains.proofs.Behind.{at-node}
@@ -13,10 +13,10 @@ use borrow.Author.Needs.{needs}
 use native.Mathlib.Omega.{arith}
 use Prim.Native.Nat.{_-_}
 use mathlib.Core.Path.{_≡_, refl, _∙_}
-use Rattle.writer.proofs.write.write_matches.Statement.{statement}
-use Rattle.writer.proofs.write.write_matches.Tie as tie
-use Rattle.writer.proofs.write.write_matches.Reads as reads
-use Rattle.writer.proofs.write.write_matches.Lts as lts
+use Rattle.matches.proofs.write_matches.Statement.{statement}
+use Rattle.matches.proofs.write_matches.Tie as tie
+use Rattle.matches.proofs.write_matches.Reads as reads
+use Rattle.matches.proofs.write_matches.Lts as lts
 use Rattle.books.proofs.Book.take.Reads as take-reads
 use Rattle.cards.proofs.card_of.Reads as card-of-reads
 use Rattle.cuts.proofs.first_loop.Reads as first-loop-reads

@@ -1,10 +1,15 @@
 // Texts: written into a buffer, and compared.
-use crate::Wrote;
 use padding::all_spaces;
 ghost use mathlib.Core.Path.{_≡_};
 ghost use mathlib.Core.Bool.{true};
 ghost use Rattle.semantics.specs.Text.{sameText};
-ghost use Rattle.lens.specs.Overlay.{Lays, Writes};
+ghost use Rattle.texts.specs.Overlay.{Lays, Writes};
+
+// What a writer did: it set that many bytes, which are the text, or a key but for trailing spaces; or the text did not fit, and every byte of the buffer is set.
+pub enum Wrote {
+    Count(usize),
+    Full,
+}
 
 // The text is written from the buffer's first byte on, as much of it as fits.
 pub fn write_text(text: &[u8], out: &mut [u8]) -> Wrote

@@ -1,9 +1,9 @@
-use Rattle.writer.proofs.Ready.{may-take, entry-found}
+use Rattle.matches.proofs.Ready.{may-take, entry-found}
 use borrow.Author.Needs.{needs}
-use Rattle.writer.proofs.write.find_entry.Statement.{statement}
-use Rattle.writer.proofs.write.find_entry.Tie as tie
-use Rattle.writer.proofs.write.find_entry.Reads as reads
-use Rattle.writer.proofs.write.find_entry.Lts as lts
+use Rattle.matches.proofs.find_entry.Statement.{statement}
+use Rattle.matches.proofs.find_entry.Tie as tie
+use Rattle.matches.proofs.find_entry.Reads as reads
+use Rattle.matches.proofs.find_entry.Lts as lts
 use Rattle.books.proofs.Book.take.Reads as take-reads
 use Rattle.cards.proofs.card_of.Reads as card-of-reads
 

@@ -13,8 +13,8 @@ use borrow.Author.Tests.{leb-true, leb-false, le-leb, lt-leb}
 use Rattle.semantics.specs.Text.{Text, allSpaces}
 use Rattle.laws.specs.Basics.{cond-true, cond-false}
 use Rattle.laws.specs.Keys.{spaces-append}
-use Rattle.lens.specs.declared.Wrote.{Wrote}
-use Rattle.lens.specs.declared.Wrote.the-variants.{Count, Full}
+use Rattle.texts.specs.declared.Wrote.{Wrote}
+use Rattle.texts.specs.declared.Wrote.the-variants.{Count, Full}
 
 unfoldable pub overlay : Text → Text → Text
 overlay text buffer = take (length buffer) text ++ drop (length text) buffer

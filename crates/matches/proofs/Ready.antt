@@ -19,7 +19,7 @@ use Rattle.cards.specs.Sealed.{KeyCard}
 use Rattle.steps.specs.declared.Spot.{Spot}
 use Rattle.steps.specs.Steps.{ArmIs}
 use Rattle.bookless.specs.Bookless.{NewGiven, GivenOld}
-use Rattle.writer.specs.WithBook.{LooksIn, Ready, EntryFound}
+use Rattle.matches.specs.WithBook.{LooksIn, Ready, EntryFound}
 
 -- the same deck, and the book that is left
 pub looks-left : {bytes deck : Text} {b b′ : Book} → LooksIn bytes deck b → BookOver 4096 b′ → SameEntries b b′ → LooksIn bytes deck b′

@@ -1,10 +1,10 @@
 use borrow.Author.Needs.{needs}
--- `lens::texts::write_text` meets its contract. The loop's invariant: the first i bytes are copied. Assumes nothing.
+-- `texts::write_text` meets its contract. The loop's invariant: the first i bytes are copied. Assumes nothing.
 use Prim.Native.Nat.{_-_}
 use lib.ListN.{length}
-use Rattle.lens.proofs.Copying.{Copied, copied-length, copied-more, copied-all, copied-full}
-use Rattle.lens.proofs.texts.write_text.Statement.{statement}
-use Rattle.lens.proofs.texts.write_text.Tie as tie
+use Rattle.texts.proofs.Copying.{Copied, copied-length, copied-more, copied-all, copied-full}
+use Rattle.texts.proofs.write_text.Statement.{statement}
+use Rattle.texts.proofs.write_text.Tie as tie
 
 abbrev Inv-loop : tie.InvT-loop
 Inv-loop text out₀ i₀ out i = Copied text out₀ out i

@@ -1,8 +1,8 @@
 use borrow.Author.Needs.{needs}
--- `lens::texts::write_key` meets its contract. Assumes nothing.
-use Rattle.lens.proofs.Copying.{key-fits, key-longer, key-spaces, key-full}
-use Rattle.lens.proofs.texts.write_key.Statement.{statement}
-use Rattle.lens.proofs.texts.write_key.Tie as tie
+-- `texts::write_key` meets its contract. Assumes nothing.
+use Rattle.texts.proofs.Copying.{key-fits, key-longer, key-spaces, key-full}
+use Rattle.texts.proofs.write_key.Statement.{statement}
+use Rattle.texts.proofs.write_key.Tie as tie
 
 write-text-requires : tie.Need-write-text-requires
 write-text-requires c κs = search needs

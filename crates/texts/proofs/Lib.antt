@@ -1,0 +1,3 @@
+-- What the loops of this crate know at each turn.
+mod Copying
+mod Comparing

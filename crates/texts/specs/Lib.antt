@@ -1,0 +1,3 @@
+-- What the functions of this crate answer, and slices of which a part is lent.
+pub mod Overlay
+pub mod Cutting

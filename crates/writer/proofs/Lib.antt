@@ -1,3 +1,0 @@
--- What the proofs of this crate share.
-mod Matching
-mod Ready
