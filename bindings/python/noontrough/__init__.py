@@ -170,7 +170,8 @@ def put(table: BytesLike, sheet: BytesLike, source: BytesLike) -> NewSource:
     """Gives the new source for an edited sheet and the old source, with a tally of the entries.
 
     Entries are found by their keys, and what the sheet does not show comes from
-    the old source.
+    the old source. Spaces at the end of a key do not count there, so a name may be
+    padded; they are written as the sheet has them.
     """
     slices = _copied("table", table), _copied("sheet", sheet), _copied("source", source)
     text, answer = _text("noontrough_put", _WRITE_STACK, *slices)

@@ -88,6 +88,19 @@ class Cases(Calls):
             self.assertEqual((answer.number, answer.node, answer.length, out.raw), (number, 0, length, text))
             self.assertEqual((answer.kept, answer.made, answer.dropped), (kept, 0, 0))
 
+    def test_padded_names(self) -> None:
+        """Trailing spaces do not count when an entry is found by its key, and are written as the sheet has them."""
+        draft = Draft()
+        name, digits = draft.repeat(draft.set(b"AZ", b"  ", b"\t\t")), draft.repeat(draft.range(b"0", b"9"))
+        label, nothing, nought = draft.key(name), draft.word(b""), draft.word(b"0")
+        rest = draft.lens_join(draft.const(digits, nothing, nought), draft.copy_word(b";"))
+        draft.lens_repeat(draft.match(draft.lens_join(label, rest)))
+        for sheet, old, result in (
+            (b"AB  ;", b"AB1;", b"AB  1;"), (b"AB;", b"AB  1;", b"AB1;"), (b"  ;", b"7;", b"  7;"),
+            (b" A;", b"A1;", b" A0;"), (b"A\t;", b"A1;", b"A\t0;"), (b"A ;A;", b"A1;A 2;", b"A 1;A2;"),
+        ):
+            self.assertEqual(put(draft.table(), sheet, old), result)
+
     def test_copy_instead_of_key(self) -> None:
         self.assertEqual(put(k(label=16), b"C;AB;", SOURCE), b"C1;AB22;")
 

@@ -160,6 +160,9 @@ pub fn get(table: &[u8], source: &[u8], out: &mut [u8]) -> Answer {
 /// Gives a source from an edited sheet and the old source, and counts the
 /// entries that were kept, made and dropped.
 ///
+/// Entries are found by their keys. Spaces at the end of a key do not count there, so
+/// a name may be padded; they are written as the sheet has them.
+///
 /// ```
 /// use noontrough::{put, PutAnswer, Tally};
 ///

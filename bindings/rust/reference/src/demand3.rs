@@ -11,6 +11,7 @@ use crate::generator::cases::{legal_text, one_repeated_entry, text_at_entry_limi
 use crate::generator::programs::accepted;
 use crate::generator::random::Random;
 use crate::generator::texts::{draw, edit};
+use crate::lens::{has_padded_twins, trimmed};
 use crate::program::Program;
 use crate::table::Side;
 use crate::trial::run;
@@ -43,9 +44,18 @@ impl Whole<'_> {
     }
 }
 
-/// Clause 1: an unedited sheet gives the old source back. Sheets put back.
-pub fn unedited(calls: &dyn Calls, seed: u64, programs: usize) -> usize {
-    let (whole, mut random, mut tried) = (Whole(calls), Random::new(seed), 0);
+/// How often clause 1 was tried.
+#[derive(Clone, Copy, Debug, Default)]
+pub struct Unedited {
+    /// Sheets put back.
+    pub sheets: usize,
+    /// Those with two entries of one child whose keys differ by trailing spaces only.
+    pub padded_apart: usize,
+}
+
+/// Clause 1: an unedited sheet gives the old source back.
+pub fn unedited(calls: &dyn Calls, seed: u64, programs: usize) -> Unedited {
+    let (whole, mut random, mut tried) = (Whole(calls), Random::new(seed), Unedited::default());
     for _ in 0..programs {
         let table = accepted(&mut random).table();
         let program = Program::read(&table).expect("accepted");
@@ -53,8 +63,9 @@ pub fn unedited(calls: &dyn Calls, seed: u64, programs: usize) -> usize {
             let source = some_text(&mut random, &program, Side::Source);
             let Ok(sheet) = whole.get(&table, &source) else { continue };
             if program.count_entries(&source) <= MAX_ENTRIES {
+                tried.sheets += 1;
+                tried.padded_apart += usize::from(has_padded_twins(program.book(&source).entries()));
                 assert_eq!(whole.put(&table, &sheet, &source), Ok(source), "table {table:?}");
-                tried += 1;
             }
         }
     }
@@ -87,11 +98,20 @@ pub fn read_back(calls: &dyn Calls, seed: u64, programs: usize) -> (usize, usize
     (by_put, by_create)
 }
 
-/// Clause 3: entries with different keys are put in any order. Lists of
-/// entries, and how many of them were out of the old order.
-pub fn reordered(calls: &dyn Calls, seed: u64, programs: usize) -> (usize, usize) {
-    let (whole, mut random) = (Whole(calls), Random::new(seed));
-    let (mut lists, mut moved) = (0, 0);
+/// How often clause 3 was tried.
+#[derive(Clone, Copy, Debug, Default)]
+pub struct Reordered {
+    /// Lists of entries.
+    pub lists: usize,
+    /// Those that were out of the old order.
+    pub moved: usize,
+    /// Those out of the old order in which a key ends in spaces.
+    pub padded: usize,
+}
+
+/// Clause 3: entries with different keys are put in any order.
+pub fn reordered(calls: &dyn Calls, seed: u64, programs: usize) -> Reordered {
+    let (whole, mut random, mut tried) = (Whole(calls), Random::new(seed), Reordered::default());
     for _ in 0..programs {
         let (draft, program) = one_repeated_entry(&mut random);
         let table = draft.table();
@@ -100,11 +120,14 @@ pub fn reordered(calls: &dyn Calls, seed: u64, programs: usize) -> (usize, usize
             let source = entries.concat();
             let Some((sheet, expected)) = any_order(&mut random, &program, entries) else { continue };
             assert_eq!(whole.put(&table, &sheet, &source), Ok(expected.clone()), "table {table:?}");
-            lists += 1;
-            moved += usize::from(!source.starts_with(&expected));
+            let is_moved = !source.starts_with(&expected);
+            let is_padded = program.book(&expected).entries().iter().any(|entry| entry.key.ends_with(b" "));
+            tried.lists += 1;
+            tried.moved += usize::from(is_moved);
+            tried.padded += usize::from(is_moved && is_padded);
         }
     }
-    (lists, moved)
+    tried
 }
 
 /// Mostly short texts, some at the limits of length and entries.
@@ -124,7 +147,8 @@ fn sheet_entry(program: &Program, source: &[u8]) -> Vec<u8> {
     sheet
 }
 
-/// Source entries with keys that all differ, sometimes as many as are allowed.
+/// Source entries with keys that all differ once their trailing spaces are cut,
+/// sometimes as many as are allowed.
 fn different_entries(random: &mut Random, program: &Program) -> Vec<Vec<u8>> {
     let entry = program.node(program.root()).children()[0];
     let wanted = if random.once_in(20) { MAX_ENTRIES } else { random.below(12) };
@@ -133,7 +157,7 @@ fn different_entries(random: &mut Random, program: &Program) -> Vec<Vec<u8>> {
         let part = draw(random, program.table(), entry, Side::Source, 2, 24);
         let key = program.key(entry, &sheet_entry(program, &part));
         let fits = entries.len() < wanted && length + part.len() <= MAX_TEXT;
-        if fits && keys.insert(key) {
+        if fits && keys.insert(trimmed(&key).to_vec()) {
             length += part.len();
             entries.push(part);
         }

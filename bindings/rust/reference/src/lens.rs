@@ -7,14 +7,30 @@ use crate::answer::Tally;
 use crate::program::Program;
 use crate::table::{Node, Side};
 
+/// A key as it is compared: without the spaces at its end. Two keys are equal if this
+/// is; the key text that a put writes keeps its spaces.
+pub fn trimmed(key: &[u8]) -> &[u8] {
+    let length = key.iter().rposition(|&byte| byte != b' ').map_or(0, |last| last + 1);
+    &key[..length]
+}
+
 /// An old entry: a text that a match read.
 #[derive(Clone, Debug, PartialEq, Eq)]
 pub struct Entry {
     /// The node number of the match's child.
     pub child: usize,
-    /// The key of the entry's own sheet.
+    /// The key of the entry's own sheet, spaces included.
     pub key: Vec<u8>,
     pub source: Vec<u8>,
+}
+
+/// Whether two entries of one child have keys that differ by trailing spaces only.
+pub fn has_padded_twins(entries: &[Entry]) -> bool {
+    let mut keys: Vec<(usize, &[u8], usize)> =
+        entries.iter().map(|entry| (entry.child, trimmed(&entry.key), entry.key.len())).collect();
+    // Equal keys stand side by side, and their lengths tell how they are padded.
+    keys.sort_unstable();
+    keys.windows(2).any(|two| (two[0].0, two[0].1) == (two[1].0, two[1].1) && two[0].2 != two[1].2)
 }
 
 /// The old entries that no match has taken yet, in the order of the old source,
@@ -32,9 +48,10 @@ impl Book {
         &self.entries
     }
 
-    /// Takes out the first entry with this child and key.
+    /// Takes out the first entry with this child and an equal key.
     pub fn take(&mut self, child: usize, key: &[u8]) -> Option<Entry> {
-        let place = self.entries.iter().position(|entry| entry.child == child && entry.key == key);
+        let answers = |entry: &Entry| entry.child == child && trimmed(&entry.key) == trimmed(key);
+        let place = self.entries.iter().position(answers);
         match place {
             Some(_) => self.found += 1,
             None => self.in_vain += 1,
@@ -96,7 +113,7 @@ impl Program {
         Book { entries, ..Book::default() }
     }
 
-    /// The key of a sheet text of a node: key parts joined in order.
+    /// The key of a sheet text of a node: key parts joined in order, spaces included.
     pub fn key(&self, node: usize, sheet: &[u8]) -> Vec<u8> {
         let mut key = Vec::new();
         self.key_at(node, sheet, &mut key);

@@ -226,6 +226,92 @@ fn long_keys() {
     assert_eq!(met(b"x;", &old(1, 65)), [Kind::LongKey]);
 }
 
+/// K with names of capitals, spaces and tabs, perhaps in two parts.
+fn padded_names(parts: usize) -> Vec<u8> {
+    let mut draft = Draft::new();
+    let (class, digit) = (draft.set(&[(b'A', b'Z'), (b' ', b' '), (b'\t', b'\t')]), draft.range(b'0', b'9'));
+    let name = draft.pattern_repeat(class);
+    let (label, end) = (draft.key(name), draft.copy_word(b";"));
+    let mut row = [label, end].repeat(parts);
+    row.insert(1, draft.delete(digit, b"0"));
+    let line = draft.lens_row(&row);
+    let entry = draft.matched(line);
+    draft.lens_repeat(entry);
+    draft.table()
+}
+
+/// Those of the kinds of one put that tell of spaces and tabs.
+fn padding_kinds(table: &[u8], sheet: &[u8], source: &[u8]) -> Vec<Kind> {
+    let mut kinds = kinds(table, sheet, source);
+    kinds.retain(|kind| (Kind::KeysApartBySpaces..=Kind::SpaceAtTheSeam).contains(kind));
+    kinds
+}
+
+#[test]
+fn keys_with_spaces_at_their_end() {
+    let met = |sheet: &[u8], source: &[u8]| padding_kinds(&padded_names(1), sheet, source);
+    assert_eq!(met(b"A;B ;", b"A1;B 2;"), []);
+    assert_eq!(met(b"A ;", b"A1;"), [Kind::FoundByTrimmedKey, Kind::KeyGainsSpaces]);
+    assert_eq!(met(b"A ;", b"A  1;"), [Kind::FoundByTrimmedKey, Kind::KeyLosesSpaces]);
+    let first = [Kind::KeysApartBySpaces, Kind::PaddedOneBeforeTheSame, Kind::KeyGainsSpaces];
+    assert_eq!(met(b"A ;", b"A1;A 2;"), first);
+    assert_eq!(met(b"A ;", b"A 1;A2;"), [Kind::KeysApartBySpaces], "the first has the same bytes");
+    let of_spaces = [Kind::FoundByTrimmedKey, Kind::KeyGainsSpaces, Kind::SpacesMeetTheEmptyKey];
+    assert_eq!(met(b" ;", b"1;"), of_spaces);
+    for (sheet, source) in [(b" A;", b"A1;"), (b"A\t;", b"A1;")] {
+        assert_eq!(met(sheet, source), [Kind::ApartByOtherBlanks]);
+    }
+    assert_eq!(met(b"A B;", b"A  B1;"), [Kind::ApartByOtherBlanks]);
+    assert_eq!(met(b"B ;", b"A 1;"), [], "the names differ");
+}
+
+#[test]
+fn a_space_where_two_key_parts_meet() {
+    let met = |sheet: &[u8]| padding_kinds(&padded_names(2), sheet, b"A1;B;");
+    assert_eq!(met(b"A;B;"), []);
+    assert_eq!(met(b"A;B ;"), [Kind::FoundByTrimmedKey, Kind::KeyGainsSpaces]);
+    assert_eq!(met(b"A ;B;"), [Kind::ApartByOtherBlanks, Kind::SpaceAtTheSeam]);
+    assert_eq!(met(b"A ; ;"), [], "no key text follows");
+}
+
+/// An entry of two arms with the same sheets: the left arm's is all key, the right arm
+/// shows `>` as a letter, and then each word for its byte, any number of times.
+fn blanks_of_two_arms(words: [(&[u8], &[u8]); 2]) -> Vec<u8> {
+    let mut draft = Draft::new();
+    let class = draft.set(&[(b'x', b'x'), (b' ', b' ')]);
+    let many = draft.pattern_repeat(class);
+    let (left, mark) = (draft.key(many), draft.replace(b">", b"x"));
+    let [first, second] = words.map(|(source, sheet)| {
+        let word = draft.replace(source, sheet);
+        draft.lens_repeat(word)
+    });
+    let right = draft.lens_row(&[mark, first, second]);
+    let either = draft.lens_union(left, right);
+    draft.matched(either);
+    draft.table()
+}
+
+#[test]
+fn long_keys_with_spaces() {
+    let table = blanks_of_two_arms([(b"n", &[b' '; 64]), (b"o", b"x")]);
+    let old = |spaces: usize, end: &[u8]| [b">", &b"n".repeat(spaces)[..], end].concat();
+    let found = [Kind::FoundByTrimmedKey, Kind::KeyLosesSpaces];
+    assert_eq!(padding_kinds(&table, b"x", &old(63, b"")), found, "4,033 bytes");
+    let long = [&found[..], &[Kind::LongPaddedKeyFound]].concat();
+    assert_eq!(padding_kinds(&table, b"x", &old(64, b"")), long, "4,097 bytes");
+    assert_eq!(padding_kinds(&table, b"x", &old(64, b"o")), [Kind::LongKeyCutAsked]);
+    assert_eq!(padding_kinds(&table, b"xx", &old(64, b"o")), [Kind::ApartByOtherBlanks]);
+}
+
+#[test]
+fn keys_of_4095_to_4097_bytes_before_their_spaces() {
+    let table = blanks_of_two_arms([(b"m", &[b'x'; 64]), (b"n", &[b' '; 50])]);
+    let old = |letters: usize, end: &[u8]| [b">", &b"m".repeat(letters)[..], end].concat();
+    assert_eq!(padding_kinds(&table, b"", &old(64, b"n")), [Kind::TrimmedAt4095To4097], "4,097 bytes");
+    assert_eq!(padding_kinds(&table, b"", &old(64, b"")), [], "no spaces follow");
+    assert_eq!(padding_kinds(&table, b"", &old(63, b"n")), [], "4,033 bytes");
+}
+
 #[test]
 fn nested_unions() {
     let mut draft = Draft::new();

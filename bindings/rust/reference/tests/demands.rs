@@ -19,8 +19,8 @@ const PROGRAMS: usize = 2000;
 #[test]
 fn an_unedited_sheet_gives_the_old_source_back() {
     let tried = demand3::unedited(&Reference, 1, PROGRAMS);
-    println!("clause 1: {tried} sheets put back");
-    assert!(tried > 4 * PROGRAMS);
+    println!("clause 1: {tried:?}");
+    assert!(tried.sheets > 4 * PROGRAMS && tried.padded_apart > PROGRAMS / 30);
 }
 
 #[test]
@@ -32,9 +32,9 @@ fn a_new_source_gives_its_sheet() {
 
 #[test]
 fn entries_with_different_keys_are_put_in_any_order() {
-    let (lists, moved) = demand3::reordered(&Reference, 3, PROGRAMS);
-    println!("clause 3: {lists} lists of entries, {moved} out of the old order");
-    assert!(lists > 4 * PROGRAMS && moved > PROGRAMS);
+    let tried = demand3::reordered(&Reference, 3, PROGRAMS);
+    println!("clause 3: {tried:?}");
+    assert!(tried.lists > 4 * PROGRAMS && tried.moved > PROGRAMS && tried.padded > PROGRAMS / 20);
 }
 
 #[test]

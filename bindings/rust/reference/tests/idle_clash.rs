@@ -103,7 +103,7 @@ fn ends_that_are_not_the_smallest_are_found() {
         let (refusal, found) = clash(table)?;
         ends(table, usize::from(refusal.node), found.side, &found.text)
     };
-    assert!(is_found_among(1500, |table, out| {
+    assert!(is_found_among(4000, |table, out| {
         let answer = Reference.clash(table, out);
         let cuts = cuts_of(table).filter(|cuts| cuts.len() > 2);
         let outermost = |cuts: Vec<usize>| [cuts[0], cuts[cuts.len() - 1]];

@@ -63,6 +63,7 @@ const FORMS: [Form; 8] = [
         brief: "puts an edited sheet back onto its source",
         help: "Writes the new source, byte for byte. To replace the old one:\n\
                noontrough put PROGRAM SHEET SOURCE -o SOURCE\n\n\
+               Entries are found by their keys, in which spaces at the end do not count.\n\n\
                Then it tells on standard error what became of the entries, in one line such as\n\
                'kept 1 made 1 dropped 1': entries of the sheet that took an old entry, entries of\n\
                the sheet that took none, and old entries left unused.",

@@ -9,10 +9,12 @@ use crate::ambiguity::overlap;
 use crate::answer::{Answer, RESULT_TOO_LONG};
 use crate::calls::MAX_TEXT;
 use crate::generator::cases::{Call, Case};
+use crate::lens::trimmed;
 use crate::program::Program;
 use crate::table::{Node, Side, SIDES};
 
 mod clashes;
+mod padding;
 mod puts;
 mod sets;
 
@@ -127,7 +129,7 @@ pub enum Kind {
     /// There is a union, and the entry is of its left arm, of a right arm.
     FoundOfLeftArm,
     FoundOfRightArm,
-    /// Two old entries of one child have the same key, which is not empty.
+    /// Two old entries of one child have keys of the same bytes, which are not empty.
     EqualKeys,
     /// Their keys differ in the last byte only, or in that one has one more.
     KeysApartAtTheEnd,
@@ -137,6 +139,30 @@ pub enum Kind {
     LongKeysFound,
     /// An old entry has a key of such a length.
     KeyAt4095To4097,
+    /// Keys of two old entries of one child differ by trailing spaces only.
+    KeysApartBySpaces,
+    /// An old key that ends in spaces has such a length without them.
+    TrimmedAt4095To4097,
+    /// An old entry is found whose key has more or fewer trailing spaces, and none that
+    /// is left has the bytes of the sheet's key.
+    FoundByTrimmedKey,
+    /// Such an entry is found, though a later one has these bytes.
+    PaddedOneBeforeTheSame,
+    /// The sheet's key has more trailing spaces than that of the entry found, has fewer.
+    KeyGainsSpaces,
+    KeyLosesSpaces,
+    /// A key of spaces finds an entry with the empty key, or the other way round, or one
+    /// with another number of spaces.
+    SpacesMeetTheEmptyKey,
+    /// The key of the entry found is longer than a text may be.
+    LongPaddedKeyFound,
+    /// Nothing is found, though a key differs by tabs, and spaces that are not at its end.
+    ApartByOtherBlanks,
+    /// The first 4,096 bytes of an old key would be found, but another byte than a space
+    /// follows.
+    LongKeyCutAsked,
+    /// A key part ends in spaces, and key text follows.
+    SpaceAtTheSeam,
 
     // Calls of clash.
     /// No clash exists.
@@ -190,7 +216,7 @@ pub enum Kind {
 }
 
 impl Kind {
-    pub const ALL: [Kind; 95] = [
+    pub const ALL: [Kind; 106] = [
         Kind::UnionsTwoDeep,
         Kind::UnionsThreeDeep,
         Kind::UnionsOnTheLeft,
@@ -259,6 +285,17 @@ impl Kind {
         Kind::LongKeys,
         Kind::LongKeysFound,
         Kind::KeyAt4095To4097,
+        Kind::KeysApartBySpaces,
+        Kind::TrimmedAt4095To4097,
+        Kind::FoundByTrimmedKey,
+        Kind::PaddedOneBeforeTheSame,
+        Kind::KeyGainsSpaces,
+        Kind::KeyLosesSpaces,
+        Kind::SpacesMeetTheEmptyKey,
+        Kind::LongPaddedKeyFound,
+        Kind::ApartByOtherBlanks,
+        Kind::LongKeyCutAsked,
+        Kind::SpaceAtTheSeam,
         Kind::NoClash,
         Kind::SourceJoinShown,
         Kind::SheetJoinShown,
@@ -632,7 +669,7 @@ fn asks_for_one_of(program: &Program, sheet: &[u8], entries: &[(usize, Vec<u8>)]
     program.each_part(Side::Sheet, sheet, &mut |node, text| {
         if let Node::Match(child) = *program.node(node) {
             let key = program.key(child, text);
-            asks = asks || entries.iter().any(|(of, long)| *of == child && *long == key);
+            asks = asks || entries.iter().any(|(of, long)| *of == child && trimmed(long) == trimmed(&key));
         }
     });
     asks

@@ -3,6 +3,7 @@
 
 use std::collections::BTreeSet;
 
+use super::padding::{self, Lookup};
 use super::Kind;
 use crate::answer::Tally;
 use crate::calls::MAX_TEXT;
@@ -25,10 +26,11 @@ pub(super) fn put_kinds(program: &Program, has_union: &[bool], case: &Case) -> V
         return Vec::new();
     }
     let book = program.book(&case.source);
-    let kinds = book_kinds(book.entries());
+    let kinds = [book_kinds(book.entries()), padding::book_kinds(book.entries())].concat();
+    let has_blanks = padding::has_blanks(book.entries(), &case.sheet);
     let children = book.entries().iter().map(|entry| entry.child).collect();
     let (empty, met) = (Vec::new(), BTreeSet::new());
-    let mut walk = Walk { program, has_union, children, book, empty, met, found_by_key: false, kinds };
+    let mut walk = Walk { program, has_union, has_blanks, children, book, empty, met, found_by_key: false, kinds };
     walk.go(program.root(), &case.sheet, Some(&case.source), Above::default());
     walk.note_tally(&case.sheet);
     if walk.found_by_key && walk.kinds.contains(&Kind::LongKeys) {
@@ -76,6 +78,8 @@ struct Above {
 struct Walk<'a> {
     program: &'a Program,
     has_union: &'a [bool],
+    /// Whether keys may differ by blanks.
+    has_blanks: bool,
     /// The children of all old entries.
     children: Vec<usize>,
     book: Book,
@@ -174,6 +178,7 @@ impl Walk<'_> {
     fn entry(&mut self, child: usize, sheet: &[u8], above: Above) {
         let key = self.program.key(child, sheet);
         self.met.insert(child);
+        self.note_blanks(child, sheet, &key);
         let found = self.book.take(child, &key);
         if sheet.is_empty() {
             self.empty.push(child);
@@ -188,6 +193,16 @@ impl Walk<'_> {
             self.note(right && !key.is_empty(), Kind::FoundOfRightArm);
         }
         self.go(child, sheet, found.as_ref().map(|entry| &entry.source[..]), above);
+    }
+
+    fn note_blanks(&mut self, child: usize, sheet: &[u8], key: &[u8]) {
+        if !self.has_blanks {
+            return;
+        }
+        let lookup = Lookup { program: self.program, child, sheet, key, left: self.book.entries() };
+        for kind in lookup.kinds() {
+            self.note(true, kind);
+        }
     }
 }
 

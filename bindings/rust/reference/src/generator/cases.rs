@@ -6,6 +6,7 @@ use super::faults::{mutated, refused, refused_for_sets, PROGRAM_REFUSALS};
 use super::keys::like_key_cases;
 use super::long_entries::long_entry_cases;
 use super::many_empty::many_empty_cases;
+use super::padded_entries::padded_entry_cases;
 use super::programs::accepted;
 use super::random::Random;
 use super::texts::{draw, draw_of_length, edit, garbage};
@@ -35,8 +36,9 @@ pub struct Case {
 
 /// Calls about one program: refused ones are checked and called with texts that
 /// would fit other programs, accepted ones get texts of all sorts. Programs with
-/// long old entries, with many empty matches or with keys that are much alike
-/// bring their own texts. All are asked for their clash.
+/// long old entries, with many empty matches, with keys that are much alike or with
+/// long keys that are short without their spaces bring their own texts. All are asked
+/// for their clash.
 pub fn program_cases(random: &mut Random) -> Vec<Case> {
     let mut cases = cases_without_clash(random);
     let clashes = clash_cases(random, &cases[0].table);
@@ -46,7 +48,7 @@ pub fn program_cases(random: &mut Random) -> Vec<Case> {
 
 /// The same without the calls of clash.
 pub fn cases_without_clash(random: &mut Random) -> Vec<Case> {
-    let table = match random.below(34) {
+    let table = match random.below(38) {
         0..=2 => return long_entry_cases(random),
         3..=4 => return many_empty_cases(random),
         5 => return like_key_cases(random),
@@ -60,6 +62,7 @@ pub fn cases_without_clash(random: &mut Random) -> Vec<Case> {
         }
         12..=13 => refused_for_sets(random, &mut accepted),
         14..=17 => clashing(random),
+        18..=19 => return padded_entry_cases(random),
         _ => accepted(random).table(),
     };
     cases_of(random, table)

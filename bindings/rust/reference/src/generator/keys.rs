@@ -132,7 +132,7 @@ fn some_name(random: &mut Random, names: &[Vec<u8>]) -> Vec<u8> {
 }
 
 /// A union whose arms begin with a byte each that the sheet does not show.
-fn marked_arms(draft: &mut Draft, arms: [NodeNumber; 2]) -> NodeNumber {
+pub(super) fn marked_arms(draft: &mut Draft, arms: [NodeNumber; 2]) -> NodeNumber {
     let marks = [b"<", b">"].map(|mark| draft.replace(mark, b""));
     let [left, right] = [draft.lens_join(marks[0], arms[0]), draft.lens_join(marks[1], arms[1])];
     draft.lens_union(left, right)

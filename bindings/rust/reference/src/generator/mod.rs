@@ -14,6 +14,8 @@
 //! | [`long_entries`] | calls with old entries whose sheets are over 4,096 bytes, or whose keys come to much |
 //! | [`many_empty`] | calls with up to 126 empty matches in a part |
 //! | [`keys`] | calls with old entries whose keys are much alike |
+//! | [`padded_names`] | programs whose key text may have spaces at its end |
+//! | [`padded_entries`] | calls with old entries whose keys are long, and short without their trailing spaces |
 //! | [`faults`] | programs refused with a wanted number |
 //! | [`clashes`] | programs that clash, by texts of all lengths |
 //! | [`texts`] | sources, sheets, edits, garbage |
@@ -30,6 +32,8 @@ pub mod faults;
 pub mod keys;
 pub mod long_entries;
 pub mod many_empty;
+pub mod padded_entries;
+pub mod padded_names;
 pub mod programs;
 pub mod random;
 pub mod sets;

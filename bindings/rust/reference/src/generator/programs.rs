@@ -4,13 +4,14 @@
 //! nodes that still check (odd shapes, sharing, unreached nodes), records with
 //! fields and separators (what a publishing house would write), small programs
 //! around a union, and programs that go up to the limits. Nested unions, arms
-//! with different entries, empty leaves, deep nesting, several matches and sets
-//! have modules of their own.
+//! with different entries, empty leaves, deep nesting, several matches, sets and
+//! padded names have modules of their own.
 
 use super::counted_arms::counted_arms;
 use super::depths::{deep, loose};
 use super::draft::{Draft, NodeNumber};
 use super::empties::empty_leaves;
+use super::padded_names::padded_names;
 use super::random::Random;
 use super::sets::{pairs, sets};
 use super::several_matches::several_matches;
@@ -35,7 +36,7 @@ impl Room {
 
 /// An accepted program of any sort.
 pub fn accepted(random: &mut Random) -> Draft {
-    match random.below(21) {
+    match random.below(24) {
         0..=3 => grown(random, Room::USUAL),
         4..=6 => records(random),
         7 => two_kinds(random),
@@ -45,7 +46,8 @@ pub fn accepted(random: &mut Random) -> Draft {
         13..=14 => deep(random),
         15..=16 => several_matches(random),
         17 => counted_arms(random),
-        18..=19 => sets(random),
+        18..=20 => sets(random),
+        21..=22 => padded_names(random),
         _ => loose(random),
     }
 }
@@ -183,7 +185,7 @@ struct Alphabet {
 
 impl Alphabet {
     fn draw(random: &mut Random) -> Alphabet {
-        const CHOICES: [&[u8]; 7] = [b"ab", b"abc", b"ab;", b"AB01;", b"\x00\xff", b"xyz$", b"a"];
+        const CHOICES: [&[u8]; 8] = [b"ab", b"abc", b"ab;", b"AB01;", b"\x00\xff", b"xyz$", b"a", b"a ;"];
         Alphabet { bytes: random.pick(&CHOICES).to_vec() }
     }
 
@@ -316,9 +318,10 @@ fn fields(random: &mut Random, draft: &mut Draft) -> NodeNumber {
 
 fn field(random: &mut Random, draft: &mut Draft) -> NodeNumber {
     let (first, last) = *random.pick(&[(b'A', b'Z'), (b'0', b'9'), (b'a', b'c'), (0xC0, 0xFF), (b'A', b'A')]);
-    let class = match random.below(8) {
+    let class = match random.below(9) {
         0 => draft.set(&[(0xD8, 0xDE), (b'A', b'Z'), (0xC0, 0xD6)]),
         1 => draft.set(&pairs(random)),
+        2 => draft.set(&[(b'A', b'C'), (b' ', b' ')]),
         _ => draft.range(first, last),
     };
     let pattern = if random.once_in(2) { draft.pattern_repeat(class) } else { draft.pattern_some(class) };

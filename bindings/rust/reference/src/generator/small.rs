@@ -4,6 +4,7 @@
 use super::cases::{Call, Case};
 use super::draft::Draft;
 use super::faults::refused;
+use super::padded_names::small_padded_names;
 use super::programs::{grown, records, two_kinds, Room};
 use super::random::Random;
 use super::texts::{draw, edit, garbage};
@@ -79,9 +80,10 @@ fn result_is_short(case: &Case) -> bool {
 
 fn accepted_table(random: &mut Random) -> Vec<u8> {
     loop {
-        let draft = match random.below(5) {
+        let draft = match random.below(6) {
             0..=1 => grown(random, Room::SMALL),
             2 => records(random),
+            3 => small_padded_names(random),
             _ => two_kinds(random),
         };
         let table = draft.table();

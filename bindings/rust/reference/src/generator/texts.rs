@@ -142,7 +142,8 @@ fn neighbour(random: &mut Random, byte: u8) -> u8 {
 }
 
 /// A sheet edited as a reader would: parts dropped, doubled, reordered, or
-/// replaced by new ones. Only sheets of repeats have parts; others are redrawn.
+/// replaced by new ones, and padded anew where the program knows spaces. Only sheets
+/// of repeats have parts; others are redrawn.
 pub fn edit(random: &mut Random, program: &Program, sheet: &[u8]) -> Vec<u8> {
     let Node::LensRepeat(part) = *program.node(program.root()) else {
         return draw(random, program.table(), program.root(), Side::Sheet, 3, 64);
@@ -160,5 +161,38 @@ pub fn edit(random: &mut Random, program: &Program, sheet: &[u8]) -> Vec<u8> {
             _ => random.shuffle(&mut parts),
         }
     }
+    if knows_spaces(program) {
+        for text in &mut parts {
+            *text = repadded(random, program, part, text);
+        }
+    }
     parts.concat()
+}
+
+fn knows_spaces(program: &Program) -> bool {
+    program.table().nodes.iter().any(|node| match node {
+        Node::Word(word) => word.contains(&b' '),
+        Node::Class(class) => class.has(b' '),
+        _ => false,
+    })
+}
+
+/// The sheet of a part with some spaces more or one less, rarely with a tab, at any place
+/// where the part can have it; as it was if no such place was met, and sometimes anyway.
+fn repadded(random: &mut Random, program: &Program, part: usize, text: &[u8]) -> Vec<u8> {
+    for _ in 0..random.below(6) {
+        let mut padded = text.to_vec();
+        let place = random.below(text.len() + 1);
+        match text.get(place) {
+            Some(b' ') if random.once_in(2) => drop(padded.remove(place)),
+            _ => {
+                let blanks = *random.pick(&[&b" "[..], b" ", b"  ", b"    ", b"\t"]);
+                padded.splice(place..place, blanks.iter().copied());
+            }
+        }
+        if program.fits(part, Side::Sheet, &padded) {
+            return padded;
+        }
+    }
+    text.to_vec()
 }
