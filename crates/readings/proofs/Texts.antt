@@ -1,12 +1,14 @@
 -- What is read off a text of the root.
-use mathlib.Core.Path.{_≡_}
+use mathlib.Core.Path.{_≡_, subst}
+use mathlib.Core.Bool.{false}
 use mathlib.Core.List.{List}
 use Prim.Native.Nat.{ℕ, _-_}
 use Rattle.semantics.specs.Text.{Text}
 use Rattle.semantics.specs.Table.{nodeCount}
 use Rattle.lens.specs.declared.Mode.{Mode}
 use Rattle.texts.specs.declared.Wrote.{Wrote}
-use Rattle.lens.specs.Reading.{reading}
+use Rattle.texts.specs.Overlay.{Lays}
+use Rattle.lens.specs.Reading.{reading, keyed}
 use Rattle.lens.specs.Emitting.{Emits}
 use Rattle.answers.specs.Answers.{Ready}
 use Rattle.answers.specs.Results.{Makes}
@@ -16,6 +18,8 @@ module _ {bytes : Text} {prepared : List ℕ} (ready : Ready bytes prepared) {ro
   -- what is read off it is written
   pub root-reads :
       {mode : Mode} {text before after : Text} {wrote : Wrote}
+      → keyed mode ≡ false
       → Emits bytes root mode text before after wrote
       → Makes bytes (λ l. reading mode l text) before after wrote
-  root-reads emitted = record { makes = λ l e. emitted .writes l (root-at ready root-is l e) }
+  root-reads {mode} {text} {before} {after} {wrote} no-key emitted =
+      record { makes = λ l e. subst (λ padded. Lays padded (reading mode l text) before after wrote) no-key (emitted .writes l (root-at ready root-is l e)) }

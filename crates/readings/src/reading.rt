@@ -7,13 +7,14 @@ use answers::results::root_of;
 use lens::Mode;
 use lens::read::emit;
 ghost use mathlib.Core.Path.{_≡_};
+ghost use mathlib.Core.Bool.{false};
 ghost use Prim.Native.Nat.{min};
 ghost use lib.ListN.{length};
-ghost use Rattle.lens.specs.Reading.{reading, modeSide};
+ghost use Rattle.lens.specs.Reading.{reading, modeSide, keyed};
 ghost use Rattle.answers.specs.Answers.{Ready};
 ghost use Rattle.answers.specs.Results.{TextReady, GivesMade};
 
-// What the root reads off a text, given or refused for its length.
+// What the root reads off a text, a sheet or a source, given or refused for its length. (Of a key trailing spaces may be left out, so it is no result.)
 pub fn give_read(
     bytes: &[u8],
     prepared: &[u64],
@@ -24,6 +25,7 @@ pub fn give_read(
 ) -> Answer
     requires { ⌜ Ready (now bytes) (now prepared) ⌝ }
     requires { ⌜ TextReady (now bytes) (modeSide mode) (now text) (now path) ⌝ }
+    requires { ⌜ keyed mode ≡ false ⌝ }
     ensures { λ r. ⌜ GivesMade (now (bytes .entry)) (λ l. reading mode l (now (text .entry))) (now (out .entry)) (now (out .exit)) r ⌝ }
 {
     let mut result = no_text();
@@ -44,6 +46,7 @@ fn read_into(
     requires { ⌜ Ready (now bytes) (now prepared) ⌝ }
     requires { ⌜ TextReady (now bytes) (modeSide mode) (now text) (now path) ⌝ }
     requires { ⌜ length (now result) ≡ min (length (now out)) 4096 ⌝ }
+    requires { ⌜ keyed mode ≡ false ⌝ }
     ensures { λ r. ⌜ GivesMade (now (bytes .entry)) (λ l. reading mode l (now (text .entry))) (now (out .entry)) (now (out .exit)) r ⌝ }
 {
     let root = root_of(bytes);

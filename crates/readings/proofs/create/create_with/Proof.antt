@@ -1,5 +1,5 @@
 -- `readings::create::create_with` meets its contract, test by test. Assumes nothing.
-use mathlib.Core.Path.{_∙_}
+use mathlib.Core.Path.{refl, _∙_}
 use denote.Ref.{now}
 use borrow.Author.Tests.{not-false}
 use borrow.Author.Needs.{needs}
@@ -42,7 +42,7 @@ returns-2 c = program-gives _ (c .before .before .before .before .before .before
 
 give-read-requires : tie.Need-give-read-requires
 unfolding sideOf modeSide
-give-read-requires c κs = (c .before .before .before .before .before .before .before .before .before .before .before .before .before .before .pre, text-ready (c .before .before .before .before .before .before .before .before .before .if1 .left) (c .before .before .before .before .before .root-path .ensures) (not-false _ (c .before .before .if2 .left)))
+give-read-requires c κs = (c .before .before .before .before .before .before .before .before .before .before .before .before .before .before .pre, (text-ready (c .before .before .before .before .before .before .before .before .before .if1 .left) (c .before .before .before .before .before .root-path .ensures) (not-false _ (c .before .before .if2 .left)), refl))
 
 same-length : tie.Need-same-length
 same-length c = search needs

@@ -21,7 +21,7 @@ part-result-end : tie.Need-part-result-end
 part-result-end c = search needs
 
 read-into-requires : tie.Need-read-into-requires
-read-into-requires c κs = (c .before .before .before .before .before .before .before .before .before .pre .0, (c .before .before .before .before .before .before .before .before .before .pre .1, simp length-take (omega (arith, c .before .before .before .no-text .ensures, c .before .before .room-in .ensures))))
+read-into-requires c κs = (c .before .before .before .before .before .before .before .before .before .pre .0, (c .before .before .before .before .before .before .before .before .before .pre .1 .0, (simp length-take (omega (arith, c .before .before .before .no-text .ensures, c .before .before .room-in .ensures)), c .before .before .before .before .before .before .before .before .before .pre .1 .1)))
 
 same-length : tie.Need-same-length
 same-length c = search needs

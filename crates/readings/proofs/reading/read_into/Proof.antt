@@ -13,7 +13,7 @@ emit-requires : tie.Need-emit-requires
 emit-requires c κs = (root-node (c .before .before .before .before .before .before .before .before .pre .0) (c .before .root-of .ensures), rw (c .before .root-of .ensures) (c .before .before .before .before .before .before .before .before .pre .1 .0 .parsed))
 
 finish-requires : tie.Need-finish-requires
-finish-requires c κs = made-counted (c .before .before .before .before .before .before .before .before .before .before .before .before .before .pre .0 .accepted) (root-reads (c .before .before .before .before .before .before .before .before .before .before .before .before .before .pre .0) (c .before .before .before .before .before .before .root-of .ensures) (c .before .before .before .before .emit .ensures))
+finish-requires c κs = made-counted (c .before .before .before .before .before .before .before .before .before .before .before .before .before .pre .0 .accepted) (root-reads (c .before .before .before .before .before .before .before .before .before .before .before .before .before .pre .0) (c .before .before .before .before .before .before .root-of .ensures) (c .before .before .before .before .before .before .before .before .before .before .before .before .before .pre .1 .1 .1) (c .before .before .before .before .emit .ensures))
 
 same-length : tie.Need-same-length
 same-length c = search needs
@@ -22,7 +22,7 @@ same-length-2 : tie.Need-same-length-2
 same-length-2 c = search needs
 
 returns : tie.Need-returns
-returns c = made-given (omega (arith, c .before .before .before .before .before .before .before .emit .kept .1 .1 .1 .1 .1 .1 .1 .0, c .before .before .before .before .before .before .before .before .before .before .before .before .before .before .before .before .pre .1 .1)) (c .before .before .finish .ensures) (root-reads (c .before .before .before .before .before .before .before .before .before .before .before .before .before .before .before .before .pre .0) (c .before .before .before .before .before .before .before .before .before .root-of .ensures) (c .before .before .before .before .before .before .before .emit .ensures))
+returns c = made-given (omega (arith, c .before .before .before .before .before .before .before .emit .kept .1 .1 .1 .1 .1 .1 .1 .0, c .before .before .before .before .before .before .before .before .before .before .before .before .before .before .before .before .pre .1 .1 .0)) (c .before .before .finish .ensures) (root-reads (c .before .before .before .before .before .before .before .before .before .before .before .before .before .before .before .before .pre .0) (c .before .before .before .before .before .before .before .before .before .root-of .ensures) (c .before .before .before .before .before .before .before .before .before .before .before .before .before .before .before .before .pre .1 .1 .1) (c .before .before .before .before .before .before .before .emit .ensures))
 
 pub read-into-spec : {M : Type 1} → statement M
 read-into-spec =
