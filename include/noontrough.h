@@ -154,7 +154,9 @@ struct noontrough_answer noontrough_get(uint8_t const *table, size_t table_len,
 
 /*
  * Gives a new source from an edited sheet and the old source. Entries are found
- * by their keys; what the sheet does not show comes from the old source.
+ * by their keys; what the sheet does not show comes from the old source. Spaces at the
+ * end of a key do not count there, so a name may be padded; they are written as the
+ * sheet has them.
  *
  * table, table_len     the program's table
  * sheet, sheet_len     the edited sheet, at most 4,096 bytes
