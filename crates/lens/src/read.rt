@@ -73,16 +73,26 @@ fn emit_copy(mode: Mode, text: &[u8], out: &mut [u8]) -> Wrote
     }
 }
 
-// What a key gives: its text, which may be padded where it is read as a key.
+// Whether a key is read, of which trailing spaces don't count.
+fn is_keyed(mode: Mode) -> bool
+    ensures { λ r. ⌜ r ≡ keyed mode ⌝ }
+{
+    match mode {
+        Mode::Get => false,
+        Mode::Key => true,
+        Mode::Create => false,
+        Mode::SourceKey => true,
+    }
+}
+
+// What a key gives: its text.
 fn emit_key(mode: Mode, text: &[u8], out: &mut [u8]) -> Wrote
     ensures { λ r. ⌜ Lays (keyed mode) (now (text .entry)) (now (out .entry)) (now (out .exit)) r ⌝ }
 {
-    match mode {
-        Mode::Get => write_text(text, out),
-        Mode::Key => write_key(text, out),
-        Mode::Create => write_text(text, out),
-        Mode::SourceKey => write_key(text, out),
+    if is_keyed(mode) {
+        return write_key(text, out);
     }
+    write_text(text, out)
 }
 
 // The word that a const gives: that of the sheet, or the default of a source that is made.
