@@ -1,8 +1,8 @@
 // The card of a key: the key without its trailing spaces, and in front of it its length in two bytes. Beside it goes one byte of a fingerprint, which tells most keys apart.
 use lens::Mode;
-use texts::Wrote;
 use lens::read::emit;
 use padding::trimmed_length;
+use texts::Wrote;
 ghost use mathlib.Core.Path.{_≡_};
 ghost use mathlib.Core.List.{_++_};
 ghost use Prim.Native.Nat.{_+_, _≤_, _<_};

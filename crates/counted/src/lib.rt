@@ -1,10 +1,10 @@
 // What a node writes behind what was written where none of its matches can find an entry, with no book, and the count of the matches that it meets.
 use bookless::write;
 use books::Old;
-use texts::Wrote;
 use std::num::wrapping_add_usize;
 use steps::Spot;
 use steps::behind;
+use texts::Wrote;
 ghost use Rattle.lens.specs.Emitting.{LensNode};
 ghost use Rattle.books.specs.Looking.{oldText};
 ghost use Rattle.bookless.specs.Bookless.{GivenOld};

@@ -1,8 +1,5 @@
 // What is read off a text at a node: a sheet, a key or a source.
 use crate::Mode;
-use texts::Wrote;
-use texts::write_key;
-use texts::write_text;
 use automaton::Automaton;
 use automaton::Side;
 use automaton::automaton_of;
@@ -13,6 +10,9 @@ use cuts::goes_left;
 use paths::find_path;
 use table::Kind;
 use table::Table;
+use texts::Wrote;
+use texts::write_key;
+use texts::write_text;
 ghost use mathlib.Core.Path.{_≡_};
 ghost use Prim.Native.Nat.{_≤_};
 ghost use lib.ListN.{length};
