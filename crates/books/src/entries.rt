@@ -19,7 +19,7 @@ impl Book {
 
     pub const CARDS: usize = Book::PLACES + 3 * Book::ENTRIES;
 
-    // A card: the length of a key in two bytes, and the key.
+    // A card: what is left of a key without its trailing spaces, and in front of it the length of that in two bytes.
     pub const CARD: usize = Table::TEXT + 2;
 
     pub fn empty() -> Book

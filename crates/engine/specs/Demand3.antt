@@ -1,4 +1,4 @@
--- Demand 3, about the calls as they are: what their contracts say (`GivesText`, and for put `GivesSource`: the answer, and the whole buffer
+-- Demand 3, and document 02 (iv), about the calls as they are: what their contracts say (`GivesText`, and for put `GivesSource`: the answer, and the whole buffer
 -- afterwards) with the theorems of `laws` about the definitions of the calls. Put's answer is taken without its counts. `Gave` is document 01's 'What such a call gives is the text of the answered length at the
 -- start of its buffer'; every buffer is 4,096 bytes long; the second call of a pair gets the same table, and the text that the first one gave.
 use mathlib.Core.Path.{_≡_, sym, ap, _∙_}
@@ -7,13 +7,14 @@ use Prim.Native.Nat.{ℕ, _≤_}
 use native.Mathlib.Omega.{arith}
 use lib.ListN.{length, take, drop}
 use lib.Seq.{take-append-seam}
-use Rattle.semantics.specs.Text.{Text, joined, Different}
-use Rattle.semantics.specs.Lens.{Lens, source, language, parts, get, entries}
+use Rattle.semantics.specs.Text.{Text, joined, All, Different}
+use Rattle.semantics.specs.Pattern.{In}
+use Rattle.semantics.specs.Lens.{Lens, source, sheet, language, parts, get, entries}
 use Rattle.semantics.specs.Calls.{gives, refuses, bufferAfter, program, getCall, putCall, createCall}
 use Rattle.semantics.specs.Calls.{Answer as Outcome}
 use Rattle.semantics.specs.Tally.{putTally}
-use Rattle.laws.specs.Demand3.{OneRepeatedEntry, unedited, put-then-get, create-then-get, reordered}
-use Rattle.laws.specs.Shuffle.{selected, PartNumbers}
+use Rattle.laws.specs.Demand3.{OneRepeatedEntry, unedited, put-then-get, create-then-get, reordered, found-by-key}
+use Rattle.laws.specs.Shuffle.{selected, PartNumbers, SameKeys, putEach}
 use Rattle.answers.specs.declared.Answer.{Answer}
 use Rattle.answers.specs.declared.Answer.the-variants.{Result, Refusal}
 use Rattle.answers.specs.declared.PutAnswer.{PutAnswer}
@@ -142,8 +143,8 @@ pub reordered-call :
     → length (joined (map (get l) (selected (parts (language source l) t) ns))) ≤ 4096
     → (before after : Text) (answer : PutAnswer)
     → length before ≡ 4096
-    → let sheet = joined (map (get l) (selected (parts (language source l) t) ns)) in
-    GivesSource (putCall bytes sheet t (length before)) (putTally bytes sheet t) before after answer
+    → let new = joined (map (get l) (selected (parts (language source l) t) ns)) in
+    GivesSource (putCall bytes new t (length before)) (putTally bytes new t) before after answer
     → Gave after (untallied answer) (joined (selected (parts (language source l) t) ns))
 reordered-call bytes t n l one ns numbers different short before after answer room given =
     let chosen = selected (parts (language source l) t) ns in
@@ -154,4 +155,31 @@ reordered-call bytes t n l one ns numbers different short before after answer ro
     after
     (untallied answer)
     (ap (putCall bytes (joined (map (get l) chosen)) t) room ∙ reordered bytes t n l one ns numbers different short)
+    (gives-text given)
+
+-- Document 02 (iv): 'Setters pad glyph names to a column, and the pair then loses its remark.' It keeps it: sheet entries that have, but for trailing spaces, the keys of different old entries are
+-- each put onto the old entry with that key.
+pub found-by-key-call :
+    (bytes t : Text) (n : ℕ) (l : Lens)
+    → OneRepeatedEntry bytes t n l
+    → (ns : List ℕ)
+    → PartNumbers (parts (language source l) t) ns
+    → Different ns
+    → (new : List Text)
+    → All (In (language sheet l)) new
+    → SameKeys l (selected (parts (language source l) t) ns) new
+    → length (joined new) ≤ 4096
+    → length (putEach l (selected (parts (language source l) t) ns) new) ≤ 4096
+    → (before after : Text) (answer : PutAnswer)
+    → length before ≡ 4096
+    → GivesSource (putCall bytes (joined new) t (length before)) (putTally bytes (joined new) t) before after answer
+    → Gave after (untallied answer) (putEach l (selected (parts (language source l) t) ns) new)
+found-by-key-call bytes t n l one ns numbers different new sheets same short fits before after answer room given =
+    gave-of
+    (putCall bytes (joined new) t (length before))
+    (putEach l (selected (parts (language source l) t) ns) new)
+    before
+    after
+    (untallied answer)
+    (ap (putCall bytes (joined new) t) room ∙ found-by-key bytes t n l one ns numbers different new sheets same short fits)
     (gives-text given)

@@ -2,7 +2,7 @@
 -- the text of the answered length; the second call of a pair gets the same table and the text that the first one gave.
 use mathlib.Core.Path.{_≡_, refl, sym, ap, _∙_, subst}
 use mathlib.Core.Bool.{Bool, true, false, not, _||_, true≢false}
-use mathlib.Core.List.{List, [], _∷_, map, append-nil}
+use mathlib.Core.List.{List, [], _∷_, map}
 use mathlib.Core.Option.{Option, none, some}
 use Prim.Native.Nat.{ℕ, suc, _≤_, min}
 use native.Mathlib.Omega.{arith}
@@ -12,16 +12,16 @@ use lib.ListN.{length}
 use borrow.Author.Tests.{ltb-false, le-ltb, not-false}
 use Rattle.semantics.specs.Text.{Text, joined, All, Different, trimmed}
 use Rattle.semantics.specs.Pattern.{In, matches}
-use Rattle.semantics.specs.Lens.{Lens, Book, repeat, match, Side, source, sheet, language, Written, parts, get, keyOf, entries, write, put, create}
+use Rattle.semantics.specs.Lens.{Lens, Book, repeat, match, Side, source, sheet, language, parts, get, keyOf, entries, write, put, create}
 use Rattle.semantics.specs.Table.{trees}
 use Rattle.semantics.specs.Calls.{Answer, gives, refuses, refuseIf, program, withProgram, tooLong, notOf, output, getCall, putCall, createCall}
 use Rattle.laws.specs.Basics.{never, or-neither}
 use Rattle.laws.specs.Membership.{matches-in, in-matches}
 use Rattle.laws.specs.Cuts.{parts-is}
 use Rattle.laws.specs.WellTyped.{WellTyped, OldFits, EntryFits}
-use Rattle.laws.specs.GetPut.{get-in, get-put}
+use Rattle.laws.specs.GetPut.{get-in}
 use Rattle.laws.specs.PutGet.{entries-fit, put-get}
-use Rattle.laws.specs.Shuffle.{selected, PartNumbers, selected-length, selected-in, shuffle}
+use Rattle.laws.specs.Shuffle.{selected, PartNumbers, SameKeys, putEach, selected-length, selected-in, put-restores, finds-by-key, shuffle}
 use Rattle.laws.specs.Accepted.{accepted}
 
 -- ---- A call that gives a result has passed every place
@@ -258,13 +258,6 @@ entry-count n l t = go (parts (language source l) t)
 
 -- ---- Demand 3
 
--- putting a source's own sheet back restores it
-put-restores : (l : Lens) → WellTyped l → (t : Text) → In (language source l) t → put l (get l t) t ≡ t
-unfolding put
-put-restores l typed t i =
-    ap (λ (b : Book). (write l (some t) (get l t) b) .text) (sym (append-nil (entries l t)))
-    ∙ ap (λ (w : Written). w .text) (get-put l typed t i [])
-
 -- 'wherever get gave a sheet for a source of at most 256 entries, putting that sheet back on it unedited gives exactly that source'. Nothing is
 -- asked of the keys: also where they differ only by trailing spaces, 'putting back an unedited sheet must still change nothing' (document 02, iv).
 pub unedited :
@@ -320,6 +313,31 @@ pub record OneRepeatedEntry (bytes t : Text) (n : ℕ) (l : Lens) : Type 0 where
   pub few-entries : length (parts (language source l) t) ≤ 256
   pub keys-differ : Different (map (λ p. trimmed (keyOf l (get l p))) (parts (language source l) t))
 
+-- What put makes of a sheet for such a source is given, if sheet and result are short enough.
+put-on-entries :
+    (bytes t : Text) (n : ℕ) (l : Lens)
+    → OneRepeatedEntry bytes t n l
+    → (new made : Text)
+    → In (language sheet (repeat (match n l))) new
+    → length new ≤ 4096
+    → put (repeat (match n l)) new t ≡ made
+    → length made ≤ 4096
+    → putCall bytes new t 4096 ≡ gives made
+put-on-entries bytes t n l one new made in-sheet short put-is fits =
+    put-gives
+    bytes
+    new
+    t
+    (repeat (match n l))
+    (one .is-program)
+    short
+    (one .short-source)
+    (one .in-source)
+    in-sheet
+    (subst (λ m. m ≤ 256) (sym (entry-count n l t)) (one .few-entries))
+    (subst (λ x. length x ≤ 4096) (sym put-is) fits)
+    ∙ ap gives put-is
+
 pub reordered :
     (bytes t : Text) (n : ℕ) (l : Lens)
     → OneRepeatedEntry bytes t n l
@@ -331,24 +349,51 @@ pub reordered :
     length new ≤ 4096 → putCall bytes new t 4096 ≡ gives (joined chosen)
 unfolding language get
 reordered bytes t n l one ns numbers different k =
-    let root = repeat (match n l) in
     let ps = parts (language source l) t in
     let chosen = selected ps ns in
-    let new = joined (map (get l) chosen) in
-    let typed : WellTyped root = accepted bytes root (one .is-program) .0 in
+    let typed : WellTyped (repeat (match n l)) = accepted bytes (repeat (match n l)) (one .is-program) .0 in
     let cut = source-parts (match n l) typed t (one .in-source) in
-    let put-is : put root new t ≡ joined chosen = shuffle n l typed t (one .in-source) (one .keys-differ) ns numbers different in
     let shorter : length (joined chosen) ≤ length (joined ps) = selected-length ps ns numbers different in
-    put-gives
+    put-on-entries
     bytes
-    new
     t
-    root
-    (one .is-program)
-    k
-    (one .short-source)
-    (one .in-source)
+    n
+    l
+    one
+    (joined (map (get l) chosen))
+    (joined chosen)
     (sheet-in (match n l) typed chosen (selected-in (In (language source l)) ps ns numbers (cut .0)))
-    (subst (λ m. m ≤ 256) (sym (entry-count n l t)) (one .few-entries))
-    (subst (λ x. length x ≤ 4096) (sym put-is) (le-trans shorter (subst (λ x. length x ≤ 4096) (sym (cut .1)) (one .short-source))))
-    ∙ ap gives put-is
+    k
+    (shuffle n l typed t (one .in-source) (one .keys-differ) ns numbers different)
+    (le-trans shorter (subst (λ x. length x ≤ 4096) (sym (cut .1)) (one .short-source)))
+
+-- Document 02 (iv): 'Setters pad glyph names to a column, and the pair then loses its remark.' It keeps it: for such a source, sheet entries that have, but for trailing spaces, the keys of
+-- different old entries are each put onto the old entry with that key, wherever they stand. (The old entries are given by their part numbers, in the order of the sheet.)
+pub found-by-key :
+    (bytes t : Text) (n : ℕ) (l : Lens)
+    → OneRepeatedEntry bytes t n l
+    → (ns : List ℕ)
+    → PartNumbers (parts (language source l) t) ns
+    → Different ns
+    → (new : List Text)
+    → All (In (language sheet l)) new
+    → let chosen = selected (parts (language source l) t) ns in
+    SameKeys l chosen new
+    → length (joined new) ≤ 4096
+    → length (putEach l chosen new) ≤ 4096
+    → putCall bytes (joined new) t 4096 ≡ gives (putEach l chosen new)
+unfolding language In
+found-by-key bytes t n l one ns numbers different new sheets same short fits =
+    let typed : WellTyped (repeat (match n l)) = accepted bytes (repeat (match n l)) (one .is-program) .0 in
+    put-on-entries
+    bytes
+    t
+    n
+    l
+    one
+    (joined new)
+    (putEach l (selected (parts (language source l) t) ns) new)
+    (new, refl, sheets)
+    short
+    (finds-by-key n l typed t (one .keys-differ) ns numbers different new sheets same)
+    fits

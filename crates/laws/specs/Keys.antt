@@ -100,6 +100,10 @@ trimmed-whole (c ∷ t) ends = go (allSpaces (c ∷ t)) refl (trimmed-whole t (l
     go true b later = absurd (ends (omega arith) (spaces-at (c ∷ t) b (length (c ∷ t) - 1) (omega arith)))
     go false b later = trimmed-cons c t b ∙ ap (λ s. c ∷ s) later
 
+-- So it is told what is left of every text: it is one that does not end in a space, and spaces.
+pub trimmed-is : (s u : Text) → (0 < length s → ¬ (getD s (length s - 1) 0 ≡ 32)) → allSpaces u ≡ true → trimmed (s ++ u) ≡ s
+trimmed-is s u ends spaces = trimmed-append s u spaces ∙ trimmed-whole s ends
+
 -- A front behind which there are only spaces, and which ends in none, is what is left.
 pub trimmed-front :
     (t : Text) (n : ℕ) → n ≤ length t → allSpaces (drop n t) ≡ true → (0 < n → ¬ (getD t (n - 1) 0 ≡ 32)) → trimmed t ≡ take n t
@@ -108,7 +112,7 @@ trimmed-front t n h spaces ends =
     let size : length front ≡ n = length-take-le n t h in
     let last : 0 < length front → ¬ (getD front (length front - 1) 0 ≡ 32) =
     λ more e. ends (omega (arith, size)) (sym (getD-take n t (n - 1) 0 (omega (arith, size))) ∙ ap (λ k. getD front (k - 1) 0) (sym size) ∙ e) in
-    ap trimmed (sym (take-append-drop n t)) ∙ trimmed-append front (drop n t) spaces ∙ trimmed-whole front last
+    ap trimmed (sym (take-append-drop n t)) ∙ trimmed-is front (drop n t) last spaces
 
 -- Where not all is spaces from a place on, more is left than stands before that place.
 pub trimmed-over : (n : ℕ) (t : Text) → allSpaces (drop n t) ≡ false → n < length (trimmed t)

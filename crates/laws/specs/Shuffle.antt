@@ -1,7 +1,7 @@
 -- Entries whose keys all differ, trailing spaces cut, are found by key: put back in whatever order, each comes back as it was.
-use mathlib.Core.Path.{_≡_, refl, ap, subst}
+use mathlib.Core.Path.{_≡_, refl, sym, ap, ap₂, subst, _∙_}
 use mathlib.Core.Bool.{true, false}
-use mathlib.Core.List.{List, [], _∷_, _++_, map}
+use mathlib.Core.List.{List, [], _∷_, _++_, map, append-nil}
 use mathlib.Core.Option.{Option, none, some}
 use mathlib.Core.Logic.{_⊎_, inl, inr}
 use Prim.Native.Nat.{ℕ, suc, _+_, _-_, _≤_, _<_}
@@ -12,13 +12,14 @@ use borrow.Author.Tests.{eqb-true, eqb-false, eq-eqb}
 use Rattle.semantics.specs.Text.{Text, joined, orElse, apply, All, Member, Different, trimmed}
 use Rattle.semantics.specs.Pattern.{Pattern, In, star}
 use Rattle.semantics.specs.Ambiguity.{BadRepeat}
-use Rattle.semantics.specs.Lens.{Lens, repeat, match, source, sheet, language, Book, Writer, get, keyOf, sameKey, parts, entryOf, entries, answers, keeping, takeEntry, andThen, writeParts, writeMatch, write, put}
+use Rattle.semantics.specs.Lens.{Lens, repeat, match, source, sheet, language, Entry, Book, Written, Writer, get, keyOf, sameKey, parts, entryOf, entries, answers, keeping, takeEntry, andThen, writeParts, writeMatch, write, put}
 use Rattle.semantics.specs.Table.{holdsMatch}
 use Rattle.laws.specs.Basics.{bool-cases, and-both, and-of, cond-true, cond-false, false-of-not-true, all-at, all-of, member-map, map-member}
-use Rattle.laws.specs.Keys.{same-key-refl, same-key-eq}
+use Rattle.laws.specs.Keys.{same-key-refl, same-key-eq, take-same-key}
 use Rattle.laws.specs.Cuts.{parts-is}
 use Rattle.laws.specs.WellTyped.{WellTyped}
 use Rattle.laws.specs.GetPut.{get-in, no-entries, get-put}
+use Rattle.laws.specs.Bookless.{asks, Unasked, plain, unasked-writes, asks-nothing}
 
 -- ---- Elements picked out of a list, in whatever order
 
@@ -184,6 +185,19 @@ keyIn l p = keyOf l (get l p)
 abbrev trimmedKey : Lens → Text → Text
 trimmedKey l p = trimmed (keyIn l p)
 
+-- Part for part, a sheet text has the part's key, but for trailing spaces.
+abbrev pub SameKeys : Lens → List Text → List Text → Type 0
+SameKeys l [] [] = Unit {0}
+SameKeys l [] (a ∷ new) = ⊥
+SameKeys l (p ∷ ps) [] = ⊥
+SameKeys l (p ∷ ps) (a ∷ new) = (trimmed (keyOf l a) ≡ trimmedKey l p) × SameKeys l ps new
+
+-- each sheet text, put onto its part
+unfoldable pub putEach : Lens → List Text → List Text → Text
+putEach l [] new = []
+putEach l (p ∷ ps) [] = []
+putEach l (p ∷ ps) (a ∷ new) = put l a p ++ putEach l ps new
+
 -- parts of one element each join to the list of those
 joined-singles : {A B : Type 0} (f : A → B) (xs : List A) → joined (map (λ x. f x ∷ []) xs) ≡ map f xs
 unfolding joined
@@ -240,26 +254,70 @@ module _ (n : ℕ) (l : Lens) where
   unfolding entries language
   entries-are t = joined-singles (entryOf n l) (parts (language source l) t)
 
-  module _ (free : holdsMatch l ≡ false) (typed : WellTyped l) where
-    -- the sheet of a part brings that part back, whatever the old text at its place
-    writes-own :
-        {p : Text} {qs rs : List Text} → Out p qs rs → Different (map (trimmedKey l) qs) → In (language source l) p → (old : Option Text)
-        → write (match n l) old (get l p) (map (entryOf n l) qs) ≡ record { text = p; book = map (entryOf n l) rs }
-    unfolding write writeMatch
-    writes-own {p} {rs = rs} o keys i old =
-        rw (takes-own o keys) (rw (no-entries l free p) at (get-put l typed p i (map (entryOf n l) rs)))
+  module _ (free : holdsMatch l ≡ false) where
+    -- the child of the match asks for no entry
+    asks-for-none : (b : Book) → Unasked l b
+    asks-for-none b = record { each = all-of (λ (e : Entry). asks l (e .child) ≡ false) b (λ e m. asks-nothing l free (e .child)) }
 
-    -- and so do the sheets of the picked parts, one after the other
+    -- a sheet text with the key of a part is put onto that part, whatever the old text at its place
+    writes-found :
+        {p : Text} {qs rs : List Text} → Out p qs rs → Different (map (trimmedKey l) qs)
+        → (a : Text) → trimmed (keyOf l a) ≡ trimmedKey l p → (old : Option Text)
+        → write (match n l) old a (map (entryOf n l) qs) ≡ record { text = put l a p; book = map (entryOf n l) rs }
+    unfolding write writeMatch put plain
+    writes-found {p} {qs} {rs} o keys a same old =
+        let left : Book = map (entryOf n l) rs in
+        ap (writeMatch (write l) a) (take-same-key n (keyOf l a) (keyIn l p) same (map (entryOf n l) qs) ∙ takes-own o keys)
+        ∙ unasked-writes l (some p) a left (asks-for-none left)
+        ∙ ap (λ (b : Book). record { text = (write l (some p) a b) .text; book = left }) (sym (no-entries l free p))
+
+    -- and so are the sheet texts with the keys of picked parts, one after the other
     writes-picked :
-        {sel qs : List Text} → Picked sel qs → Different (map (trimmedKey l) qs) → All (In (language source l)) sel → (olds : List Text)
-        → (writeParts (write (match n l)) olds (map (get l) sel) (map (entryOf n l) qs)) .text ≡ joined sel
-    unfolding joined andThen
-    writes-picked nothing keys all olds = unfold writeParts in refl
-    writes-picked (first {x = p} {xs = sel} {ys = qs} o picked) keys all olds =
-        let step = writes-first (write (match n l)) olds (get l p) (map (get l) sel) (map (entryOf n l) qs) in
+        {sel qs : List Text} → Picked sel qs → Different (map (trimmedKey l) qs)
+        → (new : List Text) → SameKeys l sel new → (olds : List Text)
+        → (writeParts (write (match n l)) olds new (map (entryOf n l) qs)) .text ≡ putEach l sel new
+    unfolding putEach andThen
+    writes-picked nothing keys [] same olds = unfold writeParts in refl
+    writes-picked nothing keys (a ∷ new) same olds = absurd same
+    writes-picked (first o picked) keys [] same olds = absurd same
+    writes-picked (first {x = p} {xs = sel} {ys = qs} o picked) keys (a ∷ new) same olds =
+        let step = writes-first (write (match n l)) olds a new (map (entryOf n l) qs) in
         rw
-        (step .2, writes-own o keys (all .0) (step .0))
-        (ap (λ s. p ++ s) (writes-picked picked (out-different (out-map (trimmedKey l) o) keys) (all .1) (step .1)))
+        (step .2, writes-found o keys a (same .0) (step .0))
+        (ap (λ s. put l a p ++ s) (writes-picked picked (out-different (out-map (trimmedKey l) o) keys) new (same .1) (step .1)))
+
+-- Document 02 (iv): a pair whose name was padded, or no longer is, keeps its remark. Where the keys of a source all differ, a sheet text that has, but for trailing spaces, the key of a
+-- selected part is put onto that part, wherever the one and the other stand.
+pub finds-by-key :
+    (n : ℕ) (l : Lens) → WellTyped (repeat (match n l))
+    → (t : Text)
+    → Different (map (λ p. trimmed (keyOf l (get l p))) (parts (language source l) t))
+    → (ns : List ℕ) → PartNumbers (parts (language source l) t) ns → Different ns
+    → (new : List Text) → All (In (language sheet l)) new → SameKeys l (selected (parts (language source l) t) ns) new
+    → put (repeat (match n l)) (joined new) t ≡ putEach l (selected (parts (language source l) t) ns) new
+unfolding language WellTyped
+finds-by-key n l typed t keys ns in-range different new sheets same =
+    let ps = parts (language source l) t in
+    rw
+    (put-parts n l, parts-is (language sheet l) (typed .0 sheet) new sheets, entries-are n l t)
+    (writes-picked n l (typed .1 .0) (selected-picked ps ns in-range different) keys new same ps)
+
+-- the sheet of a part has its key,
+own-keys : (l : Lens) (ps : List Text) → SameKeys l ps (map (get l) ps)
+own-keys l [] = tt
+own-keys l (p ∷ ps) = (refl, own-keys l ps)
+
+-- and, put onto the part, gives it as it was: putting a source's own sheet back restores it
+pub put-restores : (l : Lens) → WellTyped l → (t : Text) → In (language source l) t → put l (get l t) t ≡ t
+unfolding put
+put-restores l typed t i =
+    ap (λ (b : Book). (write l (some t) (get l t) b) .text) (sym (append-nil (entries l t)))
+    ∙ ap (λ (w : Written). w .text) (get-put l typed t i [])
+
+own-parts : (l : Lens) → WellTyped l → (ps : List Text) → All (In (language source l)) ps → putEach l ps (map (get l) ps) ≡ joined ps
+unfolding putEach joined
+own-parts l typed [] all = refl
+own-parts l typed (p ∷ ps) all = ap₂ _++_ (put-restores l typed p (all .0)) (own-parts l typed ps (all .1))
 
 -- Demand 3: the sheets of selected parts, put on the source whose keys all differ, give those parts as they were, in the order of
 -- the sheets.
@@ -278,6 +336,5 @@ shuffle n l typed t i keys ns in-range different =
     let is-sheet : (a : Text) → Member a (map (get l) sel) → In (language sheet l) a =
     λ a m. let p = map-member (get l) a sel m in rw (p .2) (get-in l (typed .1 .1) (p .0) (all-at (In r) (p .0) sel all (p .1))) in
     let sheets : All (In (language sheet l)) (map (get l) sel) = all-of (In (language sheet l)) (map (get l) sel) is-sheet in
-    rw
-    (put-parts n l, parts-is (language sheet l) (typed .0 sheet) (map (get l) sel) sheets, entries-are n l t)
-    (writes-picked n l (typed .1 .0) (typed .1 .1) (selected-picked ps ns in-range different) keys all ps)
+    finds-by-key n l typed t keys ns in-range different (map (get l) sel) sheets (own-keys l sel)
+    ∙ own-parts l (typed .1 .1) sel all
