@@ -96,7 +96,7 @@ module _ (card rest : Text) (long : length card ≡ 4098) where
 
   module _ (kept : length rest ≡ length (behindHead card)) where
     -- what was written there has its bytes within the card
-    pub written-behind : {padded : Bool} {text : Text} {wrote : Wrote} → Lays padded text (behindHead card) rest wrote → KeyBehind (withBehind card rest) wrote
+    written-behind : {padded : Bool} {text : Text} {wrote : Wrote} → Lays padded text (behindHead card) rest wrote → KeyBehind (withBehind card rest) wrote
     written-behind {padded} {text} writes =
         record {
           within = λ n e.

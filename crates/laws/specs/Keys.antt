@@ -29,7 +29,7 @@ pub spaces-step : (t : Text) → (c : ℕ) → allSpaces (c ∷ t) ≡ eqb c 32 
 unfolding allSpaces
 spaces-step t c = refl
 
-pub spaces-at : (t : Text) → allSpaces t ≡ true → (i : ℕ) → i < length t → getD t i 0 ≡ 32
+spaces-at : (t : Text) → allSpaces t ≡ true → (i : ℕ) → i < length t → getD t i 0 ≡ 32
 unfolding allSpaces
 spaces-at [] e i h = absurd (omega arith)
 spaces-at (c ∷ t) e zero h = eqb-true c 32 (and-both (eqb c 32) (allSpaces t) e .0)
@@ -44,7 +44,7 @@ spaces-drop (suc n) (c ∷ t) e = spaces-drop n t (and-both (eqb c 32) (allSpace
 -- ---- What is cut, and what is left
 
 -- nothing is left of spaces alone
-pub trimmed-spaces : (t : Text) → allSpaces t ≡ true → trimmed t ≡ []
+trimmed-spaces : (t : Text) → allSpaces t ≡ true → trimmed t ≡ []
 unfolding trimmed
 trimmed-spaces [] e = refl
 trimmed-spaces (c ∷ t) e = cond-true (allSpaces (c ∷ t)) [] (c ∷ trimmed t) e

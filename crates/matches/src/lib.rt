@@ -1,17 +1,11 @@
-// Matches, with the book: the entry that the key of a sheet text finds, and a repeat of a match, whose child writes with no book. And what a node writes that looks nothing up.
-use below::VARIES;
-use below::count_at;
+// Matches, with the book: the entry that the key of a sheet text finds, and a repeat of a match, whose child writes with no book.
 use books::Book;
 use books::Lookup;
-use books::Old;
 use cards::card_of;
-use counted::Plain;
-use counted::next_counted;
 use counted::next_plain;
 use cuts::Ends;
 use cuts::first_loop;
 use plains::Done;
-use plains::plain::write_plain;
 use std::num::wrapping_add_usize;
 use steps::Spot;
 ghost use mathlib.Core.Path.{_≡_};
@@ -21,55 +15,10 @@ ghost use Rattle.semantics.specs.Table.{trees, lens};
 ghost use Rattle.table.specs.Prepared.{OneLens};
 ghost use Rattle.automaton.specs.declared.Side.the-variants.{Sheet};
 ghost use Rattle.lens.specs.Emitting.{LensNode};
-ghost use Rattle.books.specs.Looking.{oldText};
-ghost use Rattle.bookless.specs.Bookless.{NewGiven, GivenOld};
+ghost use Rattle.bookless.specs.Bookless.{NewGiven};
 ghost use Rattle.steps.specs.Steps.{EndsAre};
-ghost use Rattle.plains.specs.Writing.{AsksNone, WithinBuffer, WritesBehind};
+ghost use Rattle.plains.specs.Writing.{WithinBuffer};
 ghost use Rattle.matches.specs.WithBook.{LooksIn, Ready, WritesMatches, EntryFound};
-
-// What a node that asks for nothing writes behind what was written, and how many matches it meets. The book stays as it is. A node whose count depends on no text is written whole:
-// `write_plain` would do that too, but most nodes are such, and the way is shorter from here.
-pub fn plain_behind(
-    done: Done,
-    bytes: &[u8],
-    prepared: &[u64],
-    spot: Spot,
-    new: &[u8],
-    path: &mut [u8],
-    old: Old,
-    deck: &[u8],
-    below: &[u64],
-    out: &mut [u8],
-) -> Done
-    requires { ⌜ Ready (now bytes) (now prepared) (spot .node) (now deck) (now below) (done .book) ⌝ }
-    requires { ⌜ GivenOld (now bytes) spot (now new) (now path) old (now deck) ⌝ }
-    requires { ⌜ WithinBuffer done (now out) × AsksNone (now below) (spot .node) (done .book) ⌝ }
-    ensures { λ r. ⌜ WritesBehind (now (bytes .entry)) (spot .node) (now (deck .entry)) (oldText (now (deck .entry)) old) (now (new .entry)) done (now (out .entry)) (now (out .exit)) r ⌝ }
-{
-    let book = done.book;
-    let wrote = done.wrote;
-    let plain = Plain {
-        wrote,
-        met: done.met,
-    };
-    let matches = count_at(below, spot.node);
-    if matches < VARIES {
-        let more = next_counted(plain, matches as usize, bytes, prepared, spot, new, path, old, deck, out);
-        let written = more.wrote;
-        return Done {
-            wrote: written,
-            book,
-            met: more.met,
-        };
-    }
-    let more = write_plain(plain, bytes, prepared, spot, new, path, old, deck, below, out);
-    let written = more.wrote;
-    Done {
-        wrote: written,
-        book,
-        met: more.met,
-    }
-}
 
 // The entry that the key of a sheet text finds, and the book without it.
 pub fn find_entry(

@@ -12,7 +12,7 @@ use Rattle.semantics.specs.Text.{Text, allSpaces, trimmed}
 use Rattle.laws.specs.Keys.{spaces-step, trimmed-front}
 
 -- nothing is spaces alone
-pub none-behind : (text : Text) (i : ℕ) → length text ≤ i → allSpaces (drop i text) ≡ true
+none-behind : (text : Text) (i : ℕ) → length text ≤ i → allSpaces (drop i text) ≡ true
 unfolding allSpaces
 none-behind text i h = rw (drop-of-length-le text h)
 
@@ -22,11 +22,11 @@ module _ (text : Text) (i : ℕ) (inside : i < length text) where
   one-more = ap allSpaces (drop-cons text i 0 inside) ∙ rw add-one (spaces-step (drop (suc i) text) (getD text i 0))
 
   -- a space tells nothing,
-  pub space-passed : getD text i 0 ≡ 32 → allSpaces (drop i text) ≡ allSpaces (drop (i + 1) text)
+  space-passed : getD text i 0 ≡ 32 → allSpaces (drop i text) ≡ allSpaces (drop (i + 1) text)
   space-passed e = one-more ∙ ap (λ b. b && allSpaces (drop (i + 1) text)) (eq-eqb (getD text i 0) 32 e)
 
   -- and any other byte all
-  pub other-byte : ¬ (getD text i 0 ≡ 32) → allSpaces (drop i text) ≡ false
+  other-byte : ¬ (getD text i 0 ≡ 32) → allSpaces (drop i text) ≡ false
   other-byte other = one-more ∙ ap (λ b. b && allSpaces (drop (i + 1) text)) (ne-eqb (getD text i 0) 32 other)
 
 -- A front behind which are only spaces, and which is empty or ends in another byte, is as long as what is left.

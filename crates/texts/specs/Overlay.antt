@@ -62,13 +62,13 @@ fits-or-over text buffer = go (leb (length text) (length buffer)) refl
     go false e = inr (leb-false (length text) (length buffer) e)
 
 -- a text that is no longer has room
-pub room-fits : (padded : Bool) (text buffer : Text) → length text ≤ length buffer → hasRoom padded text buffer ≡ true
+room-fits : (padded : Bool) (text buffer : Text) → length text ≤ length buffer → hasRoom padded text buffer ≡ true
 unfolding hasRoom allSpaces
 room-fits true text buffer h = rw (drop-of-length-le text h)
 room-fits false text buffer h = le-leb (length text) (length buffer) h
 
 -- and one that is longer has none, unless its trailing spaces don't count
-pub room-over : (text buffer : Text) → length buffer < length text → hasRoom false text buffer ≡ false
+room-over : (text buffer : Text) → length buffer < length text → hasRoom false text buffer ≡ false
 unfolding hasRoom
 room-over text buffer h = lt-leb (length text) (length buffer) h
 
@@ -248,7 +248,7 @@ module _ {padded : Bool} {text before after : Text} {n : ℕ} (w : Lays padded t
   unfolding overlay
   front-set = ap (take n) (w .buffer-is) ∙ take-at (take (length before) text) (drop (length text) before) n set-length
 
-  pub behind-set : drop n after ≡ drop (length text) before
+  behind-set : drop n after ≡ drop (length text) before
   unfolding overlay
   behind-set = ap (drop n) (w .buffer-is) ∙ drop-at (take (length before) text) (drop (length text) before) n set-length
 

@@ -3,15 +3,19 @@
 // Each function on the way down holds the book twice, as it came and as it comes back: so `done` is written over where two calls follow each other, and what every node does with an old
 // text or none is no function of its own.
 use automaton::Side;
+use below::VARIES;
 use below::asks_none;
+use below::count_at;
 use books::Old;
 use books::Place;
+use counted::Plain;
+use counted::next_counted;
 use cuts::Ends;
 use cuts::first_loop;
 use matches::find_entry;
-use matches::plain_behind;
 use matches::write_matches;
 use plains::Done;
+use plains::plain::write_plain;
 use std::num::wrapping_add_usize;
 use steps::Spot;
 use steps::choose;
@@ -33,8 +37,52 @@ ghost use Rattle.automaton.specs.declared.Side.the-variants.{Sheet};
 ghost use Rattle.books.specs.Looking.{partAt, oldText};
 ghost use Rattle.bookless.specs.Bookless.{NewGiven, Given, GivenOld};
 ghost use Rattle.steps.specs.Steps.{EndsAre};
-ghost use Rattle.plains.specs.Writing.{NoMatch, WithinBuffer, WritesBehind};
+ghost use Rattle.plains.specs.Writing.{AsksNone, NoMatch, WithinBuffer, WritesBehind};
 ghost use Rattle.matches.specs.WithBook.{Ready, WritesMatch};
+
+// What a node that asks for nothing writes behind what was written, and how many matches it meets. The book stays as it is. A node whose count depends on no text is written whole:
+// `write_plain` would do that too, but most nodes are such, and the way is shorter from here.
+fn plain_behind(
+    done: Done,
+    bytes: &[u8],
+    prepared: &[u64],
+    spot: Spot,
+    new: &[u8],
+    path: &mut [u8],
+    old: Old,
+    deck: &[u8],
+    below: &[u64],
+    out: &mut [u8],
+) -> Done
+    requires { ⌜ Ready (now bytes) (now prepared) (spot .node) (now deck) (now below) (done .book) ⌝ }
+    requires { ⌜ GivenOld (now bytes) spot (now new) (now path) old (now deck) ⌝ }
+    requires { ⌜ WithinBuffer done (now out) × AsksNone (now below) (spot .node) (done .book) ⌝ }
+    ensures { λ r. ⌜ WritesBehind (now (bytes .entry)) (spot .node) (now (deck .entry)) (oldText (now (deck .entry)) old) (now (new .entry)) done (now (out .entry)) (now (out .exit)) r ⌝ }
+{
+    let book = done.book;
+    let wrote = done.wrote;
+    let plain = Plain {
+        wrote,
+        met: done.met,
+    };
+    let matches = count_at(below, spot.node);
+    if matches < VARIES {
+        let more = next_counted(plain, matches as usize, bytes, prepared, spot, new, path, old, deck, out);
+        let written = more.wrote;
+        return Done {
+            wrote: written,
+            book,
+            met: more.met,
+        };
+    }
+    let more = write_plain(plain, bytes, prepared, spot, new, path, old, deck, below, out);
+    let written = more.wrote;
+    Done {
+        wrote: written,
+        book,
+        met: more.met,
+    }
+}
 
 // A sheet is put onto an old text. A node with no lens below it looks nothing up, so it writes without the book.
 pub fn put(

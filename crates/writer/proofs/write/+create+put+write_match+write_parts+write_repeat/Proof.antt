@@ -47,7 +47,7 @@ use Rattle.steps.proofs.next_old.Reads as next-old-reads
 use Rattle.steps.proofs.old_base.Reads as old-base-reads
 use Rattle.table.proofs.Table.node.Reads as node-reads
 use Rattle.matches.proofs.find_entry.Reads as find-entry-reads
-use Rattle.matches.proofs.plain_behind.Reads as plain-behind-reads
+use Rattle.writer.proofs.write.plain_behind.Reads as plain-behind-reads
 use Rattle.matches.proofs.write_matches.Reads as write-matches-reads
 use Rattle.writer.proofs.write.+create+put+write_match+write_parts+write_repeat.{statement}
 use Rattle.writer.proofs.write.+create+put+write_match+write_parts+write_repeat.Tie.{close}

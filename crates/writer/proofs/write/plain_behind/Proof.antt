@@ -1,13 +1,13 @@
--- `matches::plain_behind` meets its contract. Assumes nothing.
+-- `writer::write::plain_behind` meets its contract. Assumes nothing.
 use Rattle.matches.proofs.Ready.{below-room}
 use Rattle.plains.proofs.ByKind.{plain-writes}
 use Rattle.plains.proofs.Counting.{count-met}
 use Rattle.plains.proofs.Unasked.{none-asked}
 use borrow.Author.Needs.{needs}
-use Rattle.matches.proofs.plain_behind.Statement.{statement}
-use Rattle.matches.proofs.plain_behind.Tie as tie
-use Rattle.matches.proofs.plain_behind.Reads as reads
-use Rattle.matches.proofs.plain_behind.Lts as lts
+use Rattle.writer.proofs.write.plain_behind.Statement.{statement}
+use Rattle.writer.proofs.write.plain_behind.Tie as tie
+use Rattle.writer.proofs.write.plain_behind.Reads as reads
+use Rattle.writer.proofs.write.plain_behind.Lts as lts
 use Rattle.below.proofs.count_at.Reads as count-at-reads
 use Rattle.counted.proofs.next_counted.Reads as next-counted-reads
 use Rattle.plains.proofs.plain.write_plain.Reads as write-plain-reads
