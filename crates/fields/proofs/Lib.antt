@@ -1,0 +1,2 @@
+-- What the functions of this crate know as they go.
+mod Scanning

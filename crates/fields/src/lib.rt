@@ -1,0 +1,297 @@
+// The lines of kerning sections and of sheets, field by field. Each function looks at the start of a text and answers how many bytes it finds there.
+use texts::same_text;
+ghost use mathlib.Core.Path.{_≡_};
+ghost use mathlib.Core.Bool.{true, _&&_};
+ghost use Prim.Native.Nat.{_+_, _≤_};
+ghost use lib.Dec.{ltb};
+ghost use lib.ListN.{length, take, drop};
+ghost use Rattle.semantics.specs.Text.{sameText};
+ghost use Rattle.sections.specs.Afm.{each, isNameByte, isDigit, leadingZero, beginsWith};
+ghost use Rattle.fields.specs.declared.Form.the-variants.{Sheet};
+ghost use Rattle.fields.specs.Scan.{isOf, run, nameLength, grown, cappedFrom, front, noNumber, numberIn, valueLength, separatorLength, wordLength, leadLength, LineAt, isPair};
+
+// Bytes of names, spaces, digits.
+pub enum Class {
+    Name,
+    Space,
+    Digit,
+}
+
+// How a line holds a pair: `KPX` and three fields between spaces, or three fields between semicolons.
+pub enum Form {
+    Kpx,
+    Sheet,
+}
+
+// How many digits a number has, and the number; no digits where there is no number.
+pub struct Digits {
+    pub count: usize,
+    pub number: usize,
+}
+
+// Where the fields of a line and what separates them begin, and where the line ends.
+pub struct Line {
+    pub left: usize,
+    pub between: usize,
+    pub right: usize,
+    pub behind: usize,
+    pub value: usize,
+    pub end: usize,
+}
+
+fn is_of(class: Class, byte: u8) -> bool
+    ensures { λ r. ⌜ r ≡ isOf class byte ⌝ }
+{
+    match class {
+        Class::Name => is_name_byte(byte),
+        Class::Space => byte == 32,
+        Class::Digit => is_digit(byte),
+    }
+}
+
+fn is_name_byte(byte: u8) -> bool
+    ensures { λ r. ⌜ r ≡ isNameByte byte ⌝ }
+{
+    if byte == 59 {
+        return false;
+    }
+    33 <= byte && byte <= 126
+}
+
+fn is_digit(byte: u8) -> bool
+    ensures { λ r. ⌜ r ≡ isDigit byte ⌝ }
+{
+    48 <= byte && byte <= 57
+}
+
+fn run_length(class: Class, text: &[u8]) -> usize
+    ensures { λ r. ⌜ r ≡ run (isOf class) (now (text .entry)) ⌝ }
+{
+    let mut i = 0;
+    while i < text.len() {
+        if !is_of(class, text[i]) {
+            return i;
+        }
+        i += 1;
+    }
+    i
+}
+
+// A name has 1 to 63 bytes.
+fn name_length(text: &[u8]) -> usize
+    ensures { λ r. ⌜ r ≡ nameLength (now (text .entry)) ⌝ }
+{
+    let n = run_length(Class::Name, text);
+    if 63 < n {
+        return 0;
+    }
+    n
+}
+
+// A number with one digit more. One over 65,535 stays as it is: it is over every limit, and so is what more digits make of it.
+fn grow(number: usize, digit: u8) -> usize
+    requires { ⌜ isDigit digit ≡ true ⌝ }
+    ensures { λ r. ⌜ r ≡ grown number digit ⌝ }
+{
+    if 65535 < number {
+        return number;
+    }
+    10 * number + (digit - 48) as usize
+}
+
+// The number that some digits write, or one over 65,535 in place of a larger one.
+fn number_of(digits: &[u8]) -> usize
+    requires { ⌜ each isDigit (now digits) ≡ true ⌝ }
+    ensures { λ r. ⌜ r ≡ cappedFrom 0 (now (digits .entry)) ⌝ }
+{
+    let mut i = 0;
+    let mut number = 0;
+    while i < digits.len() {
+        number = grow(number, digits[i]);
+        i += 1;
+    }
+    number
+}
+
+// Whether digits are more than a nought and begin with one.
+fn leading_zero(digits: &[u8]) -> bool
+    ensures { λ r. ⌜ r ≡ leadingZero (now (digits .entry)) ⌝ }
+{
+    1 < digits.len() && digits[0] == 48
+}
+
+fn no_number() -> Digits
+    ensures { λ r. ⌜ r ≡ noNumber ⌝ }
+{
+    Digits {
+        count: 0,
+        number: 0,
+    }
+}
+
+// Whether digits are a whole number up to a limit.
+fn number_in(limit: usize, digits: &[u8]) -> Digits
+    requires { ⌜ limit ≤ 65535 ⌝ }
+    requires { ⌜ each isDigit (now digits) ≡ true ⌝ }
+    ensures { λ r. ⌜ r ≡ numberIn limit (now (digits .entry)) ⌝ }
+{
+    let count = digits.len();
+    let number = number_of(digits);
+    if leading_zero(digits) {
+        return no_number();
+    }
+    if limit < number {
+        return no_number();
+    }
+    Digits { count, number }
+}
+
+// A whole number up to a limit, without leading zeros.
+pub fn number_at(limit: usize, text: &[u8]) -> Digits
+    requires { ⌜ limit ≤ 65535 ⌝ }
+    ensures { λ r. ⌜ r ≡ numberIn limit (front isDigit (now (text .entry))) ⌝ }
+{
+    let count = run_length(Class::Digit, text);
+    number_in(limit, &text[0..count])
+}
+
+// A whole number from -32768 to 32767. Minus nought is none.
+fn value_length(text: &[u8]) -> usize
+    ensures { λ r. ⌜ r ≡ valueLength (now (text .entry)) ⌝ }
+{
+    if !begins_with(45, text) {
+        let plain = number_at(32767, text);
+        return plain.count;
+    }
+    let negative = number_at(32768, &text[1..]);
+    if negative.number == 0 {
+        return 0;
+    }
+    1 + negative.count
+}
+
+pub fn begins_with(byte: u8, text: &[u8]) -> bool
+    ensures { λ r. ⌜ r ≡ beginsWith byte (now (text .entry)) ⌝ }
+{
+    0 < text.len() && text[0] == byte
+}
+
+// What separates two fields.
+pub fn separator_length(form: Form, text: &[u8]) -> usize
+    ensures { λ r. ⌜ r ≡ separatorLength form (now (text .entry)) ⌝ }
+{
+    match form {
+        Form::Kpx => run_length(Class::Space, text),
+        Form::Sheet => mark_length(text),
+    }
+}
+
+fn mark_length(text: &[u8]) -> usize
+    ensures { λ r. ⌜ r ≡ separatorLength Sheet (now (text .entry)) ⌝ }
+{
+    if begins_with(59, text) {
+        return 1;
+    }
+    0
+}
+
+// What is in front of the left name, or, where that is missing, all of the text.
+fn lead_length(form: Form, text: &[u8]) -> usize
+    ensures lead { λ r. ⌜ r ≡ leadLength form (now (text .entry)) ⌝ }
+    ensures within { λ r. ⌜ r ≤ length (now (text .entry)) ⌝ }
+{
+    match form {
+        Form::Kpx => word_length(b"KPX", text),
+        Form::Sheet => 0,
+    }
+}
+
+pub fn starts_with(word: &[u8], text: &[u8]) -> bool
+    ensures { λ r. ⌜ r ≡ sameText (take (length (now (word .entry))) (now (text .entry))) (now (word .entry)) ⌝ }
+{
+    let n = word.len();
+    if text.len() < n {
+        return false;
+    }
+    same_text(&text[0..n], word)
+}
+
+// A word and the spaces behind it, or, where one of both is missing, all of the text.
+pub fn word_length(word: &[u8], text: &[u8]) -> usize
+    ensures { λ r. ⌜ r ≡ wordLength (now (word .entry)) (now (text .entry)) ⌝ }
+{
+    if !starts_with(word, text) {
+        return text.len();
+    }
+    let n = word.len();
+    let spaces = run_length(Class::Space, &text[n..]);
+    if spaces == 0 {
+        return text.len();
+    }
+    n + spaces
+}
+
+fn name_end(text: &[u8], at: usize) -> usize
+    requires { ⌜ at ≤ length (now text) ⌝ }
+    ensures end { λ r. ⌜ r ≡ at + nameLength (drop at (now (text .entry))) ⌝ }
+    ensures within { λ r. ⌜ r ≤ length (now (text .entry)) ⌝ }
+{
+    at + name_length(&text[at..])
+}
+
+fn separator_end(form: Form, text: &[u8], at: usize) -> usize
+    requires { ⌜ at ≤ length (now text) ⌝ }
+    ensures end { λ r. ⌜ r ≡ at + separatorLength form (drop at (now (text .entry))) ⌝ }
+    ensures within { λ r. ⌜ r ≤ length (now (text .entry)) ⌝ }
+{
+    at + separator_length(form, &text[at..])
+}
+
+fn value_end(text: &[u8], at: usize) -> usize
+    requires { ⌜ at ≤ length (now text) ⌝ }
+    ensures end { λ r. ⌜ r ≡ at + valueLength (drop at (now (text .entry))) ⌝ }
+    ensures within { λ r. ⌜ r ≤ length (now (text .entry)) ⌝ }
+{
+    at + value_length(&text[at..])
+}
+
+// Where the fields of the line at the start of a text are, if they are there.
+pub fn line_at(form: Form, text: &[u8]) -> Line
+    ensures { λ r. ⌜ LineAt form (now (text .entry)) r ⌝ }
+{
+    let left = lead_length(form, text);
+    let between = name_end(text, left);
+    let right = separator_end(form, text, between);
+    let behind = name_end(text, right);
+    let value = separator_end(form, text, behind);
+    let end = value_end(text, value);
+    Line {
+        left,
+        between,
+        right,
+        behind,
+        value,
+        end,
+    }
+}
+
+// Whether they are, and behind them the end of the line.
+pub fn is_pair(text: &[u8], line: Line) -> bool
+    requires { ⌜ line .end ≤ length (now text) ⌝ }
+    ensures { λ r. ⌜ r ≡ isPair (now (text .entry)) line ⌝ }
+{
+    let end = line.end;
+    if !rises(line.left, line.between, line.right) {
+        return false;
+    }
+    if !rises(line.right, line.behind, line.value) {
+        return false;
+    }
+    line.value < end && begins_with(10, &text[end..])
+}
+
+fn rises(a: usize, b: usize, c: usize) -> bool
+    ensures { λ r. ⌜ r ≡ ltb a b && ltb b c ⌝ }
+{
+    a < b && b < c
+}
