@@ -5,3 +5,5 @@ pub mod Afm
 pub mod Splitting
 -- whole numbers: what a text of digits writes, and what writes a number
 pub mod Numbers
+-- import and export undo each other, and keep every pair
+pub mod RoundTrips

@@ -1,7 +1,7 @@
 -- Lines, fields and runs of spaces: how they are read from a text that is put together from pieces, and the pieces that a text was read into.
 use mathlib.Core.Path.{_≡_, refl, sym, ap, _∙_}
 use mathlib.Core.Bool.{Bool, true, false, not, _&&_, true≢false}
-use mathlib.Core.List.{List, [], _∷_, _++_}
+use mathlib.Core.List.{List, [], _∷_, _++_, append-nil}
 use Prim.Native.Nat.{ℕ, _≤_}
 use native.Mathlib.Omega.{arith}
 use lib.Dec.{eqb, leb, ltb}
@@ -220,6 +220,51 @@ squeezed-word (b ∷ w) t e =
     let (first, later) = each-both (isNot space) b w e in
     squeezed-kept b (w ++ t) (and-left (eqb b space) (beginsWith space (w ++ t)) (is-not space b first))
     ∙ ap (λ (s : Text). b ∷ s) (squeezed-word w t later)
+
+-- So does a text without spaces, and one space between two texts, of which the second begins with none.
+pub squeezed-clean : (w : Text) → each (isNot space) w ≡ true → squeezed w ≡ w
+squeezed-clean w e =
+    ap squeezed (sym (append-nil w)) ∙ squeezed-word w [] e ∙ ap (λ (t : Text). w ++ t) squeezed-none ∙ append-nil w
+
+pub squeezed-between :
+    (w t : Text) → each (isNot space) w ≡ true → beginsWith space t ≡ false → squeezed (w ++ space ∷ t) ≡ w ++ space ∷ squeezed t
+squeezed-between w t e clear =
+    squeezed-word w (space ∷ t) e ∙ ap (λ (s : Text). w ++ s) (squeezed-kept space t (and-right (eqb space space) (beginsWith space t) clear))
+
+-- A newline cuts a text in two that are squeezed apart.
+begins-line : (m : ℕ) (l t : Text) → eqb newline m ≡ false → beginsWith m (l ++ newline ∷ t) ≡ beginsWith m l
+begins-line m [] t e = begins-at m newline t ∙ e ∙ sym (begins-none m)
+begins-line m (b ∷ l) t e = begins-at m b (l ++ newline ∷ t) ∙ sym (begins-at m b l)
+
+pub squeezed-line : (l t : Text) → squeezed (l ++ newline ∷ t) ≡ squeezed l ++ newline ∷ squeezed t
+squeezed-line [] t =
+    squeezed-kept newline t (and-left (eqb newline space) (beginsWith space t) refl)
+    ∙ ap (λ (s : Text). s ++ newline ∷ squeezed t) (sym squeezed-none)
+squeezed-line (b ∷ l) t = go (eqb b space && beginsWith space l) refl (squeezed-line l t)
+  where
+    same : eqb b space && beginsWith space (l ++ newline ∷ t) ≡ eqb b space && beginsWith space l
+    same = ap (λ (x : Bool). eqb b space && x) (begins-line space l t refl)
+
+    go :
+        (test : Bool)
+        → eqb b space && beginsWith space l ≡ test
+        → squeezed (l ++ newline ∷ t) ≡ squeezed l ++ newline ∷ squeezed t
+        → squeezed (b ∷ l ++ newline ∷ t) ≡ squeezed (b ∷ l) ++ newline ∷ squeezed t
+    go true p rec =
+        squeezed-out b (l ++ newline ∷ t) (same ∙ p) ∙ rec ∙ ap (λ (s : Text). s ++ newline ∷ squeezed t) (sym (squeezed-out b l p))
+    go false p rec =
+        squeezed-kept b (l ++ newline ∷ t) (same ∙ p)
+        ∙ ap (λ (s : Text). b ∷ s) rec
+        ∙ ap (λ (s : Text). s ++ newline ∷ squeezed t) (sym (squeezed-kept b l p))
+
+-- No text gets longer.
+pub squeezed-short : (t : Text) → length (squeezed t) ≤ length t
+squeezed-short [] = omega (arith, ap length squeezed-none)
+squeezed-short (b ∷ t) = go (eqb b space && beginsWith space t) refl (squeezed-short t)
+  where
+    go : (test : Bool) → eqb b space && beginsWith space t ≡ test → length (squeezed t) ≤ length t → length (squeezed (b ∷ t)) ≤ length (b ∷ t)
+    go true p rec = omega (arith, ap length (squeezed-out b t p))
+    go false p rec = omega (arith, ap length (squeezed-kept b t p))
 
 -- A run of spaces becomes one.
 pub squeezed-spaces :
