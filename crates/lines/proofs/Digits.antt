@@ -5,13 +5,13 @@ use mathlib.Core.List.{[], _∷_, _++_, append-nil, append-assoc}
 use Prim.Native.Nat.{ℕ, zero, suc, _+_, _-_, _/_, _%_, _^_, _≤_, _<_}
 use native.Mathlib.Omega.{arith}
 use native.Mathlib.Nat.{pow-suc, pow-le-pow-right}
-use lib.ListN.{length, take, drop, length-drop, drop-of-length-le}
+use lib.ListN.{length, take, drop, length-append, length-drop, drop-of-length-le}
 use lib.Seq.{sets-eq, take-all, drop-drop}
 use lib.Dec.{leb}
 use borrow.Author.Tests.{lt-ltb, le-ltb, leb-true, leb-false}
 use Rattle.semantics.specs.Text.{Text}
 use Rattle.semantics.specs.Calls.{digits, decimal}
-use Rattle.io.specs.Digits.{Fewest}
+use Rattle.io.specs.Digits.{Fewest, glyph}
 use Rattle.io.specs.Digits.{digits as shownDigits}
 use Rattle.texts.specs.declared.Wrote.{Wrote}
 use Rattle.texts.specs.Overlay.{Writes, overlay, overlay-fits}
@@ -81,3 +81,11 @@ pub decimal-lent :
 decimal-lent shown k n h f e =
     let same : k - 0 ≡ k = omega arith in
     rw same (e ∙ decimal-is k n h f)
+
+-- and how many they are
+shown-length : (k n : ℕ) → length (shownDigits 10 k n) ≡ k
+shown-length zero n = refl
+shown-length (suc k) n = omega (arith, length-append (shownDigits 10 k (n / 10)) (glyph (n % 10) ∷ []), shown-length k (n / 10))
+
+pub decimal-count : (k n : ℕ) → k ≤ 20 → Fewest 10 1 n k → k ≡ length (decimal n)
+decimal-count k n h f = sym (ap length (sym (decimal-is k n h f)) ∙ shown-length k n)

@@ -1,8 +1,8 @@
 -- Texts put into a buffer one behind the other, and numbers in decimal.
 use mathlib.Core.Path.{_≡_, refl, sym, ap, _∙_, subst}
-use mathlib.Core.Bool.{Bool, true, false}
+use mathlib.Core.Bool.{Bool, true, false, cond}
 use mathlib.Core.List.{List, [], _∷_, _++_}
-use Prim.Native.Nat.{ℕ, suc, _+_, _-_, _/_, _%_, _≤_, _<_}
+use Prim.Native.Nat.{ℕ, zero, suc, _+_, _-_, _/_, _%_, _≤_, _<_}
 use native.Mathlib.Omega.{arith}
 use native.Mathlib.Nat.{add-zero, zero-add, sub-zero}
 use lib.Dec.{ltb}
@@ -52,6 +52,20 @@ puts-front {t} {end} {before} p h =
     rw (sub-zero end, end-is, after-is) (take-append-seam t (drop (length t) before))
 
 -- ---- Numbers in decimal
+
+-- no more digits than places
+digits-few : (places n : ℕ) → length (digits places n) ≤ places
+unfolding digits
+digits-few zero n = omega arith
+digits-few (suc places) n = go (ltb n 10) (digits-few places (n / 10))
+  where
+    go : (b : Bool) → length (digits places (n / 10)) ≤ places → length (cond b [] (digits places (n / 10)) ++ (48 + n % 10) ∷ []) ≤ suc places
+    go true h = omega arith
+    go false h = rw length-append (omega arith)
+
+pub decimal-short : (n : ℕ) → length (decimal n) ≤ 20
+unfolding decimal
+decimal-short n = digits-few 20 n
 
 one-digit : (places n : ℕ) → n < 10 → digits (suc places) n ≡ (48 + n % 10) ∷ []
 unfolding digits

@@ -1,13 +1,13 @@
-// The lines that `lenscheck` and `sheet` print of a program and `tally` of a put, put into a buffer part by part. Each function answers the place behind what it put.
+// Texts and numbers put into a buffer, and the lines that `lenscheck` and `sheet` print of a program and `tally` of a put, put there part by part. Each function answers the place behind what it put.
 use texts::write_text;
 ghost use mathlib.Core.Path.{_≡_};
 ghost use Prim.Native.Nat.{_+_, _≤_};
 ghost use lib.ListN.{length};
-ghost use Rattle.semantics.specs.Calls.{field};
+ghost use Rattle.semantics.specs.Calls.{decimal, field};
 ghost use Rattle.semantics.specs.Tally.{countsLine};
 ghost use Rattle.lines.specs.Line.{Puts, acceptedLine, refusedLine, counts};
 
-fn put_text(text: &[u8], at: usize, out: &mut [u8]) -> usize
+pub fn put_text(text: &[u8], at: usize, out: &mut [u8]) -> usize
     requires { ⌜ at + length (now text) ≤ length (now out) ⌝ }
     ensures { λ r. ⌜ Puts (now (text .entry)) at r (now (out .entry)) (now (out .exit)) ⌝ }
 {
@@ -15,16 +15,31 @@ fn put_text(text: &[u8], at: usize, out: &mut [u8]) -> usize
     at + text.len()
 }
 
-// A space and a number, which has at most 20 digits.
+// How many digits a number has, which are at most 20.
+pub fn digit_count(number: usize) -> usize
+    ensures { λ r. ⌜ r ≡ length (decimal number) ⌝ }
+{
+    let mut digits = [0u8; 20];
+    io::decimal(number as u64, &mut digits)
+}
+
+pub fn put_number(number: usize, at: usize, out: &mut [u8]) -> usize
+    requires { ⌜ at + length (decimal number) ≤ length (now out) ⌝ }
+    ensures { λ r. ⌜ Puts (decimal number) at r (now (out .entry)) (now (out .exit)) ⌝ }
+{
+    let mut digits = [0u8; 20];
+    let n = io::decimal(number as u64, &mut digits);
+    put_text(&digits[0..n], at, out)
+}
+
+// A space and a number.
 fn put_field(number: usize, at: usize, out: &mut [u8]) -> usize
     requires { ⌜ at + 21 ≤ length (now out) ⌝ }
     ensures puts { λ r. ⌜ Puts (field number) at r (now (out .entry)) (now (out .exit)) ⌝ }
     ensures short { λ r. ⌜ r ≤ at + 21 ⌝ }
 {
     let next = put_text(b" ", at, out);
-    let mut digits = [0u8; 20];
-    let n = io::decimal(number as u64, &mut digits);
-    put_text(&digits[0..n], next, out)
+    put_number(number, next, out)
 }
 
 // The line of an accepted program, at the start of the buffer.

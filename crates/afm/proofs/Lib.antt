@@ -1,0 +1,3 @@
+-- What the functions of this crate know as they go.
+mod Measuring
+mod Putting
