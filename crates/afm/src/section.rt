@@ -1,6 +1,6 @@
 // The first and the last line of a section.
 use crate::TEXT;
-use fields::begins_with;
+use fields::ends_at;
 use fields::number_at;
 use fields::starts_with;
 use fields::word_length;
@@ -18,7 +18,7 @@ pub fn start_line(text: &[u8]) -> Start
     let at = word_length(b"StartKernPairs", text);
     let found = number_at(TEXT, &text[at..]);
     let end = at + found.count;
-    if at < end && begins_with(10, &text[end..]) {
+    if ends_at(text, at, end) {
         return Start {
             next: end + 1,
             count: found.number,

@@ -159,7 +159,7 @@ finish-full {result} {before} {wrote} e =
         refused 16 (gives text) refl (lt-ltb (min (length before) maxText) (length text) large)
 
 -- a text that is given
-given :
+pub given :
     {text before after : Text} {n : ℕ} → n ≡ length text → after ≡ text ++ drop (length text) before → GivesText (gives text) before after (Result n)
 unfolding answerFor bufferAfter
 given n-is after-is = record { answer-is = ap Result n-is; buffer-is = after-is }

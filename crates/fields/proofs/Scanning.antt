@@ -17,7 +17,7 @@ use Rattle.sections.specs.Splitting.{each-both, LegalName, name-of, LegalNumber
 use Rattle.fields.specs.declared.Digits.{Digits}
 use Rattle.fields.specs.declared.Line.{Line}
 use Rattle.fields.specs.declared.Form.the-variants.{Kpx, Sheet}
-use Rattle.fields.specs.Scan.{run, front, lengthIf, nameLength, grown, cappedFrom, numberIn, valueFront, valueLength, separatorLength, isPair}
+use Rattle.fields.specs.Scan.{run, front, lengthIf, nameLength, grown, cappedFrom, numberIn, valueFront, valueLength, separatorLength, endsAt, isPair}
 use Rattle.fields.specs.Runs.{run-more, run-over, run-none, run-within, front-length, front-each, length-if-true, length-if-false, word-within}
 
 -- ---- One byte
@@ -380,7 +380,7 @@ module _ (t : Text) (line : Line) where
   rights = ltb (line .right) (line .behind) && ltb (line .behind) (line .value)
 
   abbrev values : Bool
-  values = ltb (line .value) (line .end) && beginsWith 10 (drop (line .end) t)
+  values = endsAt t (line .value) (line .end)
 
   pub no-left : lefts ≡ false → false ≡ isPair t line
   unfolding isPair
@@ -390,14 +390,17 @@ module _ (t : Text) (line : Line) where
   unfolding isPair
   no-right e = second-fails lefts rights values e
 
-  module _ (l : lefts ≡ true) (r : rights ≡ true) where
-    pub no-value : line .end ≤ line .value → ltb (line .value) (line .end) ≡ isPair t line
-    unfolding isPair
-    no-value h =
-        let e = le-ltb (line .value) (line .end) h in
-        e ∙ ap (λ b. b && beginsWith 10 (drop (line .end) t)) (sym e) ∙ third-tells lefts rights values l r
+  pub value-tells : lefts ≡ true → rights ≡ true → values ≡ isPair t line
+  unfolding isPair
+  value-tells l r = third-tells lefts rights values l r
 
-    pub ended-told : line .value < line .end → beginsWith 10 (drop (line .end) t) ≡ isPair t line
-    unfolding isPair
-    ended-told h =
-        ap (λ b. b && beginsWith 10 (drop (line .end) t)) (sym (lt-ltb (line .value) (line .end) h)) ∙ third-tells lefts rights values l r
+module _ (t : Text) (from end : ℕ) where
+  pub nothing-between : end ≤ from → ltb from end ≡ endsAt t from end
+  unfolding endsAt
+  nothing-between h =
+      let e = le-ltb from end h in
+      e ∙ ap (λ b. b && beginsWith 10 (drop end t)) (sym e)
+
+  pub newline-tells : from < end → beginsWith 10 (drop end t) ≡ endsAt t from end
+  unfolding endsAt
+  newline-tells h = ap (λ b. b && beginsWith 10 (drop end t)) (sym (lt-ltb from end h))

@@ -18,7 +18,7 @@ use Rattle.sections.specs.Splitting.{isNot, isSpace, is-not, not-is, space-is, 
 use Rattle.fields.specs.declared.Form.{Form}
 use Rattle.fields.specs.declared.Form.the-variants.{Kpx, Sheet}
 use Rattle.fields.specs.declared.Line.{Line}
-use Rattle.fields.specs.Scan.{run, front, lengthIf, nameLength, valueFront, valueLength, separatorLength, wordLength, leadLength, LineAt, isPair}
+use Rattle.fields.specs.Scan.{run, front, lengthIf, nameLength, valueFront, valueLength, separatorLength, wordLength, leadLength, LineAt, endsAt, isPair}
 use Rattle.fields.specs.Runs.{run-passes, run-ends, run-within, front-length, run-each, front-each, length-if-true, length-if-false, word-length-true, word-length-false, word-within, lead-within}
 use Rattle.fields.specs.Shapes.{formOf, Separates, AfterWord, Leads, Body, bodyOf, Shape, shape-read, read-shape}
 
@@ -30,7 +30,7 @@ run-through test (b ∷ s) u h e =
     let (first, later) = each-both test b s h in
     run-passes test b (s ++ u) first ∙ ap suc (run-through test s u later e)
 
-front-through : (test : ℕ → Bool) (s u : Text) → each test s ≡ true → run test u ≡ 0 → front test (s ++ u) ≡ s
+pub front-through : (test : ℕ → Bool) (s u : Text) → each test s ≡ true → run test u ≡ 0 → front test (s ++ u) ≡ s
 unfolding front
 front-through test s u h e = ap (λ (n : ℕ). take n (s ++ u)) (run-through test s u h e) ∙ take-append-seam s u
 
@@ -62,7 +62,7 @@ newline-digit : isDigit newline ≡ false
 unfolding isDigit
 newline-digit = refl
 
-newline-no-digit : (u : Text) → run isDigit (newline ∷ u) ≡ 0
+pub newline-no-digit : (u : Text) → run isDigit (newline ∷ u) ≡ 0
 newline-no-digit u = run-not isDigit newline u newline-digit
 
 value-front-read : (v u : Text) → isValue v ≡ true → run isDigit u ≡ 0 → valueFront (v ++ u) ≡ v
@@ -100,18 +100,21 @@ separator-read Kpx s u sep clear = run-through isSpace s u (sep .0) (no-spaces u
 separator-read Sheet s u sep clear =
     ap (λ (x : Text). cond (beginsWith semicolon (x ++ u)) 1 0) sep ∙ ap length (sym sep)
 
+pub word-read : (word s u : Text) → Separates Kpx s → beginsWith space u ≡ false → wordLength word (word ++ (s ++ u)) ≡ length word + length s
+unfolding Separates
+word-read word s u sep clear =
+    let spaces : run isSpace (drop (length word) (word ++ (s ++ u))) ≡ length s =
+    ap (run isSpace) (drop-append-seam word (s ++ u)) ∙ run-through isSpace s u (sep .0) (no-spaces u clear) in
+    let there : sameText (take (length word) (word ++ (s ++ u))) word ≡ true =
+    ap (λ (x : Text). sameText x word) (take-append-seam word (s ++ u)) ∙ sameText-refl word in
+    word-length-true word (word ++ (s ++ u)) there (omega (arith, spaces, sep .1)) ∙ ap (λ (n : ℕ). length word + n) spaces
+
 lead-read : (form : Form) (lead u : Text) → Leads form lead → beginsWith space u ≡ false → leadLength form (lead ++ u) ≡ length lead
-unfolding Leads leadLength Separates
+unfolding Leads leadLength
 lead-read Kpx lead u leads clear =
     let s = leads .spaces in
-    let whole : lead ++ u ≡ kpxWord ++ (s ++ u) = ap (λ (x : Text). x ++ u) (leads .lead-is) ∙ append-assoc kpxWord s u in
-    let spaces : run isSpace (drop (length kpxWord) (kpxWord ++ (s ++ u))) ≡ length s =
-    ap (run isSpace) (drop-append-seam kpxWord (s ++ u)) ∙ run-through isSpace s u (leads .separates .0) (no-spaces u clear) in
-    let word : sameText (take (length kpxWord) (kpxWord ++ (s ++ u))) kpxWord ≡ true =
-    ap (λ (x : Text). sameText x kpxWord) (take-append-seam kpxWord (s ++ u)) ∙ sameText-refl kpxWord in
-    ap (wordLength kpxWord) whole
-    ∙ word-length-true kpxWord (kpxWord ++ (s ++ u)) word (omega (arith, spaces, leads .separates .1))
-    ∙ ap (λ (n : ℕ). length kpxWord + n) spaces
+    ap (wordLength kpxWord) (ap (λ (x : Text). x ++ u) (leads .lead-is) ∙ append-assoc kpxWord s u)
+    ∙ word-read kpxWord s u (leads .separates) clear
     ∙ sym (ap length (leads .lead-is) ∙ length-append kpxWord s)
 lead-read Sheet lead u leads clear = ap length (sym leads)
 
@@ -128,7 +131,7 @@ regroup :
 regroup a b c d e f g = simp (append-assoc) refl
 
 -- the place behind a part, and what is there
-behind-part : (t w u : Text) (a n : ℕ) → drop a t ≡ w ++ u → n ≡ length w → drop (a + n) t ≡ u
+pub behind-part : (t w u : Text) (a n : ℕ) → drop a t ≡ w ++ u → n ≡ length w → drop (a + n) t ≡ u
 behind-part t w u a n e h =
     ap (λ (k : ℕ). drop (a + k) t) h ∙ sym (drop-drop (length w) a t) ∙ ap (drop (length w)) e ∙ drop-append-seam w u
 
@@ -200,7 +203,7 @@ module _ (form : Form) (t line rest : Text) (p : Pair) (at : Line) where
     at-end = ap (λ (n : ℕ). drop n t) (places .end-is) ∙ behind-part t (p .value) (newline ∷ rest) (at .value) (valueLength (drop (at .value) t)) at-value value-length
 
     shape-found : isPair t at ≡ true
-    unfolding isPair beginsWith
+    unfolding isPair endsAt beginsWith
     shape-found =
         let lefts = and-of (ltb (at .left) (at .between)) (ltb (at .between) (at .right)) (rising (at .left) (at .between) (length (p .left)) (places .between-is ∙ ap (λ (n : ℕ). at .left + n) left-length) (name-some (p .left) (body .left-name))) (rising (at .between) (at .right) (length (body .first)) (places .right-is ∙ ap (λ (n : ℕ). at .between + n) first-length) (separator-some form (body .first) (body .first-separates))) in
         let rights = and-of (ltb (at .right) (at .behind)) (ltb (at .behind) (at .value)) (rising (at .right) (at .behind) (length (p .right)) (places .behind-is ∙ ap (λ (n : ℕ). at .right + n) right-length) (name-some (p .right) (body .right-name))) (rising (at .behind) (at .value) (length (body .second)) (places .value-is ∙ ap (λ (n : ℕ). at .behind + n) second-length) (separator-some form (body .second) (body .second-separates))) in
@@ -240,7 +243,7 @@ value-found u h = go (isValue (valueFront u)) refl
         ap (λ (n : ℕ). isValue (take n u)) (length-if-true isValue (valueFront u) e) ∙ ap isValue (sym (value-front-taken u)) ∙ e
     go false e = absurd (omega (arith, length-if-false isValue (valueFront u) e))
 
-begins-one : (m : ℕ) (u : Text) → beginsWith m u ≡ true → (u ≡ m ∷ drop 1 u) × (take 1 u ≡ m ∷ [])
+pub begins-one : (m : ℕ) (u : Text) → beginsWith m u ≡ true → (u ≡ m ∷ drop 1 u) × (take 1 u ≡ m ∷ [])
 begins-one m [] e = absurd (true≢false (sym e ∙ begins-none m))
 begins-one m (b ∷ u) e =
     let b-is : b ≡ m = eqb-true b m (sym (begins-at m b u) ∙ e) in
@@ -255,40 +258,37 @@ separator-found Sheet u h = go (beginsWith semicolon u) refl h
     go true e k = begins-one semicolon u e .1
     go false e k = absurd (omega arith)
 
-word-found : (t : Text) → wordLength kpxWord t < length t → AfterWord (take (wordLength kpxWord t) t)
+pub word-found : (word t : Text) → wordLength word t < length t → AfterWord word (take (wordLength word t) t)
 unfolding Separates
-word-found t h = go (sameText (take (length kpxWord) t) kpxWord) refl (ltb 0 (run isSpace (drop (length kpxWord) t))) refl
+word-found word t h = go (sameText (take (length word) t) word) refl (ltb 0 (run isSpace (drop (length word) t))) refl
   where
-    behind : Text
-    behind = drop (length kpxWord) t
-
-    go : (a : Bool) → sameText (take (length kpxWord) t) kpxWord ≡ a → (b : Bool) → ltb 0 (run isSpace (drop (length kpxWord) t)) ≡ b → AfterWord (take (wordLength kpxWord t) t)
+    go : (a : Bool) → sameText (take (length word) t) word ≡ a → (b : Bool) → ltb 0 (run isSpace (drop (length word) t)) ≡ b → AfterWord word (take (wordLength word t) t)
     go true e true k =
-        let some = ltb-true 0 (run isSpace (drop (length kpxWord) t)) k in
-        let long = word-length-true kpxWord t e some in
+        let some = ltb-true 0 (run isSpace (drop (length word) t)) k in
+        let long = word-length-true word t e some in
         record {
-          spaces = take (run isSpace (drop (length kpxWord) t)) (drop (length kpxWord) t);
+          spaces = take (run isSpace (drop (length word) t)) (drop (length word) t);
           lead-is =
               ap (λ (n : ℕ). take n t) long
-              ∙ take-add (length kpxWord) (run isSpace (drop (length kpxWord) t)) t
-              ∙ ap (λ (x : Text). x ++ take (run isSpace (drop (length kpxWord) t)) (drop (length kpxWord) t)) (sameText-eq (take (length kpxWord) t) kpxWord e);
+              ∙ take-add (length word) (run isSpace (drop (length word) t)) t
+              ∙ ap (λ (x : Text). x ++ take (run isSpace (drop (length word) t)) (drop (length word) t)) (sameText-eq (take (length word) t) word e);
           separates = (
-            run-each isSpace (drop (length kpxWord) t),
-            omega (arith, length-take-le (run isSpace (drop (length kpxWord) t)) (drop (length kpxWord) t) (run-within isSpace (drop (length kpxWord) t)), some),
+            run-each isSpace (drop (length word) t),
+            omega (arith, length-take-le (run isSpace (drop (length word) t)) (drop (length word) t) (run-within isSpace (drop (length word) t)), some),
           );
         }
     go true e false k =
-        let none = ltb-false 0 (run isSpace (drop (length kpxWord) t)) k in
-        absurd (omega (arith, word-length-false kpxWord t (inr (omega arith))))
-    go false e b k = absurd (omega (arith, word-length-false kpxWord t (inl e)))
+        let none = ltb-false 0 (run isSpace (drop (length word) t)) k in
+        absurd (omega (arith, word-length-false word t (inr (omega arith))))
+    go false e b k = absurd (omega (arith, word-length-false word t (inl e)))
 
 lead-found : (form : Form) (t : Text) → leadLength form t < length t → Leads form (take (leadLength form t) t)
 unfolding leadLength Leads
-lead-found Kpx t h = word-found t h
+lead-found Kpx t h = word-found kpxWord t h
 lead-found Sheet t h = refl
 
 -- from one place to the next
-cut : (t : Text) (a b n : ℕ) → b ≡ a + n → drop a t ≡ take n (drop a t) ++ drop b t
+pub cut : (t : Text) (a b n : ℕ) → b ≡ a + n → drop a t ≡ take n (drop a t) ++ drop b t
 cut t a b n e = sym (take-append-drop n (drop a t)) ∙ ap (λ (x : Text). take n (drop a t) ++ x) (drop-drop n a t ∙ ap (λ (k : ℕ). drop k t) (sym e))
 
 -- ---- No newline is in such a line
@@ -296,7 +296,7 @@ cut t a b n e = sym (take-append-drop n (drop a t)) ∙ ap (λ (x : Text). take 
 spaces-clean : (s : Text) → each isSpace s ≡ true → each (isNot newline) s ≡ true
 spaces-clean s e = each-weaker isSpace (isNot newline) (λ b h. not-is newline b (ap (λ (c : ℕ). eqb c newline) (eqb-true b space (space-is b h)))) s e
 
-separator-clean : (form : Form) (s : Text) → Separates form s → each (isNot newline) s ≡ true
+pub separator-clean : (form : Form) (s : Text) → Separates form s → each (isNot newline) s ≡ true
 unfolding Separates each isNot
 separator-clean Kpx s sep = spaces-clean s (sep .0)
 separator-clean Sheet s sep = ap (each (isNot newline)) sep
@@ -346,7 +346,7 @@ pub record Rises (t : Text) (at : Line) : Type 0 where
   pub ends : beginsWith newline (drop (at .end) t) ≡ true
 
 pub pair-rises : (t : Text) (at : Line) → isPair t at ≡ true → Rises t at
-unfolding isPair
+unfolding isPair endsAt
 pair-rises t at e =
     let (names, values) = and-both ((ltb (at .left) (at .between) && ltb (at .between) (at .right)) && (ltb (at .right) (at .behind) && ltb (at .behind) (at .value))) (ltb (at .value) (at .end) && beginsWith newline (drop (at .end) t)) e in
     let (lefts, rights) = and-both (ltb (at .left) (at .between) && ltb (at .between) (at .right)) (ltb (at .right) (at .behind) && ltb (at .behind) (at .value)) names in

@@ -86,9 +86,13 @@ pub record LineAt (form : Form) (t : Text) (line : Line) : Type 0 where
   pub end-is : line .end ≡ line .value + valueLength (drop (line .value) t)
   pub within : line .end ≤ length t
 
+-- a field between two places, and the newline behind it
+unfoldable pub endsAt : Text → ℕ → ℕ → Bool
+endsAt t from end = ltb from end && beginsWith newline (drop end t)
+
 -- all of them are there, and the newline behind them
 unfoldable pub isPair : Text → Line → Bool
 isPair t line =
     (ltb (line .left) (line .between) && ltb (line .between) (line .right))
     && (ltb (line .right) (line .behind) && ltb (line .behind) (line .value))
-    && (ltb (line .value) (line .end) && beginsWith newline (drop (line .end) t))
+    && endsAt t (line .value) (line .end)

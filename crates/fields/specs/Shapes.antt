@@ -22,14 +22,15 @@ unfoldable pub Separates : Form → Text → Type 0
 Separates Kpx s = (each isSpace s ≡ true) × (1 ≤ length s)
 Separates Sheet s = s ≡ semicolon ∷ []
 
--- the word and spaces, or nothing
-pub record AfterWord (lead : Text) : Type 0 where
+-- a word and spaces
+pub record AfterWord (word lead : Text) : Type 0 where
   pub spaces : Text
-  pub lead-is : lead ≡ kpxWord ++ spaces
+  pub lead-is : lead ≡ word ++ spaces
   pub separates : Separates Kpx spaces
 
+-- the word, or nothing
 unfoldable pub Leads : Form → Text → Type 0
-Leads Kpx lead = AfterWord lead
+Leads Kpx lead = AfterWord kpxWord lead
 Leads Sheet lead = lead ≡ []
 
 abbrev pub bodyOf : Text → Text → Text → Text → Text → Text
@@ -58,12 +59,12 @@ unfoldable pub fieldsIn : Form → Text → List Text
 fieldsIn Kpx line = split space (squeezed line)
 fieldsIn Sheet line = split semicolon line
 
-abbrev separatorOf : Form → ℕ
+abbrev pub separatorOf : Form → ℕ
 separatorOf Kpx = space
 separatorOf Sheet = semicolon
 
 -- a field, what separates it, and what is behind
-fields-more :
+pub fields-more :
     (form : Form) (w s u : Text)
     → each (isNot (separatorOf form)) w ≡ true
     → Separates form s
@@ -76,21 +77,21 @@ fields-more Kpx w s u clean sep clear =
 fields-more Sheet w s u clean sep clear =
     ap (λ (x : Text). split semicolon (w ++ (x ++ u))) sep ∙ split-field semicolon w u clean
 
-fields-last : (form : Form) (w : Text) → each (isNot (separatorOf form)) w ≡ true → fieldsIn form w ≡ w ∷ []
+pub fields-last : (form : Form) (w : Text) → each (isNot (separatorOf form)) w ≡ true → fieldsIn form w ≡ w ∷ []
 unfolding fieldsIn squeezed
 fields-last Kpx w clean =
     ap (split space) (ap squeezed (sym (append-nil w)) ∙ squeezed-word w [] clean ∙ append-nil w) ∙ split-last space w clean
 fields-last Sheet w clean = split-last semicolon w clean
 
 -- the same, the other way round
-record More (form : Form) (line w f : Text) (fs : List Text) : Type 0 where
-  between : Text
-  behind : Text
-  line-is : line ≡ w ++ (between ++ behind)
-  separates : Separates form between
-  behind-is : fieldsIn form behind ≡ f ∷ fs
+pub record More (form : Form) (line w f : Text) (fs : List Text) : Type 0 where
+  pub between : Text
+  pub behind : Text
+  pub line-is : line ≡ w ++ (between ++ behind)
+  pub separates : Separates form between
+  pub behind-is : fieldsIn form behind ≡ f ∷ fs
 
-more-fields : (form : Form) (line w f : Text) (fs : List Text) → fieldsIn form line ≡ w ∷ f ∷ fs → More form line w f fs
+pub more-fields : (form : Form) (line w f : Text) (fs : List Text) → fieldsIn form line ≡ w ∷ f ∷ fs → More form line w f fs
 unfolding fieldsIn Separates
 more-fields Kpx line w f fs e =
     let first = split-more space (squeezed line) w f fs e in
@@ -106,7 +107,7 @@ more-fields Sheet line w f fs e =
     let first = split-more semicolon line w f fs e in
     record { between = semicolon ∷ []; behind = first .rest; line-is = first .line-is; separates = refl; behind-is = first .rest-is }
 
-last-field : (form : Form) (line w : Text) → fieldsIn form line ≡ w ∷ [] → line ≡ w
+pub last-field : (form : Form) (line w : Text) → fieldsIn form line ≡ w ∷ [] → line ≡ w
 unfolding fieldsIn
 last-field Kpx line w e = let (same, clean) = split-one space (squeezed line) w e in squeezed-one line w same clean
 last-field Sheet line w e = split-one semicolon line w e .0

@@ -8,7 +8,7 @@ ghost use lib.ListN.{length, take, drop};
 ghost use Rattle.semantics.specs.Text.{sameText};
 ghost use Rattle.sections.specs.Afm.{each, isNameByte, isDigit, leadingZero, beginsWith};
 ghost use Rattle.fields.specs.declared.Form.the-variants.{Sheet};
-ghost use Rattle.fields.specs.Scan.{isOf, run, nameLength, grown, cappedFrom, front, noNumber, numberIn, valueLength, separatorLength, wordLength, leadLength, LineAt, isPair};
+ghost use Rattle.fields.specs.Scan.{isOf, run, nameLength, grown, cappedFrom, front, noNumber, numberIn, valueLength, separatorLength, wordLength, leadLength, LineAt, endsAt, isPair};
 
 // Bytes of names, spaces, digits.
 pub enum Class {
@@ -280,14 +280,21 @@ pub fn is_pair(text: &[u8], line: Line) -> bool
     requires { ⌜ line .end ≤ length (now text) ⌝ }
     ensures { λ r. ⌜ r ≡ isPair (now (text .entry)) line ⌝ }
 {
-    let end = line.end;
     if !rises(line.left, line.between, line.right) {
         return false;
     }
     if !rises(line.right, line.behind, line.value) {
         return false;
     }
-    line.value < end && begins_with(10, &text[end..])
+    ends_at(text, line.value, line.end)
+}
+
+// Whether there is a field between two places, and behind it the end of the line.
+pub fn ends_at(text: &[u8], from: usize, end: usize) -> bool
+    requires { ⌜ end ≤ length (now text) ⌝ }
+    ensures { λ r. ⌜ r ≡ endsAt (now (text .entry)) from end ⌝ }
+{
+    from < end && begins_with(10, &text[end..])
 }
 
 fn rises(a: usize, b: usize, c: usize) -> bool

@@ -1,56 +1,44 @@
+-- `afm::import/import` meets its contract. Assumes nothing.
 use borrow.Author.Needs.{needs}
+use denote.Ref.{now}
+use native.Mathlib.Omega.{arith}
+use Rattle.texts.specs.Cutting.{rest-lent}
+use Rattle.afm.proofs.Answering.{import-long, import-first, import-behind}
 use Rattle.afm.proofs.import.import.Statement.{statement}
 use Rattle.afm.proofs.import.import.Tie as tie
-use Rattle.afm.proofs.import.import.Reads as reads
-use Rattle.afm.proofs.import.import.Lts as lts
-use Rattle.afm.proofs.import.import_pairs.Reads as import-pairs-reads
-use Rattle.afm.proofs.refuse_line.Reads as refuse-line-reads
-use Rattle.afm.proofs.section.start_line.Reads as start-line-reads
-use Rattle.answers.proofs.results.refuse.Reads as refuse-reads
 
--- src/import.rt:22:9
 refuse-requires : tie.Need-refuse-requires
 refuse-requires c κs = search needs
 
--- src/import.rt:22:9
 returns : tie.Need-returns
-returns c = ?
+returns c = import-long (now (c .before .before .before .before .args .section)) (c .before .if1 .taken) (c .refuse .ensures)
 
--- src/import.rt:24:9
 start-line-requires : tie.Need-start-line-requires
 start-line-requires c κs = search needs
 
--- src/import.rt:27:9
 refuse-line-requires : tie.Need-refuse-line-requires
 refuse-line-requires c κs = search needs
 
--- src/import.rt:27:9
 returns-2 : tie.Need-returns-2
-returns-2 c = ?
+returns-2 c = import-first (c .before .before .before .if1 .left) (c .before .before .start-line .ensures) (c .before .if2 .taken) (c .refuse-line .ensures)
 
--- src/import.rt:29:31
 sub-import-pairs : tie.Need-sub-import-pairs
 sub-import-pairs c = search needs
 
--- src/import.rt:29:31
 part-import-pairs-start : tie.Need-part-import-pairs-start
 part-import-pairs-start c = search needs
 
--- src/import.rt:29:31
 part-import-pairs-end : tie.Need-part-import-pairs-end
 part-import-pairs-end c = search needs
 
--- src/import.rt:29:5
 import-pairs-requires : tie.Need-import-pairs-requires
 import-pairs-requires c κs = search needs
 
--- src/import.rt:18:1
 same-length : tie.Need-same-length
 same-length c = search needs
 
--- src/import.rt:18:1
 returns-3 : tie.Need-returns-3
-returns-3 c = ?
+returns-3 c = import-behind (c .before .before .before .before .before .before .before .if1 .left) (c .before .before .before .before .before .before .start-line .ensures) (omega (arith, c .before .before .before .before .before .if2 .left)) (rw (rest-lent (now (c .before .before .before .before .before .before .before .before .before .before .args .section)) (c .before .before .before .before .before .before .start-line .result .next)) at (c .before .before .import-pairs .ensures))
 
 pub import-spec : {M : Type 1} → statement M
 import-spec =

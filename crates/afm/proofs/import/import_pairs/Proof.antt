@@ -1,82 +1,66 @@
+-- `afm::import/import_pairs` meets its contract. Assumes nothing.
 use borrow.Author.Needs.{needs}
+use denote.Ref.{now}
+use mathlib.Core.Path.{sym, _∙_}
+use native.Mathlib.Omega.{arith}
+use lib.ListN.{length}
+use Rattle.texts.specs.Cutting.{rest-lent}
+use Rattle.fields.specs.declared.Form.the-variants.{Kpx}
+use Rattle.afm.specs.Pairs.{linesFor}
+use Rattle.afm.proofs.Answering.{import-bad, import-count, import-good, sheet-long, output-over, output-room, output-put}
 use Rattle.afm.proofs.import.import_pairs.Statement.{statement}
 use Rattle.afm.proofs.import.import_pairs.Tie as tie
-use Rattle.afm.proofs.import.import_pairs.Reads as reads
-use Rattle.afm.proofs.import.import_pairs.Lts as lts
-use Rattle.afm.proofs.pairs.measure.Reads as measure-reads
-use Rattle.afm.proofs.pairs.put_lines.Reads as put-lines-reads
-use Rattle.afm.proofs.refuse_line.Reads as refuse-line-reads
-use Rattle.afm.proofs.section.end_fault.Reads as end-fault-reads
-use Rattle.afm.proofs.too_long.Reads as too-long-reads
-use Rattle.answers.proofs.results.refuse.Reads as refuse-reads
 
--- src/import.rt:37:9
 measure-requires : tie.Need-measure-requires
 measure-requires c κs = search needs
 
--- src/import.rt:39:27
 sub-end-fault : tie.Need-sub-end-fault
 sub-end-fault c = search needs
 
--- src/import.rt:39:27
 part-end-fault-start : tie.Need-part-end-fault-start
 part-end-fault-start c = search needs
 
--- src/import.rt:39:27
 part-end-fault-end : tie.Need-part-end-fault-end
 part-end-fault-end c = search needs
 
--- src/import.rt:39:9
 end-fault-requires : tie.Need-end-fault-requires
 end-fault-requires c κs = search needs
 
--- src/import.rt:41:28
 add-refuse-line : tie.Need-add-refuse-line
 add-refuse-line c = search needs
 
--- src/import.rt:41:28
 add-refuse-line-2 : tie.Need-add-refuse-line-2
 add-refuse-line-2 c = search needs
 
--- src/import.rt:41:9
 refuse-line-requires : tie.Need-refuse-line-requires
 refuse-line-requires c κs = search needs
 
--- src/import.rt:41:9
 returns : tie.Need-returns
-returns c = ?
+returns c = import-bad (c .before .before .before .before .before .before .before .before .args .count) (c .before .before .before .before .before .measure .ensures) (rw (rest-lent (now (c .before .before .before .before .before .before .before .before .args .lines)) (c .before .before .before .before .before .measure .result .end)) at (c .before .before .before .end-fault .ensures)) (c .before .before .if1 .taken) (c .refuse-line .ensures)
 
--- src/import.rt:44:9
 refuse-requires : tie.Need-refuse-requires
 refuse-requires c κs = search needs
 
--- src/import.rt:44:9
 returns-2 : tie.Need-returns-2
-returns-2 c = ?
+returns-2 c = import-count (c .before .before .before .before .before .before .before .before .before .args .count) (c .before .before .before .before .before .before .measure .ensures) (rw (rest-lent (now (c .before .before .before .before .before .before .before .before .before .args .lines)) (c .before .before .before .before .before .before .measure .result .end)) at (c .before .before .before .before .end-fault .ensures)) (c .before .before .before .if1 .left) (c .before .if2 .taken) (c .refuse .ensures)
 
--- src/import.rt:47:8
 too-long-requires : tie.Need-too-long-requires
 too-long-requires c κs = search needs
 
--- src/import.rt:48:9
 refuse-requires-2 : tie.Need-refuse-requires-2
 refuse-requires-2 c κs = search needs
 
--- src/import.rt:48:9
 returns-3 : tie.Need-returns-3
-returns-3 c = ?
+returns-3 c = import-good (c .before .before .before .before .before .before .before .before .before .before .before .args .count) (c .before .before .before .before .before .before .before .before .measure .ensures) (rw (rest-lent (now (c .before .before .before .before .before .before .before .before .before .before .before .args .lines)) (c .before .before .before .before .before .before .before .before .measure .result .end)) at (c .before .before .before .before .before .before .end-fault .ensures)) (c .before .before .before .before .before .if1 .left) (c .before .before .before .if2 .left) (output-over (linesFor Kpx (now (c .before .before .before .before .before .before .before .before .before .before .before .args .lines))) (c .before .before .before .before .before .before .before .before .measure .result .bytes) (sheet-long (c .before .before .before .before .before .before .before .before .measure .ensures)) (sym (c .before .before .too-long .ensures) ∙ c .before .if3 .taken) (c .refuse2 .ensures))
 
--- src/import.rt:50:5
 put-lines-requires : tie.Need-put-lines-requires
-put-lines-requires c κs = ?
+put-lines-requires c κs = omega (arith, sheet-long (c .before .before .before .before .before .before .before .before .measure .ensures), output-room (length (now (c .before .before .before .before .before .before .before .before .before .before .before .args .out))) (c .before .before .before .before .before .before .before .before .measure .result .bytes) (sym (c .before .before .too-long .ensures) ∙ c .before .if3 .left))
 
--- src/import.rt:33:1
 same-length : tie.Need-same-length
 same-length c = search needs
 
--- src/import.rt:33:1
 returns-4 : tie.Need-returns-4
-returns-4 c = ?
+returns-4 c = import-good (c .before .before .before .before .before .before .before .before .before .before .before .before .before .before .args .count) (c .before .before .before .before .before .before .before .before .before .before .before .measure .ensures) (rw (rest-lent (now (c .before .before .before .before .before .before .before .before .before .before .before .before .before .before .args .lines)) (c .before .before .before .before .before .before .before .before .before .before .before .measure .result .end)) at (c .before .before .before .before .before .before .before .before .before .end-fault .ensures)) (c .before .before .before .before .before .before .before .before .if1 .left) (c .before .before .before .before .before .before .if2 .left) (output-put (c .before .before .before .before .before .before .before .before .before .before .before .measure .result .bytes) (sheet-long (c .before .before .before .before .before .before .before .before .before .before .before .measure .ensures)) (sym (c .before .before .before .before .before .too-long .ensures) ∙ c .before .before .before .before .if3 .left) (c .before .before .put-lines .ensures))
 
 pub import-pairs-spec : {M : Type 1} → statement M
 import-pairs-spec =

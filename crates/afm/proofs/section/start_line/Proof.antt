@@ -1,67 +1,48 @@
+-- `afm::section/start_line` meets its contract. Assumes nothing.
 use borrow.Author.Needs.{needs}
+use denote.Ref.{now}
+use mathlib.Core.Path.{sym, ap, _∙_}
+use native.Mathlib.Omega.{arith}
+use Rattle.sections.specs.Afm.{startWord, isDigit}
+use Rattle.texts.specs.Cutting.{rest-lent}
+use Rattle.fields.specs.Scan.{front, numberIn}
+use Rattle.fields.specs.Runs.{word-length-within}
+use Rattle.afm.proofs.Sections.{start-inside, starts-at, no-start}
 use Rattle.afm.proofs.section.start_line.Statement.{statement}
 use Rattle.afm.proofs.section.start_line.Tie as tie
-use Rattle.afm.proofs.section.start_line.Reads as reads
-use Rattle.afm.proofs.section.start_line.Lts as lts
-use Rattle.fields.proofs.begins_with.Reads as begins-with-reads
-use Rattle.fields.proofs.number_at.Reads as number-at-reads
-use Rattle.fields.proofs.word_length.Reads as word-length-reads
 
--- src/section.rt:18:26
 slice-aggregate-word-length : tie.Need-slice-aggregate-word-length
 slice-aggregate-word-length c = search needs
 
--- src/section.rt:18:9
 word-length-requires : tie.Need-word-length-requires
 word-length-requires c κs = search needs
 
--- src/section.rt:19:33
 sub-number-at : tie.Need-sub-number-at
-sub-number-at c = ?
+sub-number-at c = omega (arith, c .word-length .ensures, word-length-within startWord (now (c .before .before .before .args .text)))
 
--- src/section.rt:19:33
 part-number-at-start : tie.Need-part-number-at-start
-part-number-at-start c = ?
+part-number-at-start c = omega (arith, c .word-length .ensures, word-length-within startWord (now (c .before .before .before .args .text)))
 
--- src/section.rt:19:33
 part-number-at-end : tie.Need-part-number-at-end
 part-number-at-end c = search needs
 
--- src/section.rt:19:9
 number-at-requires : tie.Need-number-at-requires
 number-at-requires c κs = search needs
 
--- src/section.rt:20:15
 add-end : tie.Need-add-end
-add-end c = ?
+add-end c = omega (arith, start-inside (now (c .before .before .before .before .before .before .args .text)) (c .before .before .before .word-length .result) (c .before .number-at .result) (c .before .before .before .word-length .ensures) (c .before .number-at .ensures ∙ ap (λ t. numberIn 65535 (front isDigit t)) (rest-lent (now (c .before .before .before .before .before .before .args .text)) (c .before .before .before .word-length .result))), c .before .before .before .before .before .before .good)
 
--- src/section.rt:21:36
-sub-begins-with : tie.Need-sub-begins-with
-sub-begins-with c = ?
+ends-at-requires : tie.Need-ends-at-requires
+ends-at-requires c κs = start-inside (now (c .before .before .before .before .before .before .args .text)) (c .before .before .before .word-length .result) (c .before .number-at .result) (c .before .before .before .word-length .ensures) (c .before .number-at .ensures ∙ ap (λ t. numberIn 65535 (front isDigit t)) (rest-lent (now (c .before .before .before .before .before .before .args .text)) (c .before .before .before .word-length .result)))
 
--- src/section.rt:21:36
-part-begins-with-start : tie.Need-part-begins-with-start
-part-begins-with-start c = ?
+add-t13 : tie.Need-add-t13
+add-t13 c = omega (arith, starts-at (now (c .before .before .before .before .before .before .before .before .args .text)) (c .before .before .before .before .before .word-length .result) (c .before .before .before .number-at .result) (c .before .before .before .before .before .word-length .ensures) (c .before .before .before .number-at .ensures ∙ ap (λ t. numberIn 65535 (front isDigit t)) (rest-lent (now (c .before .before .before .before .before .before .before .before .args .text)) (c .before .before .before .before .before .word-length .result))) (sym (c .before .ends-at .ensures) ∙ c .if1 .taken) .within, c .before .before .before .before .before .before .before .before .good)
 
--- src/section.rt:21:36
-part-begins-with-end : tie.Need-part-begins-with-end
-part-begins-with-end c = search needs
-
--- src/section.rt:21:20
-begins-with-requires : tie.Need-begins-with-requires
-begins-with-requires c κs = search needs
-
--- src/section.rt:23:19
-add-t18 : tie.Need-add-t18
-add-t18 c = ?
-
--- src/section.rt:22:9
 returns : tie.Need-returns
-returns c = ?
+returns c = starts-at (now (c .before .before .before .before .before .before .before .before .args .text)) (c .before .before .before .before .before .word-length .result) (c .before .before .before .number-at .result) (c .before .before .before .before .before .word-length .ensures) (c .before .before .before .number-at .ensures ∙ ap (λ t. numberIn 65535 (front isDigit t)) (rest-lent (now (c .before .before .before .before .before .before .before .before .args .text)) (c .before .before .before .before .before .word-length .result))) (sym (c .before .ends-at .ensures) ∙ c .if1 .taken)
 
--- src/section.rt:15:1
 returns-2 : tie.Need-returns-2
-returns-2 c = ?
+returns-2 c = no-start (now (c .before .before .before .before .before .before .before .before .args .text)) (c .before .before .before .before .before .word-length .result) (c .before .before .before .number-at .result) (c .before .before .before .before .before .word-length .ensures) (c .before .before .before .number-at .ensures ∙ ap (λ t. numberIn 65535 (front isDigit t)) (rest-lent (now (c .before .before .before .before .before .before .before .before .args .text)) (c .before .before .before .before .before .word-length .result))) (sym (c .before .ends-at .ensures) ∙ c .if1 .left)
 
 pub start-line-spec : {M : Type 1} → statement M
 start-line-spec =
@@ -74,10 +55,7 @@ start-line-spec =
     part-number-at-end
     number-at-requires
     add-end
-    sub-begins-with
-    part-begins-with-start
-    part-begins-with-end
-    begins-with-requires
-    add-t18
+    ends-at-requires
+    add-t13
     returns
     returns-2)
