@@ -1,12 +1,13 @@
 /*
- * noontrough.h: the sheet engine's five calls.
+ * noontrough.h: the sheet engine's seven calls.
  *
  * A lens program turns a source into a sheet (get), and an edited sheet back
  * into a source (put, create). A program that could read some text in two ways is
  * refused (check), and such a text is shown (clash). A program is a table of
  * bytes, made for instance by `noontrough assemble`; docs/GUIDE.md says how to
- * write one. Texts are bytes, with no terminating zero: a zero byte is a byte like
- * any other.
+ * write one. Two calls need no program: they turn the pairs of Adobe's metrics
+ * (AFM) into the lines of a sheet, and the lines of a sheet into such pairs. Texts
+ * are bytes, with no terminating zero: a zero byte is a byte like any other.
  *
  * What holds for every call:
  *
@@ -25,9 +26,10 @@
  *          every slice. The program is checked anew on each call.
  * Stack    At most NOONTROUGH_STACK_BYTES bytes, clash at most
  *          NOONTROUGH_CLASH_STACK_BYTES, and check and get at most
- *          NOONTROUGH_READ_STACK_BYTES; most calls take far less. This can be more
- *          than the threads of some systems and languages are given; a call that
- *          finds too little may end the process.
+ *          NOONTROUGH_READ_STACK_BYTES; most calls take far less, and those for
+ *          Adobe's metrics next to nothing. This can be more than the threads of
+ *          some systems and languages are given; a call that finds too little may
+ *          end the process.
  * Threads  The engine has no state of its own. Calls may run at the same time,
  *          also on the same table and texts, as long as no other thread writes
  *          to a slice that a call was given.
@@ -43,12 +45,18 @@ extern "C" {
 #endif
 
 /* The longest source, sheet and result, in bytes. An output buffer of this
- * length is always long enough for a result that the engine can give. */
+ * length is always long enough for a result that the engine can give. (Not so for
+ * a clash and for Adobe's metrics, which have limits of their own.) */
 #define NOONTROUGH_MAX_TEXT 4096
 
 /* The longest text that a clash can have, in bytes. An output buffer of this
  * length is never too short for one. */
 #define NOONTROUGH_MAX_CLASH 16512
+
+/* The longest section of Adobe's metrics, and the longest sheet beside it, in
+ * bytes. An output buffer of this length is always long enough for a result that
+ * the engine can give. */
+#define NOONTROUGH_MAX_AFM 65535
 
 /* The most entries that the old source of a put may have. */
 #define NOONTROUGH_MAX_ENTRIES 256
@@ -72,7 +80,9 @@ extern "C" {
 /*
  * The refusals. They are tried in this order: the program (1 to 11), the texts
  * (12 to 14), the number of old entries (15), the room for the result (16; of a
- * clash 17). docs/GUIDE.md explains each by an example.
+ * clash 17). The calls for Adobe's metrics have no program; they try the length
+ * of the text (12), its lines (18), its count (19) and the room (16), in this
+ * order. docs/GUIDE.md explains each by an example.
  */
 enum noontrough_refusal {
     NOONTROUGH_SIZES_WRONG = 1,           /* node count, pool length or table length wrong */
@@ -86,18 +96,22 @@ enum noontrough_refusal {
     NOONTROUGH_UNION_OVERLAP = 9,         /* a text is a source of both arms of a union */
     NOONTROUGH_SOURCE_REPEAT_CUTS = 10,   /* a repeat: empty part or two cuts, in the source */
     NOONTROUGH_SHEET_REPEAT_CUTS = 11,    /* a repeat: empty part or two cuts, in the sheet */
-    NOONTROUGH_TEXT_TOO_LONG = 12,        /* source or sheet over 4,096 bytes */
+    NOONTROUGH_TEXT_TOO_LONG = 12,        /* a text over 4,096 bytes (AFM: 65,535) */
     NOONTROUGH_NOT_A_SOURCE = 13,         /* the source is none of this program */
     NOONTROUGH_NOT_A_SHEET = 14,          /* the sheet is none of this program */
     NOONTROUGH_TOO_MANY_ENTRIES = 15,     /* the old source of a put has over 256 entries */
-    NOONTROUGH_RESULT_TOO_LONG = 16,      /* the result is longer than `out`, or than 4,096 bytes */
-    NOONTROUGH_CLASH_TOO_LONG = 17        /* the text that shows a clash is longer than `out` */
+    NOONTROUGH_RESULT_TOO_LONG = 16,      /* the result passes `out` or 4,096 bytes (AFM: 65,535) */
+    NOONTROUGH_CLASH_TOO_LONG = 17,       /* the text that shows a clash is longer than `out` */
+    NOONTROUGH_BAD_LINE = 18,             /* AFM: a line not of its form; the node is its number */
+    NOONTROUGH_COUNT_WRONG = 19           /* AFM: the count is not the number of pairs */
 };
 
-/* What check, get and create answer. What does not apply is 0. */
+/* What check, get, create and the calls for Adobe's metrics answer. What does not
+ * apply is 0. */
 struct noontrough_answer {
-    uint64_t number; /* 0 for a result, else the refusal, 1 to 16 */
-    uint64_t node;   /* for a refusal from 2 to 11, the node concerned, counted from 0; else 0 */
+    uint64_t number; /* 0 for a result, else the refusal, 1 to 16, 18 or 19 */
+    uint64_t node;   /* for a refusal from 2 to 11, the node concerned, counted from 0; for 18
+                        the number of the line, counted from 1; else 0 */
     uint64_t length; /* for a result, its length in bytes (check: the number of nodes); else 0 */
 };
 
@@ -211,6 +225,51 @@ struct noontrough_answer noontrough_create(uint8_t const *table, size_t table_le
  */
 struct noontrough_clash_answer noontrough_clash(uint8_t const *table, size_t table_len,
                                                 uint8_t *out, size_t out_len);
+
+/*
+ * Gives the sheet of a section of Adobe's metrics (AFM): for each of its pairs, in
+ * their order, a line `left;right;value` that ends in a newline. No program is
+ * needed.
+ *
+ * section, section_len   the section, at most NOONTROUGH_MAX_AFM bytes
+ * out, out_len           where the sheet goes; the result must fit out_len, and
+ *                        section_len bytes are always enough
+ *
+ * A section is a line `StartKernPairs count`, any number of lines
+ * `KPX left right value`, the line `EndKernPairs` and nothing behind it. Each line
+ * ends in a newline. One space or more separate the words of a line, and no other
+ * spaces stand in it. A name has 1 to 63 bytes from 0x21 to 0x7E without `;`, a
+ * value is a whole number from -32768 to 32767, and the count one from 0 to 65535;
+ * none has a plus sign, leading zeros or a minus before nought.
+ *
+ * Result: the length is the sheet's. Refusals, in this order: 12 for a section over
+ * NOONTROUGH_MAX_AFM bytes; 18 at the first line not of its form, whose number,
+ * from 1, is the node (a line that is missing, one that has no newline and one
+ * behind EndKernPairs count as such lines); 19 if the count is not the number of
+ * pairs; 16. Nodes of 12, 16 and 19 are 0.
+ */
+struct noontrough_answer noontrough_afm_import(uint8_t const *section, size_t section_len,
+                                               uint8_t *out, size_t out_len);
+
+/*
+ * Gives the section of a sheet: the other way. One space separates the words of a
+ * line. From what it gives, noontrough_afm_import takes the same sheet; a section
+ * that is exported after import has every pair as it was, in the same order.
+ *
+ * sheet, sheet_len   the sheet, at most NOONTROUGH_MAX_AFM bytes: any number of
+ *                    lines `left;right;value`, each with a newline and none with a
+ *                    space, and names and values as above
+ * out, out_len       where the section goes; the result must fit out_len. It is
+ *                    longer than the sheet: for n lines it has
+ *                    sheet_len + 4 * n + 29 bytes and one more for each digit of n
+ *
+ * Result: the length is the section's. Refusals, in this order: 12 for a sheet over
+ * NOONTROUGH_MAX_AFM bytes; 18 at the first line not of its form, whose number,
+ * from 1, is the node; 16 if the section is longer than out_len or than
+ * NOONTROUGH_MAX_AFM bytes. Nodes of 12 and 16 are 0.
+ */
+struct noontrough_answer noontrough_afm_export(uint8_t const *sheet, size_t sheet_len,
+                                               uint8_t *out, size_t out_len);
 
 #ifdef __cplusplus
 }

@@ -9,6 +9,11 @@ belong together. Every text is bytes, and every call checks the program itself:
     create(table, sheet)        gives a source for a sheet alone
     clash(table)                shows why a program is refused with 7 to 11
 
+Two calls need no program; they are for the kerning of Adobe's metrics (AFM):
+
+    afm_import(section)         gives the sheet of a section
+    afm_export(sheet)           gives the section of a sheet
+
 The new source of a put has with it a tally of the entries kept, made and
 dropped. A clash is a text that the program could read in two ways. What the
 engine turns down is raised as a Refusal. This module only hands the bytes over;
@@ -25,7 +30,8 @@ from concurrent.futures import Future
 from typing import Any, Callable, Dict, NamedTuple, Optional, Tuple, Type, Union
 
 __all__ = [
-    "MAX_CLASH", "MAX_TEXT", "SENTENCES", "Clash", "NewSource", "Refusal", "Tally", "check", "clash", "create", "get", "put",
+    "AFM_SENTENCES", "MAX_AFM", "MAX_CLASH", "MAX_TEXT", "SENTENCES", "Clash", "NewSource", "Refusal", "Tally",
+    "afm_export", "afm_import", "check", "clash", "create", "get", "put",
 ]
 
 #: The longest source, sheet and result, in bytes.
@@ -33,6 +39,9 @@ MAX_TEXT = 4096
 
 #: The longest text that a clash can have, in bytes.
 MAX_CLASH = 16512
+
+#: The longest section of Adobe's metrics, and the longest sheet beside it, in bytes.
+MAX_AFM = 65535
 
 #: What each refusal means and what to do, in the words of the command line.
 SENTENCES: Dict[int, str] = {
@@ -70,6 +79,20 @@ SENTENCES: Dict[int, str] = {
         " divide the sheet or the source.",
     17: "The text that shows the clash is longer than the buffer:"
         " lend 16,512 bytes, which are always enough.",
+    18: "The line of this number is not of its form:"
+        " see what lines a section and a sheet have, and end each with a newline.",
+    19: "The count behind StartKernPairs is not the number of KPX lines:"
+        " correct it, or look for lines that are missing.",
+}
+
+#: The same for the calls without a program, whose texts may be longer.
+AFM_SENTENCES: Dict[int, str] = {
+    12: "The section or the sheet is longer than 65,535 bytes:"
+        " divide it between two lines, and give each section its own count.",
+    16: "The result would be longer than 65,535 bytes:"
+        " divide the sheet between two lines, and export each part.",
+    18: SENTENCES[18],
+    19: SENTENCES[19],
 }
 
 BytesLike = Union[bytes, bytearray, memoryview]
@@ -78,18 +101,19 @@ BytesLike = Union[bytes, bytearray, memoryview]
 class Refusal(Exception):
     """The engine's answer where it gives no result.
 
-    `number` is from 1 to 16; 17 is for a buffer that is too short for a clash, and
-    this module lends none. `node` is the node concerned for 2 to 11, counted from
-    0, and else 0. `sentence` says what the number means and what to do;
-    docs/GUIDE.md has an example of each.
+    `number` is from 1 to 16, 18 or 19; 17 is for a buffer that is too short for a
+    clash, and this module lends none. `node` is the node concerned for 2 to 11,
+    counted from 0, for 18 the number of the line, counted from 1, and else 0.
+    `sentence` says what the number means and what to do; docs/GUIDE.md has an
+    example of each.
     """
 
-    def __init__(self, number: int, node: int) -> None:
-        # Both go to Exception as they came, so that a refusal can be pickled.
+    def __init__(self, number: int, node: int, sentences: Dict[int, str] = SENTENCES) -> None:
+        # Both go to Exception as they came, so that a refusal can be pickled. A copy gets the sentence as it is here.
         super().__init__(number, node)
         self.number = number
         self.node = node
-        self.sentence = SENTENCES.get(number, "The engine gave a number that this module does not know.")
+        self.sentence = sentences.get(number, "The engine gave a number that this module does not know.")
 
     def __str__(self) -> str:
         return f"refused {self.number} {self.node}: {self.sentence}"
@@ -196,6 +220,30 @@ def clash(table: BytesLike) -> Optional[Clash]:
     return Clash(answer.number, answer.node, ctypes.string_at(out, answer.length), ends, arms)
 
 
+def afm_import(section: BytesLike) -> bytes:
+    """Gives the sheet of a section of Adobe's metrics: a line left;right;value for each pair, in their order.
+
+    A section is the part of an AFM file from the line StartKernPairs, with its
+    count, to the line EndKernPairs, and between them a line KPX left right value
+    for each pair.
+    """
+    return _afm("noontrough_afm_import", _copied("section", section))
+
+
+def afm_export(sheet: BytesLike) -> bytes:
+    """Gives the section of a sheet with lines left;right;value, from which afm_import takes the same sheet."""
+    return _afm("noontrough_afm_export", _copied("sheet", sheet))
+
+
+def _afm(function: str, text: bytes) -> bytes:
+    """Makes a call without a program. It needs next to no stack, so it is made on any thread."""
+    out = ctypes.create_string_buffer(MAX_AFM)
+    answer = getattr(_library(), function)(text, len(text), out, MAX_AFM)
+    if answer.number:
+        raise Refusal(answer.number, answer.node, AFM_SENTENCES)
+    return ctypes.string_at(out, answer.length)
+
+
 def _copied(name: str, value: BytesLike) -> bytes:
     """The bytes of an argument, as an object that no other thread can change during the call."""
     if type(value) is bytes:
@@ -271,6 +319,8 @@ _FUNCTIONS: Dict[str, Tuple[int, Type[ctypes.Structure]]] = {
     "noontrough_put": (4, _PutAnswer),
     "noontrough_create": (3, _Answer),
     "noontrough_clash": (2, _ClashAnswer),
+    "noontrough_afm_import": (2, _Answer),
+    "noontrough_afm_export": (2, _Answer),
 }
 
 _FOLDER = os.path.dirname(os.path.abspath(__file__))

@@ -16,7 +16,10 @@ from typing import List
 PACKAGE = Path(__file__).resolve().parent.parent
 ROOT = PACKAGE.parent.parent
 ARCHIVE = ROOT / "target/staticlib/libnoontrough.a"
-CALLS = ["noontrough_check", "noontrough_clash", "noontrough_create", "noontrough_get", "noontrough_put"]
+CALLS = [
+    "noontrough_afm_export", "noontrough_afm_import",
+    "noontrough_check", "noontrough_clash", "noontrough_create", "noontrough_get", "noontrough_put",
+]
 #: What the script runs, rt not among it.
 TOOLS = "cat", "cc", "dirname", "ld", "mktemp", "mv", "rm", "sh"
 

@@ -27,7 +27,9 @@ ROOT = PACKAGE.parent.parent
 sys.path[:0] = [str(PACKAGE), str(TESTS)]
 
 import noontrough  # noqa: E402
-from noontrough import Clash, NewSource, Refusal, Tally, check, clash, create, get, put  # noqa: E402
+from noontrough import (  # noqa: E402
+    Clash, NewSource, Refusal, Tally, afm_export, afm_import, check, clash, create, get, put,
+)
 from tables import Draft, k  # noqa: E402
 
 K = k()
@@ -353,6 +355,111 @@ class Clashes(Calls):
             self.assertEqual((other, other.text, other.arms, other.ends), (found, b"M", (2, 3), None))
 
 
+class Metrics(Calls):
+    """Adobe's metrics in and out, by hand from document 02's request."""
+
+    def assert_afm_refused(self, number: int, node: int, call: Callable, text: bytes) -> None:
+        with self.assertRaises(Refusal) as caught:
+            call(text)
+        refusal = caught.exception
+        self.assertEqual((refusal.number, refusal.node), (number, node))
+        self.assertEqual(refusal.sentence, noontrough.AFM_SENTENCES[number])
+        self.assertEqual(str(refusal), f"refused {number} {node}: {refusal.sentence}")
+
+    def section(self, *lines: bytes) -> bytes:
+        """With these lines between the first and the last, and their number."""
+        return b"".join(line + b"\n" for line in (b"StartKernPairs %d" % len(lines), *lines, b"EndKernPairs"))
+
+    def test_both_ways(self) -> None:
+        section = self.section(b"KPX A V -80", b"KPX T comma -110")
+        self.assertEqual(afm_import(section), b"A;V;-80\nT;comma;-110\n")
+        self.assertEqual(afm_import(section.replace(b" ", b"   ")), b"A;V;-80\nT;comma;-110\n")
+        self.assertEqual(afm_export(b"A;V;-80\nT;comma;-110\n"), section)
+
+    def test_no_pairs(self) -> None:
+        self.assertEqual(afm_export(b""), b"StartKernPairs 0\nEndKernPairs\n")
+        self.assertEqual(afm_import(b"StartKernPairs 0\nEndKernPairs\n"), b"")
+
+    def test_the_example(self) -> None:
+        section, sheet, edited, result = [
+            (ROOT / "examples/afm" / name).read_bytes() for name in ("section", "sheet", "edited", "result")
+        ]
+        self.assertEqual((afm_import(section), afm_export(edited), afm_import(result)), (sheet, result, edited))
+
+    def test_values_and_names(self) -> None:
+        for value in b"0", b"-1", b"32767", b"-32768":
+            self.assertEqual(afm_import(self.section(b"KPX A V " + value)), b"A;V;" + value + b"\n")
+        for value in b"32768", b"-32769", b"-0", b"+1", b"007", b"1.5", b"x", b"1" * 65000:
+            self.assert_afm_refused(18, 3, afm_import, self.section(b"KPX A V 1", b"KPX A V " + value))
+            self.assert_afm_refused(18, 2, afm_export, b"A;V;1\nA;V;" + value + b"\n")
+        longest = b"n" * 63
+        self.assertEqual(afm_export(longest + b";V;1\n"), self.section(b"KPX " + longest + b" V 1"))
+        for name in longest + b"n", b"A;B", b"", b"\xc4", b"A\t", b"\x00":
+            self.assert_afm_refused(18, 1, afm_export, name + b";V;1\n")
+
+    def test_lines(self) -> None:
+        pair = b"KPX A V -80"
+        for number, text in (
+            (1, b""), (2, b"StartKernPairs 0\n"), (2, b"StartKernPairs 0\nEndKernPairs"), (1, b"StartKernPairs 65536\n"),
+            (3, b"StartKernPairs 0\nEndKernPairs\n\n"), (2, self.section(b"KPX\tA V -80")), (2, self.section(pair + b"\r")),
+            (3, self.section(pair, b" " + pair)), (3, self.section(pair, pair + b" ")), (3, self.section(pair, b"")),
+        ):
+            with self.subTest(text):
+                self.assert_afm_refused(18, number, afm_import, text)
+
+    def test_the_count(self) -> None:
+        self.assert_afm_refused(19, 0, afm_import, b"StartKernPairs 2\nKPX A V -80\nEndKernPairs\n")
+        self.assert_afm_refused(18, 3, afm_import, b"StartKernPairs 2\nKPX A V -80\nEndKernPairs \n")
+
+    def test_long_texts(self) -> None:
+        most = b"A;V;1\n" * 6550
+        self.assertEqual(afm_export(most), self.section(*[b"KPX A V 1"] * 6550))
+        self.assertEqual(afm_import(afm_export(most)), most)
+        self.assert_afm_refused(16, 0, afm_export, most + b"A;V;1\n")
+        self.assert_afm_refused(18, 10923, afm_export, b"A;V;1\n" * 10922 + b"A;V")
+        for call in afm_import, afm_export:
+            self.assert_afm_refused(12, 0, call, b"x" * 65536)
+            self.assert_afm_refused(18, 1, call, b"x" * 65535)
+        self.assertEqual(afm_import(b"StartKernPairs" + b" " * 65506 + b"0\nEndKernPairs\n"), b"")
+
+    def test_the_room_for_the_result(self) -> None:
+        """The module always lends 65,535 bytes, so this asks the library itself."""
+        section, sheet = self.section(b"KPX A V -80"), b"A;V;-80\n"
+        library = noontrough._library()
+        for function, text, result in (
+            (library.noontrough_afm_import, section, sheet), (library.noontrough_afm_export, sheet, section),
+        ):
+            for room, number in (len(result) + 1, 0), (len(result), 0), (len(result) - 1, 16):
+                out = ctypes.create_string_buffer(b"-" * room, room)
+                answer = function(text, len(text), out, room)
+                length = 0 if number else len(result)
+                self.assertEqual((answer.number, answer.node, answer.length), (number, 0, length))
+                self.assertEqual(out.raw, (result[:length] + b"-" * room)[:room])
+
+    def test_what_may_be_handed_over(self) -> None:
+        section, sheet = self.section(b"KPX A V -80"), b"A;V;-80\n"
+        for kind in bytes, bytearray, memoryview:
+            self.assertEqual((afm_import(kind(section)), afm_export(kind(sheet))), (sheet, section))
+        self.assertIs(type(afm_import(bytearray(section))), bytes)
+        for name, call in ("section", afm_import), ("sheet", afm_export):
+            with self.assertRaisesRegex(TypeError, f"^{name} is a str, and the engine takes bytes"):
+                call("")
+            with self.assertRaisesRegex(TypeError, f"^{name} must be bytes-like, not int$"):
+                call(5)
+
+    def test_on_any_thread(self) -> None:
+        """No other thread is started, whatever stack this one has."""
+        with mock.patch.object(noontrough, "_stack_here", return_value=0), \
+                mock.patch.object(noontrough, "_on_a_thread", side_effect=AssertionError("a thread was started")):
+            self.assertEqual(afm_import(afm_export(b"A;V;-80\n")), b"A;V;-80\n")
+
+    def test_a_refusal_comes_back_with_its_own_words(self) -> None:
+        for number in noontrough.AFM_SENTENCES:
+            refusal = Refusal(number, 7, noontrough.AFM_SENTENCES)
+            for other in pickle.loads(pickle.dumps(refusal)), copy.copy(refusal):
+                self.assertEqual((other.number, other.node, str(other)), (number, 7, str(refusal)))
+
+
 def arms(last: bytes, first: bytes) -> bytes:
     """A union of two ranges of capitals, the one up to a letter and the other from one on."""
     draft = Draft()
@@ -533,8 +640,16 @@ class Words(unittest.TestCase):
         text = (ROOT / "crates/meanings/src/lib.rt").read_text("utf-8")
         found = re.findall(r'(\d+) => said\(\s*fd,\s*b"(.*)\\n",\s*\)', text)
         said = {int(number): words for number, words in found}
-        self.assertEqual(list(said), list(range(1, 18)))
+        self.assertEqual(list(said), list(range(1, 20)))
         self.assertEqual(noontrough.SENTENCES, said)
+
+    def test_sentences_without_a_program_are_those_of_the_tool(self) -> None:
+        text = (ROOT / "bindings/rust/src/afm.rs").read_text("utf-8")
+        said = re.findall(r'^const \w+: &str =\s+"(.*)";$', text, re.MULTILINE)
+        self.assertEqual(said, [noontrough.AFM_SENTENCES[number] for number in (12, 16)])
+        self.assertEqual(list(noontrough.AFM_SENTENCES), [12, 16, 18, 19])
+        for number in 18, 19:
+            self.assertEqual(noontrough.AFM_SENTENCES[number], noontrough.SENTENCES[number])
 
     def test_sentence_1_names_the_command(self) -> None:
         self.assertEqual(
@@ -547,6 +662,7 @@ class Words(unittest.TestCase):
         header = (ROOT / "include/noontrough.h").read_text("utf-8")
         self.assertIn(f"#define NOONTROUGH_MAX_TEXT {noontrough.MAX_TEXT}\n", header)
         self.assertIn(f"#define NOONTROUGH_MAX_CLASH {noontrough.MAX_CLASH}\n", header)
+        self.assertIn(f"#define NOONTROUGH_MAX_AFM {noontrough.MAX_AFM}\n", header)
         self.assertIn(f"#define NOONTROUGH_CLASH_STACK_BYTES ({noontrough._CLASH_STACK // 1024} * 1024)\n", header)
         self.assertIn(f"#define NOONTROUGH_STACK_BYTES ({noontrough._WRITE_STACK // 1024} * 1024)\n", header)
         self.assertIn(f"#define NOONTROUGH_READ_STACK_BYTES ({noontrough._READ_STACK // 1024} * 1024)\n", header)

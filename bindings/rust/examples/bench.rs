@@ -1,8 +1,11 @@
-//! Times the engine beside the reference, and beside Augeas where it is there;
-//! and the engine alone on the slowest calls known.
+//! Times the engine beside the reference, and beside Augeas and fontTools where they
+//! are there; and the engine alone on the slowest calls known.
 //!
 //! `cargo run --release --example bench`, in the folder of this package.
 
+mod afm;
+#[path = "../tests/fonttools/mod.rs"]
+mod fonttools;
 mod slow_calls;
 
 use std::collections::HashSet;
@@ -66,6 +69,7 @@ fn bench() {
         Ok(augeas) => beside_augeas(augeas, &table, &texts),
         Err(reason) => println!("\nAugeas is skipped: {reason}"),
     }
+    afm::bench();
 }
 
 /// The same entries as source, as sheet, the other way round, and made anew.
@@ -200,9 +204,20 @@ fn heading(title: &str, other: &str) {
     println!("\n{title}\n\n| Call | Engine | {other} | Engine : {other} |\n|---|---|---|---|");
 }
 
-/// Times the engine and another in turn, so that a slow moment of the machine falls on both. Prints the median call of each, and
-/// the median of the ratios of their turns.
-fn row(name: &str, mut engine: impl FnMut() -> Duration, mut other: impl FnMut() -> Duration) {
+fn row(name: &str, engine: impl FnMut() -> Duration, other: impl FnMut() -> Duration) {
+    let Medians { engine, other, ratio } = medians(engine, other);
+    println!("| {name} | {engine:.1} µs | {other:.1} µs | {ratio:.2} |");
+}
+
+/// The median call of each in microseconds, and the median of the ratios of their turns.
+struct Medians {
+    engine: f64,
+    other: f64,
+    ratio: f64,
+}
+
+/// Times the engine and another in turn, so that a slow moment of the machine falls on both.
+fn medians(mut engine: impl FnMut() -> Duration, mut other: impl FnMut() -> Duration) -> Medians {
     engine();
     other();
     let begun = Instant::now();
@@ -214,7 +229,7 @@ fn row(name: &str, mut engine: impl FnMut() -> Duration, mut other: impl FnMut()
         others.extend(theirs);
     }
     let [engine, other, ratio] = [engines, others, ratios].map(median);
-    println!("| {name} | {engine:.1} µs | {other:.1} µs | {ratio:.2} |");
+    Medians { engine, other, ratio }
 }
 
 /// What each call of a turn takes, in microseconds.

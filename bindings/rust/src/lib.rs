@@ -1,10 +1,10 @@
 //! Rust calls onto the sheet engine.
 //!
-//! The engine itself is a static library with five C functions (check, get,
-//! put, create, clash; `include/noontrough.h`). This package declares them and wraps
-//! each in a safe function. The workspace member `noontrough-reference` is a
-//! second, independent implementation of the same paper, and the tests compare
-//! the two call by call.
+//! The engine itself is a static library with seven C functions (check, get,
+//! put, create, clash, and import and export of [`afm`]; `include/noontrough.h`). This
+//! package declares them and wraps each in a safe function. The workspace member
+//! `noontrough-reference` is a second, independent implementation of the same paper,
+//! and the tests compare the two call by call.
 //!
 //! ```
 //! use noontrough::{get, put, Answer, PutAnswer};
@@ -21,6 +21,7 @@
 //! on a thread of its own, and panics if none can be started. [`in_place`] has the
 //! calls without that.
 
+pub mod afm;
 mod clash;
 mod sentences;
 mod stack;
@@ -50,21 +51,21 @@ pub const READ_STACK_BYTES: usize = 704 * 1024;
 pub const CLASH_STACK_BYTES: usize = 832 * 1024;
 
 /// The longest source, sheet and result. A buffer of this length is long enough
-/// for every result.
+/// for every result. ([`afm`] has a limit of its own.)
 pub const MAX_TEXT: usize = 4096;
 
 /// The longest text that a clash can have. A buffer of this length is never too
 /// short for one.
 pub const MAX_CLASH: usize = 16_512;
 
-/// What check, get and create answer.
+/// What check, get and create answer, and the calls of [`afm`] that are lent a buffer.
 #[derive(Clone, Copy, Debug, PartialEq, Eq)]
 pub enum Answer {
     /// The result stands in the first `length` bytes of the buffer, and the
     /// bytes behind it are as they were. For check, the number of nodes.
     Result { length: usize },
-    /// A refusal from 1 to 16 and the node it concerns (0 if it concerns none).
-    /// The buffer is as it was.
+    /// A refusal from 1 to 16, 18 or 19, and the node it concerns (for 18 the line,
+    /// counted from 1; 0 if it concerns none). The buffer is as it was.
     Refusal { number: u64, node: u64 },
 }
 

@@ -1,15 +1,17 @@
-//! What each refusal means and what to do, in a sentence: the words that the
-//! proved program `sheet` has for them (`crates/meanings/src/lib.rt`), and those
-//! for 17, which only a clash gives; `sheet` makes none.
+//! What each refusal means and what to do, in a sentence: the words of
+//! `crates/meanings/src/lib.rt`, which the proved program `sheet` writes. (17 is
+//! given by a clash only, 18 and 19 by the calls of [`crate::afm`]; `sheet` makes none
+//! of these.)
 
-/// The sentence of a refusal, without a newline.
+/// The sentence of a refusal, without a newline. The calls of [`crate::afm`] take longer
+/// texts, and have words of their own for 12 and 16: [`crate::afm::sentence`].
 pub fn sentence(number: u64) -> Option<&'static str> {
     let index = usize::try_from(number).ok()?.checked_sub(1)?;
     SENTENCES.get(index).copied()
 }
 
 /// From 1 on. docs/GUIDE.md has an example of each.
-const SENTENCES: [&str; 17] = [
+const SENTENCES: [&str; 19] = [
     "The sizes of the table are wrong, so it is no whole program: make it again with noontrough assemble, and copy it as binary.",
     "This node is of a kind that the engine does not know: the table was damaged or made for another engine, so make it again.",
     "An operand of this node breaks a rule, or the last node is no lens: see what each kind takes, and put the whole program last.",
@@ -27,4 +29,6 @@ const SENTENCES: [&str; 17] = [
     "The old source has more than 256 entries: divide it, or let match mark larger pieces.",
     "The result would be longer than 4,096 bytes: divide the sheet or the source.",
     "The text that shows the clash is longer than the buffer: lend 16,512 bytes, which are always enough.",
+    "The line of this number is not of its form: see what lines a section and a sheet have, and end each with a newline.",
+    "The count behind StartKernPairs is not the number of KPX lines: correct it, or look for lines that are missing.",
 ];

@@ -52,6 +52,35 @@ static void put(uint8_t const *table, size_t table_len, char const *sheet, char 
              out, sizeof out);
 }
 
+/* Both ways of Adobe's metrics, into so many bytes of a buffer of forty-six. */
+static void afm_import(char const *section, size_t lent)
+{
+    uint8_t out[46];
+
+    memset(out, '-', sizeof out);
+    show("import", noontrough_afm_import(bytes(section), strlen(section), out, lent), out, sizeof out);
+}
+
+static void afm_export(char const *sheet, size_t lent)
+{
+    uint8_t out[46];
+
+    memset(out, '-', sizeof out);
+    show("export", noontrough_afm_export(bytes(sheet), strlen(sheet), out, lent), out, sizeof out);
+}
+
+/* A section over the limit, and one of a single line of just this length. */
+static void afm_limits(void)
+{
+    static uint8_t const long_section[NOONTROUGH_MAX_AFM + 1] = {0};
+    uint8_t out[1] = {'-'};
+
+    show("import", noontrough_afm_import(long_section, sizeof long_section, out, 1), out, 1);
+    show("import", noontrough_afm_import(long_section, NOONTROUGH_MAX_AFM, out, 1), out, 1);
+    show("export", noontrough_afm_export(long_section, sizeof long_section, out, 1), out, 1);
+    show("export", noontrough_afm_export(long_section, NOONTROUGH_MAX_AFM, out, 1), out, 1);
+}
+
 /* A clash of this table, into so many bytes of a buffer of ten. */
 static void clash(uint8_t const *table, size_t table_len, size_t lent)
 {
@@ -98,5 +127,17 @@ int main(void)
     clash(united, sizeof united, 10);
     clash(K, sizeof K, 0);
     clash(K, 2, 10);
+    afm_import("StartKernPairs 1\nKPX A  V -80\nEndKernPairs\n", 46);
+    afm_import("StartKernPairs 1\nKPX A  V -80\nEndKernPairs\n", 8);
+    afm_import("StartKernPairs 1\nKPX A  V -80\nEndKernPairs\n", 7);
+    afm_import("StartKernPairs 2\nKPX A  V -80\nEndKernPairs\n", 7);
+    afm_import("StartKernPairs 2\nKPX A  V -80\nKPX A V\n", 7);
+    afm_export("A;V;-80\n", 46);
+    afm_export("A;V;-80\n", 42);
+    afm_export("A;V;-80\n", 41);
+    afm_export("A;V;-80\nA;V;-080\n", 41);
+    afm_export("", 30);
+    afm_limits();
+    printf("%d %d\n", NOONTROUGH_BAD_LINE, NOONTROUGH_COUNT_WRONG);
     return 0;
 }

@@ -5,7 +5,7 @@ use std::path::{Path, PathBuf};
 use std::process::Command;
 
 /// Number, node and length of each call, a put's counts, and its whole buffer of ten bytes afterwards. A clash has its outcome
-/// before these, and its ends or children behind them.
+/// before these, and its ends or children behind them. The buffers of Adobe's metrics have forty-six bytes.
 const ANSWERS: &str = "\
 check 0 0 15 []
 check 1 0 0 []
@@ -28,6 +28,31 @@ clash 0 0 0 0 0 0 [----------]
 clash 1 9 12 1 10 10 [a---------]
 clash 0 0 0 0 0 0 [----------]
 clash 2 1 0 0 0 0 [----------]
+import 0 0 8 [A;V;-80
+--------------------------------------]
+import 0 0 8 [A;V;-80
+--------------------------------------]
+import 16 0 0 [----------------------------------------------]
+import 19 0 0 [----------------------------------------------]
+import 18 3 0 [----------------------------------------------]
+export 0 0 42 [StartKernPairs 1
+KPX A V -80
+EndKernPairs
+----]
+export 0 0 42 [StartKernPairs 1
+KPX A V -80
+EndKernPairs
+----]
+export 16 0 0 [----------------------------------------------]
+export 18 2 0 [----------------------------------------------]
+export 0 0 30 [StartKernPairs 0
+EndKernPairs
+----------------]
+import 12 0 0 [-]
+import 18 1 0 [-]
+export 12 0 0 [-]
+export 18 1 0 [-]
+18 19
 ";
 
 fn in_package(name: &str) -> PathBuf {

@@ -2,17 +2,14 @@
 use mathlib.Core.Path.{_≡_, refl, sym, ap, _∙_}
 use mathlib.Core.Bool.{Bool, true, false, not, cond}
 use mathlib.Core.List.{List, [], _∷_, _++_, map, append-assoc}
-use mathlib.Core.Option.{some}
 use Prim.Native.Nat.{ℕ, zero, suc, _+_, _*_, _-_, _≤_, _<_, min}
 use native.Mathlib.Omega.{arith}
-use lib.Dec.{eqb, ltb}
+use lib.Dec.{ltb}
 use lib.ListN.{length, drop, length-drop, drop-of-length-le, length-append}
 use borrow.Author.Tests.{lt-ltb, le-ltb, ltb-false, eq-eqb, ne-eqb}
 use Rattle.semantics.specs.Text.{Text, joined}
-use Rattle.semantics.specs.Calls.{gives, refuses, refuseIf, bufferAfter, decimal}
-use Rattle.semantics.specs.Calls.{Answer as Outcome}
-use Rattle.laws.specs.Basics.{cond-true, cond-false}
-use Rattle.sections.specs.Afm.{newline, space, linesOf, Pair, Pairs, pairsOf, nothingLeft, Read, good, bad, sheetFrom, sheetOf, Section, sectionEnd, sectionFrom, sectionOf, sheetLine, kpxLine, writeSheet, writeSection, startWord, endWord, maxText, output, imported, importCall, exported, exportCall}
+use Rattle.semantics.specs.Calls.{gives, bufferAfter, decimal}
+use Rattle.sections.specs.Afm.{newline, space, linesOf, nothingLeft, good, bad, sheetFrom, sheetOf, Section, sectionEnd, sectionFrom, sectionOf, kpxLine, writeSheet, writeSection, startWord, endWord, maxText, output, imported, importCall, exported, exportCall}
 use Rattle.sections.specs.RoundTrips.{section-length}
 use Rattle.lines.specs.Line.{Puts}
 use Rattle.lines.proofs.Texts.{puts-start}

@@ -1,20 +1,17 @@
 -- The lines with a pair that stand first, measured one after the other. Assumes nothing.
 use mathlib.Core.Path.{_≡_, refl, sym, ap, _∙_}
 use mathlib.Core.Bool.{true, false}
-use mathlib.Core.List.{List, [], _∷_, _++_, map}
-use Prim.Native.Nat.{ℕ, _+_, _-_, _≤_, _<_}
+use mathlib.Core.List.{List, [], _∷_, map}
+use Prim.Native.Nat.{ℕ, _+_, _-_, _≤_}
 use native.Mathlib.Omega.{arith}
 use lib.ListN.{length, take, drop, length-append, length-drop, drop-of-length-le}
 use lib.Seq.{drop-drop, length-take-le}
 use Rattle.semantics.specs.Text.{Text, joined}
-use Rattle.sections.specs.Afm.{Pair, Pairs, pairsOf, Lines, linesOf, pairWith, sheetLine, writeSheet}
-use Rattle.texts.specs.Cutting.{rest-lent}
+use Rattle.sections.specs.Afm.{Pair, Pairs, pairsOf, linesOf, pairWith, sheetLine, writeSheet}
 use Rattle.fields.specs.declared.Form.{Form}
 use Rattle.fields.specs.declared.Line.{Line}
 use Rattle.fields.specs.Scan.{LineAt, isPair}
-use Rattle.fields.specs.Shapes.{formOf}
 use Rattle.fields.specs.Lines.{pairAt, pairsIn, Rises, pair-rises, FirstPair, first-pair, no-pair}
-use Rattle.afm.specs.declared.pairs.Measured.{Measured}
 use Rattle.afm.specs.Pairs.{Measures, PlacesIn}
 
 -- ---- One line

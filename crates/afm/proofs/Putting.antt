@@ -2,11 +2,11 @@
 use mathlib.Core.Path.{_≡_, refl, sym, ap, _∙_}
 use mathlib.Core.Bool.{true, false}
 use mathlib.Core.List.{List, [], _∷_, _++_, map, append-assoc, append-nil}
-use Prim.Native.Nat.{ℕ, _+_, _-_, _≤_, _<_}
+use Prim.Native.Nat.{ℕ, _+_, _-_, _≤_}
 use native.Mathlib.Omega.{arith}
 use native.Mathlib.Nat.{add-zero}
-use lib.ListN.{length, take, drop, length-append, length-drop, drop-of-length-le}
-use lib.Seq.{sets, length-sets}
+use lib.ListN.{length, drop, length-append, length-drop, drop-of-length-le}
+use lib.Seq.{length-sets}
 use Rattle.semantics.specs.Text.{Text, joined}
 use Rattle.sections.specs.Afm.{Pair, Pairs, pairsOf, linesOf, pairWith, sheetLine, kpxLine}
 use Rattle.lines.specs.Line.{Puts}
@@ -15,7 +15,7 @@ use Rattle.fields.specs.declared.Form.{Form}
 use Rattle.fields.specs.declared.Form.the-variants.{Kpx, Sheet}
 use Rattle.fields.specs.declared.Line.{Line}
 use Rattle.fields.specs.Scan.{LineAt, isPair}
-use Rattle.fields.specs.Lines.{pairAt, pairsIn, Rises, pair-rises, FirstPair, first-pair, no-pair}
+use Rattle.fields.specs.Lines.{pairAt, pairsIn, pair-rises, FirstPair, first-pair, no-pair}
 use Rattle.afm.specs.Pairs.{PlacesIn, leadFor, markFor, lineFor, linesFor}
 use Rattle.afm.proofs.Measuring.{part-length, rest-of-rest}
 

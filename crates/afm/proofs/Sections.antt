@@ -3,23 +3,22 @@ use mathlib.Core.Path.{_≡_, refl, sym, ap, _∙_}
 use mathlib.Core.Bool.{Bool, true, false, _&&_, cond}
 use mathlib.Core.List.{List, [], _∷_, _++_, append-assoc, append-nil}
 use mathlib.Core.Option.{Option, none, some}
-use Prim.Native.Nat.{ℕ, zero, suc, _+_, _-_, _≤_, _<_}
+use Prim.Native.Nat.{ℕ, _+_, _-_, _≤_, _<_}
 use native.Mathlib.Omega.{arith}
 use lib.Dec.{eqb, ltb}
-use lib.ListN.{length, take, drop, length-append, length-drop, take-append-drop, drop-of-length-le}
-use lib.Seq.{drop-drop, take-append-seam, drop-append-seam, length-take-le}
+use lib.ListN.{length, take, drop, length-drop, take-append-drop, drop-of-length-le}
+use lib.Seq.{drop-drop, take-append-seam, drop-append-seam}
 use borrow.Author.Tests.{ltb-true, lt-ltb}
 use Rattle.semantics.specs.Text.{Text, sameText}
 use Rattle.laws.specs.Basics.{never, not-both, and-both, and-of, cond-true, cond-false, false-of-not-true, sameText-eq, sameText-refl}
-use Rattle.sections.specs.Afm.{newline, space, beginsWith, squeezed, split, each, isDigit, numberOf, isNumber, fieldsOf, maxCount, countFrom, countOf, Lines, linesOf, withByte, Pairs, pairsOf, kpxOf, nothingLeft, Read, good, bad, Section, sectionEnd, sectionFrom, sectionIn, sectionOf, startWord, endWord}
-use Rattle.sections.specs.Splitting.{isNot, each-join, number-of, number-clean, number-some, number-begins, newline-no-name, space-no-name, lines-ended, lines-first, FirstLine}
+use Rattle.sections.specs.Afm.{newline, space, beginsWith, squeezed, split, each, isDigit, numberOf, isNumber, fieldsOf, maxCount, countFrom, countOf, Lines, linesOf, withByte, Pairs, pairsOf, kpxOf, nothingLeft, good, bad, Section, sectionEnd, sectionFrom, sectionIn, sectionOf, startWord, endWord}
+use Rattle.sections.specs.Splitting.{isNot, each-join, number-of, number-clean, number-some, number-begins, newline-no-name, space-no-name, lines-ended, lines-first}
 use Rattle.fields.specs.declared.Form.the-variants.{Kpx}
 use Rattle.fields.specs.declared.Digits.{Digits}
 use Rattle.fields.specs.Scan.{front, run, wordLength, numberIn, endsAt}
-use Rattle.fields.specs.Runs.{front-length, front-each, run-within, word-length-within}
-use Rattle.fields.specs.Shapes.{Separates, AfterWord, fieldsIn, fields-more, fields-last, More, more-fields, last-field}
+use Rattle.fields.specs.Runs.{front-length, run-within, word-length-within}
+use Rattle.fields.specs.Shapes.{Separates, AfterWord, fieldsIn, fields-more, fields-last, more-fields, last-field}
 use Rattle.fields.specs.Lines.{front-through, newline-no-digit, word-read, word-found, begins-one, separator-clean, cut, behind-part}
-use Rattle.afm.specs.declared.section.Start.{Start}
 use Rattle.afm.specs.Section.{sectionBehind, StartsAt, faulty, EndFault}
 
 -- ---- The last line

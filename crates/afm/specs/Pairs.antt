@@ -1,10 +1,10 @@
 -- The lines with a pair that stand first in a text: what is measured, and what they are written as.
 use mathlib.Core.Path.{_≡_}
 use mathlib.Core.List.{[], _∷_, _++_, map}
-use Prim.Native.Nat.{ℕ, _≤_}
+use Prim.Native.Nat.{_≤_}
 use lib.ListN.{length, drop}
 use Rattle.semantics.specs.Text.{Text, joined}
-use Rattle.sections.specs.Afm.{newline, space, semicolon, linesOf, Pair, sheetLine, kpxLine, writeSheet, kpxWord}
+use Rattle.sections.specs.Afm.{space, semicolon, linesOf, Pair, sheetLine, kpxLine, writeSheet, kpxWord}
 use Rattle.fields.specs.declared.Form.{Form}
 use Rattle.fields.specs.declared.Form.the-variants.{Kpx, Sheet}
 use Rattle.fields.specs.declared.Line.{Line}

@@ -1,24 +1,24 @@
 -- The start of a text, asked byte by byte. Assumes nothing.
 use mathlib.Core.Path.{_≡_, refl, sym, ap, _∙_}
 use mathlib.Core.Bool.{Bool, true, false, not, _&&_, cond, true≢false}
-use mathlib.Core.List.{[], _∷_, _++_}
-use Prim.Native.Nat.{ℕ, zero, suc, _+_, _-_, _*_, _≤_, _<_}
+use mathlib.Core.List.{[], _∷_}
+use Prim.Native.Nat.{ℕ, suc, _+_, _-_, _*_, _≤_, _<_}
 use native.Mathlib.Omega.{arith}
 use native.Mathlib.Nat.{zero-add, sub-zero}
 use lib.Dec.{eqb, leb, ltb}
 use native.Mathlib.Numerals.{add-one}
-use lib.ListN.{length, take, drop, getD, length-take, drop-of-length-le}
-use lib.Seq.{drop-cons, take-nil}
-use borrow.Author.Tests.{lt-ltb, le-ltb, le-leb, lt-leb, ltb-true, leb-true, leb-false, eq-eqb, ne-eqb, eqb-true}
+use lib.ListN.{length, take, drop, getD, drop-of-length-le}
+use lib.Seq.{drop-cons}
+use borrow.Author.Tests.{lt-ltb, le-ltb, le-leb, leb-true, leb-false, ne-eqb, eqb-true}
 use Rattle.semantics.specs.Text.{Text, sameText}
-use Rattle.laws.specs.Basics.{cond-true, cond-false, and-of, and-both, not-both, false-of-not-true}
+use Rattle.laws.specs.Basics.{cond-true, cond-false, and-of, not-both, false-of-not-true}
 use Rattle.sections.specs.Afm.{semicolon, nought, beginsWith, each, isNameByte, isName, isDigit, numberFrom, numberOf, leadingZero, isNumber, isValue}
-use Rattle.sections.specs.Splitting.{each-both, LegalName, name-of, LegalNumber, number-of, is-number, value-none, value-plain, value-minus, digit-range, begins-none, begins-at}
+use Rattle.sections.specs.Splitting.{each-both, name-of, number-of, is-number, value-none, value-plain, value-minus, digit-range, begins-none, begins-at}
 use Rattle.fields.specs.declared.Digits.{Digits}
 use Rattle.fields.specs.declared.Line.{Line}
-use Rattle.fields.specs.declared.Form.the-variants.{Kpx, Sheet}
+use Rattle.fields.specs.declared.Form.the-variants.{Sheet}
 use Rattle.fields.specs.Scan.{run, front, lengthIf, nameLength, grown, cappedFrom, numberIn, valueFront, valueLength, separatorLength, endsAt, isPair}
-use Rattle.fields.specs.Runs.{run-more, run-over, run-none, run-within, front-length, front-each, length-if-true, length-if-false, word-within}
+use Rattle.fields.specs.Runs.{run-more, run-over, run-none, front-length, front-each, length-if-true, length-if-false, word-within}
 
 -- ---- One byte
 

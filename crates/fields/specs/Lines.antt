@@ -1,25 +1,24 @@
 -- The places of a line's fields tell whether the text begins with a line that holds a pair, and which pair that is.
 use mathlib.Core.Path.{_≡_, refl, sym, ap, _∙_}
 use mathlib.Core.Bool.{Bool, true, false, _&&_, cond, true≢false}
-use mathlib.Core.List.{List, [], _∷_, _++_, append-assoc, append-nil}
+use mathlib.Core.List.{List, [], _∷_, _++_, append-assoc}
 use mathlib.Core.Option.{Option, none, some}
 use mathlib.Core.Logic.{_⊎_, inl, inr}
 use Prim.Native.Nat.{ℕ, suc, _+_, _-_, _≤_, _<_}
 use native.Mathlib.Omega.{arith}
-use native.Mathlib.Nat.{sub-zero, zero-add}
 use lib.Dec.{eqb, ltb}
-use lib.ListN.{length, take, drop, length-append, length-take, length-drop, take-append-drop}
+use lib.ListN.{length, take, drop, length-append, length-drop, take-append-drop}
 use lib.Seq.{take-add, drop-drop, take-append-seam, drop-append-seam, length-take-le}
 use borrow.Author.Tests.{ltb-true, ltb-false, lt-ltb, eqb-true, eq-eqb}
 use Rattle.semantics.specs.Text.{Text, sameText}
-use Rattle.laws.specs.Basics.{never, not-both, and-both, and-of, cond-true, cond-false, sameText-eq, sameText-refl}
+use Rattle.laws.specs.Basics.{not-both, and-both, and-of, cond-true, cond-false, sameText-eq, sameText-refl}
 use Rattle.sections.specs.Afm.{newline, space, semicolon, minus, beginsWith, each, isNameByte, isName, isDigit, numberOf, isNumber, isValue, Pair, Pairs, Lines, linesOf, onPairs, pairsOf, kpxWord}
-use Rattle.sections.specs.Splitting.{isNot, isSpace, is-not, not-is, space-is, each-append, each-join, each-weaker, each-both, name-of, name-byte-clean, name-clean, value-clean, name-some, value-some, value-minus, value-plain, value-none, number-of, name-begins, value-begins, begins-at, begins-none, newline-no-name, space-no-name, semicolon-no-name, FirstLine, lines-first, lines-ended}
+use Rattle.sections.specs.Splitting.{isNot, isSpace, not-is, space-is, each-join, each-weaker, each-both, name-of, name-clean, value-clean, name-some, value-some, value-minus, value-plain, value-none, number-of, name-begins, value-begins, begins-at, begins-none, newline-no-name, space-no-name, semicolon-no-name, lines-first, lines-ended}
 use Rattle.fields.specs.declared.Form.{Form}
 use Rattle.fields.specs.declared.Form.the-variants.{Kpx, Sheet}
 use Rattle.fields.specs.declared.Line.{Line}
 use Rattle.fields.specs.Scan.{run, front, lengthIf, nameLength, valueFront, valueLength, separatorLength, wordLength, leadLength, LineAt, endsAt, isPair}
-use Rattle.fields.specs.Runs.{run-passes, run-ends, run-within, front-length, run-each, front-each, length-if-true, length-if-false, word-length-true, word-length-false, word-within, lead-within}
+use Rattle.fields.specs.Runs.{run-passes, run-ends, run-within, front-length, run-each, length-if-true, length-if-false, word-length-true, word-length-false}
 use Rattle.fields.specs.Shapes.{formOf, Separates, AfterWord, Leads, Body, bodyOf, Shape, shape-read, read-shape}
 
 -- ---- What is found in front of other text

@@ -6,7 +6,7 @@ use Prim.Native.Nat.{ℕ, suc, _+_, _*_, _-_, _≤_}
 use lib.Dec.{eqb, ltb}
 use lib.ListN.{length, take, drop}
 use Rattle.semantics.specs.Text.{Text, sameText}
-use Rattle.sections.specs.Afm.{newline, space, semicolon, minus, nought, beginsWith, isNameByte, isName, isDigit, numberOf, isNumber, isValue, kpxWord}
+use Rattle.sections.specs.Afm.{newline, semicolon, minus, nought, beginsWith, isNameByte, isName, isDigit, numberOf, isNumber, isValue, kpxWord}
 use Rattle.sections.specs.Splitting.{isSpace}
 use Rattle.fields.specs.declared.Class.{Class}
 use Rattle.fields.specs.declared.Class.the-variants.{Name, Space, Digit}

@@ -1,15 +1,14 @@
 -- What a line with a pair is made of: what leads it, the names and the value, and what separates them; and that it is read as that pair, and no other line is.
 use mathlib.Core.Path.{_≡_, refl, sym, ap, _∙_, subst}
-use mathlib.Core.Bool.{Bool, true, false, _&&_, cond, true≢false}
+use mathlib.Core.Bool.{Bool, true, false, _&&_, cond}
 use mathlib.Core.List.{List, [], _∷_, _++_, append-assoc, append-nil}
 use mathlib.Core.Option.{Option, none, some}
 use Prim.Native.Nat.{ℕ, _≤_}
-use native.Mathlib.Omega.{arith}
 use lib.ListN.{length}
 use Rattle.semantics.specs.Text.{Text, sameText}
-use Rattle.laws.specs.Basics.{never, and-both, and-of, cond-true, cond-false, sameText-eq, sameText-refl}
-use Rattle.sections.specs.Afm.{newline, space, semicolon, beginsWith, squeezed, split, each, isNameByte, isName, isValue, Pair, pairFrom, pairOf, fieldsOf, kpxWord, kpxFrom, kpxOf}
-use Rattle.sections.specs.Splitting.{isNot, isSpace, each-join, each-weaker, FirstOf, split-field, split-last, split-more, split-one, Spaced, squeezed-word, squeezed-spaces, squeezed-more, squeezed-one, newline-no-name, space-no-name, semicolon-no-name, name-clean, value-clean, name-begins, value-begins}
+use Rattle.laws.specs.Basics.{never, and-both, and-of, cond-true, sameText-eq, sameText-refl}
+use Rattle.sections.specs.Afm.{space, semicolon, beginsWith, squeezed, split, each, isNameByte, isName, isValue, Pair, pairFrom, pairOf, fieldsOf, kpxWord, kpxFrom, kpxOf}
+use Rattle.sections.specs.Splitting.{isNot, isSpace, split-field, split-last, split-more, split-one, squeezed-word, squeezed-spaces, squeezed-more, squeezed-one, space-no-name, semicolon-no-name, name-clean, value-clean, name-begins, value-begins}
 use Rattle.fields.specs.declared.Form.{Form}
 use Rattle.fields.specs.declared.Form.the-variants.{Kpx, Sheet}
 

@@ -8,16 +8,16 @@ use lib.Dec.{leb}
 use Rattle.meanings.specs.Sentences.{hasSentence}
 
 -- one of them
-pub has : (first number : ℕ) → first ≤ number → number ≤ 17 → hasSentence first number ≡ true
+pub has : (first number : ℕ) → first ≤ number → number ≤ 19 → hasSentence first number ≡ true
 unfolding hasSentence
 has first number low high = rw (le-leb _ _ low, le-leb _ _ high) refl
 
 -- none of them
-pub has-none : (first number : ℕ) → (first ≤ number → 17 < number) → hasSentence first number ≡ false
+pub has-none : (first number : ℕ) → (first ≤ number → 19 < number) → hasSentence first number ≡ false
 unfolding hasSentence
 has-none first number above = go (leb first number) refl
   where
-    go : (b : Bool) → leb first number ≡ b → (b && leb number 17) ≡ false
+    go : (b : Bool) → leb first number ≡ b → (b && leb number 19) ≡ false
     go true e = lt-leb _ _ (above (leb-true _ _ e))
     go false e = refl
 
@@ -26,7 +26,7 @@ pub has-later : (first later number : ℕ) → first ≤ later → (first ≤ nu
 unfolding hasSentence
 has-later first later number order passed = go (leb first number) refl
   where
-    go : (b : Bool) → leb first number ≡ b → (leb later number && leb number 17) ≡ (b && leb number 17)
+    go : (b : Bool) → leb first number ≡ b → (leb later number && leb number 19) ≡ (b && leb number 19)
     go true e = rw (le-leb _ _ (passed (leb-true _ _ e))) refl
     go false e =
         let below : number < first = leb-false _ _ e in

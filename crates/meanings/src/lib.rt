@@ -120,6 +120,23 @@ fn explain_texts(fd: i32, number: usize) -> bool
             fd,
             b"The text that shows the clash is longer than the buffer: lend 16,512 bytes, which are always enough.\n",
         ),
+        _ => explain_lines(fd, number),
+    }
+}
+
+// Those of Adobe's metrics, which are read by lines.
+fn explain_lines(fd: i32, number: usize) -> bool
+    ensures { λ r. ⌜ r ≡ hasSentence 18 number ⌝ }
+{
+    match number {
+        18 => said(
+            fd,
+            b"The line of this number is not of its form: see what lines a section and a sheet have, and end each with a newline.\n",
+        ),
+        19 => said(
+            fd,
+            b"The count behind StartKernPairs is not the number of KPX lines: correct it, or look for lines that are missing.\n",
+        ),
         _ => false,
     }
 }

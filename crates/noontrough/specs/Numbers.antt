@@ -10,6 +10,8 @@ use Rattle.semantics.specs.Calls.{Answer as Outcome}
 use Rattle.semantics.specs.Tally.{Tally, putTally}
 use Rattle.clash.specs.Clash.{noClash, clash, refused, clashCall}
 use Rattle.clash.specs.Clash as Clashes
+use Rattle.sections.specs.Afm.{importCall, exportCall}
+use Rattle.sections.specs.RoundTrips.{import-named, export-named}
 use Rattle.laws.specs.Basics.{never}
 use Rattle.laws.specs.Refusals.{Named, check-named, get-named, put-named, create-named}
 use Rattle.answers.specs.declared.Answer.the-variants.{Result}
@@ -58,6 +60,21 @@ module _ (table before after : Text) (numbers : Numbers) where
       → ExportsText (createCall table sheet (length before)) before after numbers
       → (numbers .number ≡ 0) ↔ ((t : Text) × (createCall table sheet (length before) ≡ gives t))
   create-result-iff sheet = result-iff (createCall table sheet (length before)) before after numbers (create-named table sheet (length before))
+
+-- the two calls of Adobe's metrics
+pub import-result-iff :
+    (section before after : Text) (numbers : Numbers)
+    → ExportsText (importCall section (length before)) before after numbers
+    → (numbers .number ≡ 0) ↔ ((t : Text) × (importCall section (length before) ≡ gives t))
+import-result-iff section before after numbers =
+    result-iff (importCall section (length before)) before after numbers (import-named section (length before))
+
+pub export-result-iff :
+    (sheet before after : Text) (numbers : Numbers)
+    → ExportsText (exportCall sheet (length before)) before after numbers
+    → (numbers .number ≡ 0) ↔ ((t : Text) × (exportCall sheet (length before) ≡ gives t))
+export-result-iff sheet before after numbers =
+    result-iff (exportCall sheet (length before)) before after numbers (export-named sheet (length before))
 
 -- put, whose numbers are six
 pub source-result-iff :

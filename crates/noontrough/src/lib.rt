@@ -1,4 +1,6 @@
 // What other languages link: the calls, each slice a pointer and a length, each answer three numbers, and those of put and clash six.
+use afm::export::export;
+use afm::import::import;
 use answers::Answer;
 use answers::ClashAnswer;
 use answers::PutAnswer;
@@ -14,6 +16,7 @@ ghost use Rattle.semantics.specs.Calls.{checkCall, getCall, putCall, createCall
 ghost use Rattle.answers.specs.Contracts.{answerFor};
 ghost use Rattle.semantics.specs.Tally.{putTally};
 ghost use Rattle.clash.specs.Clash.{clashCall};
+ghost use Rattle.sections.specs.Afm.{importCall, exportCall};
 ghost use Rattle.noontrough.specs.Exports.{numbersOf, putNumbersOf, clashNumbersOf, ExportsText, ExportsSource, ExportsClash};
 
 // 0 and the length of a result; or a refusal's number and node. What does not apply is 0.
@@ -167,4 +170,18 @@ pub extern "C" fn noontrough_clash(table: &[u8], out: &mut [u8]) -> ClashNumbers
     ensures { λ r. ⌜ ExportsClash (clashCall (now (table .entry)) (length (now (out .entry)))) (now (out .entry)) (now (out .exit)) r ⌝ }
 {
     in_clash_numbers(clash(table, out))
+}
+
+#[no_mangle]
+pub extern "C" fn noontrough_afm_import(section: &[u8], out: &mut [u8]) -> Numbers
+    ensures { λ r. ⌜ ExportsText (importCall (now (section .entry)) (length (now (out .entry)))) (now (out .entry)) (now (out .exit)) r ⌝ }
+{
+    in_numbers(import(section, out))
+}
+
+#[no_mangle]
+pub extern "C" fn noontrough_afm_export(sheet: &[u8], out: &mut [u8]) -> Numbers
+    ensures { λ r. ⌜ ExportsText (exportCall (now (sheet .entry)) (length (now (out .entry)))) (now (out .entry)) (now (out .exit)) r ⌝ }
+{
+    in_numbers(export(sheet, out))
 }

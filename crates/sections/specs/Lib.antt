@@ -5,5 +5,7 @@ pub mod Afm
 pub mod Splitting
 -- whole numbers: what a text of digits writes, and what writes a number
 pub mod Numbers
--- import and export undo each other, and keep every pair
+-- what is read and written again, and what is written and read
+pub mod Writing
+-- import and export undo each other
 pub mod RoundTrips

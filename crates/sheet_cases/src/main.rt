@@ -68,7 +68,7 @@ fn shown(word: &[u8]) {
 
 fn sentences() {
     let mut number = 1;
-    while number <= 17 {
+    while number <= 19 {
         sentence(number);
         number += 1;
     }

@@ -93,3 +93,7 @@ pub const TOO_MANY_ENTRIES: u8 = 15;
 pub const RESULT_TOO_LONG: u8 = 16;
 /// The text that shows a clash is longer than the buffer.
 pub const CLASH_TOO_LONG: u8 = 17;
+/// A line of a section or of a sheet is not of its form; the node is its number, from 1.
+pub const BAD_LINE: u8 = 18;
+/// The count of a section is not the number of its pairs.
+pub const WRONG_COUNT: u8 = 19;

@@ -21,13 +21,17 @@
 //! | [`clash`] | the text that shows a refusal 7 to 11 |
 //! | [`reach`] | how far a text that does not fit could be read |
 //! | [`calls`] | the calls and their order of refusals (12 to 17) |
+//! | [`afm`] | the calls without a program, import and export (12, 16, 18, 19) |
 //! | [`generator`] | seeded random programs, texts and calls |
 //! | [`walk`] | the parts of a text by the nodes that read them |
 //! | [`census`] | what the programs and calls of a comparison are like |
 //! | [`trial`] | any implementation compared with this one, call by call |
+//! | [`afm_trial`] | the same for import and export, and their two claims |
 //! | [`demand3`] | the clauses of demand 3, tried on any implementation |
 //! | [`tallies`] | what must hold of a put's tally, tried on any implementation |
 
+pub mod afm;
+pub mod afm_trial;
 pub mod ambiguity;
 pub mod answer;
 pub mod automaton;

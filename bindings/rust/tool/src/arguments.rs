@@ -6,6 +6,7 @@ use std::os::unix::ffi::OsStrExt;
 use crate::descriptors::INPUT;
 use crate::failure::Failure;
 use crate::files::Place;
+use crate::words::list;
 
 #[derive(Clone, Copy, Debug, PartialEq, Eq)]
 pub enum Command {
@@ -14,12 +15,14 @@ pub enum Command {
     Put,
     Create,
     Clash,
+    AfmImport,
+    AfmExport,
     Assemble,
     Show,
     Where,
 }
 
-/// A command's name, what stands behind it, and what it does.
+/// A command's name, of one word or two, what stands behind it, and what it does.
 struct Form {
     command: Command,
     name: &'static str,
@@ -33,13 +36,25 @@ impl Form {
     fn tells_more(&self) -> bool {
         matches!(self.command, Command::Put | Command::Clash)
     }
+
+    fn words(&self) -> impl Iterator<Item = &'static str> {
+        self.name.split(' ')
+    }
+
+    /// Which files it takes.
+    fn files(&self) -> &'static str {
+        match self.command {
+            Command::AfmImport | Command::AfmExport => TEXTS,
+            _ => FILES,
+        }
+    }
 }
 
 /// Every other operand is a file.
 const NODE: &str = "NODE";
 
 #[rustfmt::skip]
-const FORMS: [Form; 8] = [
+const FORMS: [Form; 10] = [
     Form {
         command: Command::Check,
         name: "check",
@@ -87,6 +102,30 @@ const FORMS: [Form; 8] = [
                Then it tells on standard error the line of the program, and the two ways.",
     },
     Form {
+        command: Command::AfmImport,
+        name: "afm import",
+        operands: &["SECTION"],
+        brief: "takes a sheet from the kerning of Adobe's metrics",
+        help: "Writes a line 'left;right;value' for each pair, byte for byte and in their order.\n\n\
+               SECTION is the part of an AFM file from the line 'StartKernPairs' with its count to\n\
+               the line 'EndKernPairs', and between them 'KPX left right value' in each line. One\n\
+               space or more separate the words; no other spaces, no tabs and no empty lines stand\n\
+               there, and every line ends in a newline. A name has 1 to 63 bytes from 0x21 to 0x7E\n\
+               without ';', a value is a whole number from -32768 to 32767.",
+    },
+    Form {
+        command: Command::AfmExport,
+        name: "afm export",
+        operands: &["SHEET"],
+        brief: "makes the kerning of Adobe's metrics from a sheet",
+        help: "Writes the lines from 'StartKernPairs', with its count, to 'EndKernPairs', and\n\
+               'KPX left right value' for each line of the sheet, in their order. 'afm import' takes\n\
+               the same sheet from it.\n\n\
+               SHEET has any number of lines 'left;right;value', each with a newline and without\n\
+               spaces. A name has 1 to 63 bytes from 0x21 to 0x7E without ';', a value is a whole\n\
+               number from -32768 to 32767.",
+    },
+    Form {
         command: Command::Assemble,
         name: "assemble",
         operands: &["PROGRAM"],
@@ -113,6 +152,10 @@ const FORMS: [Form; 8] = [
 const FILES: &str = "\
 PROGRAM is a program's text (program.lens) or its table (program.table): which of them
 is told by its bytes. '-' is standard input, for one of the files.";
+
+/// Of the commands that take no program.
+const TEXTS: &str = "\
+A text and the result have 65,535 bytes at most. '-' is standard input.";
 
 const OPTIONS: &str = "  -o, --output FILE   write the result to FILE ('-': standard output, as without it).
                       FILE is replaced whole, and only by a result; otherwise it stays
@@ -152,23 +195,28 @@ pub fn read(words: &[OsString]) -> Result<Request, Failure> {
     let Some((first, rest)) = words.split_first() else {
         return Err(Failure::Trouble(format!("noontrough: a command is missing\n{}", usage_of_all())));
     };
-    let only = |most: usize| rest.get(most).map_or(Ok(()), |extra| Err(too_many(extra)));
     if is_one_of(first, ["-h", "--help", "help"]) {
-        only(1)?;
-        return rest
-            .first()
-            .map_or_else(|| Ok(Request::Tell(help_of_all())), |name| Ok(Request::Tell(help_of(form(name)?))));
+        return help(rest).map(Request::Tell);
     }
     if is_one_of(first, ["-V", "--version", "version"]) {
-        only(0)?;
-        return Ok(Request::Tell(format!("noontrough {}\n", env!("CARGO_PKG_VERSION"))));
+        let version = format!("noontrough {}\n", env!("CARGO_PKG_VERSION"));
+        return rest.first().map_or(Ok(Request::Tell(version)), |extra| Err(too_many(extra)));
     }
-    read_call(form(first)?, rest)
+    match rest {
+        // Also behind the first word of a name that has two.
+        [word] if is_one_of(word, ["-h", "--help"]) => help(&words[..1]).map(Request::Tell),
+        _ => form(words).and_then(|(form, rest)| read_call(form, rest)),
+    }
 }
 
-fn form(name: &OsStr) -> Result<&'static Form, Failure> {
-    let found = FORMS.iter().find(|form| name == form.name);
-    found.ok_or_else(|| Failure::Trouble(format!("noontrough: {}\n{}", no_command(name), usage_of_all())))
+/// The command whose name the words begin with, and what stands behind it.
+fn form(words: &[OsString]) -> Result<(&'static Form, &[OsString]), Failure> {
+    let behind = |form: &Form| {
+        let (name, rest) = words.split_at_checked(form.words().count())?;
+        form.words().eq(name.iter()).then_some(rest)
+    };
+    let found = FORMS.iter().find_map(|form| behind(form).map(|rest| (form, rest)));
+    found.ok_or_else(|| Failure::Trouble(format!("noontrough: {}\n{}", no_command(words), usage_of_all())))
 }
 
 fn too_many(extra: &OsStr) -> Failure {
@@ -176,12 +224,38 @@ fn too_many(extra: &OsStr) -> Failure {
     Failure::Trouble(format!("noontrough: '{extra}' is one argument too many\n{}", usage_of_all()))
 }
 
-fn no_command(word: &OsStr) -> String {
-    let word = word.to_string_lossy();
-    if word.starts_with('-') {
-        return format!("'{word}' stands before the command; options come behind it");
+fn no_command(words: &[OsString]) -> String {
+    let shown = |place: usize| words.get(place).map(|word| word.to_string_lossy().into_owned()).unwrap_or_default();
+    let (first, second) = (shown(0), shown(1));
+    let seconds: Vec<String> = family(&first).map(|form| form.words().skip(1).collect()).collect();
+    if first.starts_with('-') {
+        return format!("'{first}' stands before the command; options come behind it");
     }
-    format!("there is no command '{word}'")
+    match (seconds.is_empty(), second.as_str()) {
+        (true, _) => format!("there is no command '{first}'"),
+        (false, "") => format!("behind '{first}' {} is missing", list(&seconds, "or")),
+        (false, _) => format!("behind '{first}' stands {}, and not '{second}'", list(&seconds, "or")),
+    }
+}
+
+/// The commands whose names begin with this word and have one more.
+fn family(word: &str) -> impl Iterator<Item = &'static Form> + '_ {
+    FORMS.iter().filter(move |form| form.words().count() > 1 && form.words().next() == Some(word))
+}
+
+/// The pages of the commands whose names begin with these words.
+fn help(words: &[OsString]) -> Result<String, Failure> {
+    if words.is_empty() {
+        return Ok(help_of_all());
+    }
+    let is_asked = |form: &&Form| form.words().zip(words).filter(|(part, word)| part == word).count() == words.len();
+    let pages: Vec<String> = FORMS.iter().filter(is_asked).map(help_of).collect();
+    if !pages.is_empty() {
+        return Ok(pages.join("\n"));
+    }
+    // There is no such command, or it is named and something stands behind it.
+    let (_, rest) = form(words)?;
+    Err(too_many(rest.first().map_or(OsStr::new(""), |extra| extra)))
 }
 
 /// What a command's words say, before it is known whether they are right.
@@ -274,7 +348,7 @@ fn usage_of_all() -> String {
 fn help_of(form: &Form) -> String {
     let brief = sentence_case(form.brief);
     let quiet = if form.tells_more() { format!("\n{QUIET}") } else { String::new() };
-    format!("{}\n{brief}.\n\n{}\n\n{FILES}\n\n{OPTIONS}{quiet}\n\n{STATUS}\n", usage(form), form.help)
+    format!("{}\n{brief}.\n\n{}\n\n{}\n\n{OPTIONS}{quiet}\n\n{STATUS}\n", usage(form), form.help, form.files())
 }
 
 fn help_of_all() -> String {

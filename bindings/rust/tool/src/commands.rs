@@ -4,6 +4,7 @@ use noontrough::{Answer, ClashAnswer, MAX_CLASH, MAX_TEXT};
 use noontrough_assembler::show;
 use noontrough_reference::table::Table;
 
+use crate::afm;
 use crate::arguments::{Call, Command};
 use crate::clashes;
 use crate::descriptors::OUTPUT;
@@ -20,16 +21,18 @@ pub struct Done {
 
 pub fn run(call: &Call) -> Result<Done, Failure> {
     spare_inputs(call)?;
-    let program = program::load(&call.files[0])?;
+    let program = || program::load(&call.files[0]);
     let bytes = match call.command {
-        Command::Check => check(&program),
-        Command::Get => get(&program, &call.files[1]),
-        Command::Put => return put(&program, &call.files[1], &call.files[2]),
-        Command::Create => create(&program, &call.files[1]),
-        Command::Clash => return clash(&program),
-        Command::Assemble => assemble(program),
-        Command::Show => shown(&program),
-        Command::Where => origin(&program, call.node.unwrap_or(0)),
+        Command::Check => check(&program()?),
+        Command::Get => get(&program()?, &call.files[1]),
+        Command::Put => return put(&program()?, &call.files[1], &call.files[2]),
+        Command::Create => create(&program()?, &call.files[1]),
+        Command::Clash => return clash(&program()?),
+        Command::AfmImport => afm::import(&text(&call.files[0])?),
+        Command::AfmExport => afm::export(&text(&call.files[0])?),
+        Command::Assemble => assemble(program()?),
+        Command::Show => shown(&program()?),
+        Command::Where => origin(&program()?, call.node.unwrap_or(0)),
     };
     bytes.map(|bytes| Done { bytes, told: None })
 }

@@ -1,4 +1,5 @@
-//! `noontrough`: lens programs, sheets and sources on the command line.
+//! `noontrough`: lens programs, sheets and sources on the command line, and the kerning
+//! of Adobe's metrics.
 //!
 //! The answers are the linked engine's, which is proved, and so are the counts of
 //! entries that `put` tells on standard error, and the text and the two ends or arms
@@ -18,6 +19,8 @@
 //! | [`descriptors`] | what the system's descriptors are |
 //! | [`program`] | a program from a file, as a table or as text |
 //! | [`commands`] | what each command does |
+//! | [`afm`] | Adobe's metrics in and out, and what is told where they are refused |
+//! | [`lines`] | why a line of these is not of its form |
 //! | [`refusals`] | what is told of a refusal |
 //! | [`programs`] | where in a program a refusal comes from, and what shows it |
 //! | [`clashes`] | the text that a program could read in two ways, and both ways |
@@ -25,12 +28,14 @@
 //! | [`words`] | bytes, names and lists in words |
 //! | [`failure`] | why there is no result, and the exit status for it |
 
+mod afm;
 mod arguments;
 mod clashes;
 mod commands;
 mod descriptors;
 mod failure;
 mod files;
+mod lines;
 mod program;
 mod programs;
 mod refusals;

@@ -78,7 +78,7 @@ fn too_long(given: &Texts) -> Option<String> {
     Some(lines.join("\n"))
 }
 
-fn length_in_words(bytes: &[u8]) -> String {
+pub fn length_in_words(bytes: &[u8]) -> String {
     match bytes.len() {
         length if length > crate::files::MOST => format!("over {} bytes", grouped(crate::files::MOST)),
         length => format!("{} bytes", grouped(length)),

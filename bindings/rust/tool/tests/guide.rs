@@ -15,13 +15,16 @@
 //! clash                              shows "M" of first and second
 //! clash                              shows none
 //! clash into 3                       refused 17 0
+//! import "StartKernPairs 0\nx\n"      refused 18 2
+//! export ""                          gives "StartKernPairs 0\nEndKernPairs\n"
 //! ```
 //!
 //! `in both` says which line of the text made the node, `of first and second` which
 //! lines made the arms. `into 2` lends a buffer of 2 bytes; otherwise it is 4,096
-//! bytes long, and for a clash 16,512. A put's tally may be said or not. A line that
-//! ends in a backslash goes on in the next. Each call is made on the linked engine
-//! and on the reference, and both must do what the line says.
+//! bytes long, for a clash 16,512, and for import and export, which need no program,
+//! 65,535. A put's tally may be said or not. A line that ends in a backslash goes on
+//! in the next. Each call is made on the linked engine and on the reference, and both
+//! must do what the line says.
 //!
 //! A block marked `console k` is run in a copy of the folder examples/k: each line
 //! behind `$ ` is a command, and below it stands all that it writes, standard
@@ -36,13 +39,37 @@ use std::collections::BTreeSet;
 
 use common::*;
 use linked::Engine;
-use noontrough::MAX_CLASH;
+use noontrough::{afm, Answer, MAX_CLASH};
 use noontrough_assembler::line::{quote_text, tokens, Token};
 use noontrough_assembler::{assemble, Origin};
+use noontrough_reference::afm::{AfmCalls, Answer as AfmAnswer, Refusal as AfmRefusal};
 use noontrough_reference::answer::UNION_OVERLAPS;
 use noontrough_reference::{Calls, Reference, Refusal, Shown, Tally};
 
 const BUFFER: usize = 4096;
+
+/// What makes the calls of a line.
+trait AllCalls: Calls + AfmCalls {}
+
+impl AllCalls for Engine {}
+impl AllCalls for Reference {}
+
+impl AfmCalls for Engine {
+    fn import(&self, section: &[u8], out: &mut [u8]) -> AfmAnswer {
+        as_reference(afm::import_into(section, out))
+    }
+
+    fn export(&self, sheet: &[u8], out: &mut [u8]) -> AfmAnswer {
+        as_reference(afm::export_into(sheet, out))
+    }
+}
+
+fn as_reference(answer: Answer) -> AfmAnswer {
+    match answer {
+        Answer::Result { length } => Ok(length),
+        Answer::Refusal { number, node } => Err(AfmRefusal { number: number as u8, node: node as usize }),
+    }
+}
 
 struct Block {
     /// The line in the guide where it begins.
@@ -187,6 +214,8 @@ enum Wanted {
     Put(Vec<u8>, Vec<u8>, usize),
     Create(Vec<u8>, usize),
     Clash(usize),
+    Import(Vec<u8>, usize),
+    Export(Vec<u8>, usize),
 }
 
 /// The call at the start of a line.
@@ -203,6 +232,10 @@ fn wanted(reader: &mut Reader) -> Wanted {
         Wanted::Create(reader.text(), reader.lent(BUFFER))
     } else if reader.word("clash") {
         Wanted::Clash(reader.lent(MAX_CLASH))
+    } else if reader.word("import") {
+        Wanted::Import(reader.text(), reader.lent(afm::MAX_TEXT))
+    } else if reader.word("export") {
+        Wanted::Export(reader.text(), reader.lent(afm::MAX_TEXT))
     } else {
         panic!("a call is wanted: {:?}", reader.rest)
     }
@@ -215,9 +248,9 @@ fn outcome_by_both(subject: &Subject, wanted: &Wanted) -> Saying {
     happened
 }
 
-fn outcome(calls: &dyn Calls, subject: &Subject, wanted: &Wanted) -> Saying {
+fn outcome(calls: &dyn AllCalls, subject: &Subject, wanted: &Wanted) -> Saying {
     let table = &subject.table;
-    let mut out = vec![b'?'; MAX_CLASH];
+    let mut out = vec![b'?'; afm::MAX_TEXT];
     let answer = match wanted {
         Wanted::Check => return calls.check(table).map_or_else(Saying::Refused, Saying::Ok),
         Wanted::Get(source, lent) => calls.get(table, source, &mut out[..*lent]).map(|length| (length, None)),
@@ -226,11 +259,19 @@ fn outcome(calls: &dyn Calls, subject: &Subject, wanted: &Wanted) -> Saying {
         }
         Wanted::Create(sheet, lent) => calls.create(table, sheet, &mut out[..*lent]).map(|length| (length, None)),
         Wanted::Clash(lent) => return clash_outcome(calls, subject, &mut out[..*lent]),
+        Wanted::Import(section, lent) => without_program(calls.import(section, &mut out[..*lent])),
+        Wanted::Export(sheet, lent) => without_program(calls.export(sheet, &mut out[..*lent])),
     };
     answer.map_or_else(Saying::Refused, |(length, tally)| Saying::Gives(out[..length].to_vec(), tally))
 }
 
-fn clash_outcome(calls: &dyn Calls, subject: &Subject, out: &mut [u8]) -> Saying {
+fn without_program(answer: AfmAnswer) -> Result<(usize, Option<Tally>), Refusal> {
+    let line = |node: usize| u8::try_from(node).expect("the texts of the guide have few lines");
+    let refusal = |AfmRefusal { number, node }| Refusal { number, node: line(node) };
+    answer.map(|length| (length, None)).map_err(refusal)
+}
+
+fn clash_outcome(calls: &dyn AllCalls, subject: &Subject, out: &mut [u8]) -> Saying {
     match calls.clash(&subject.table, out) {
         Ok(None) => Saying::ShowsNone,
         Ok(Some(Shown { rule, length, numbers: [a, b] })) => {
@@ -347,7 +388,7 @@ fn programs_and_calls() {
     }
     assert!(!waiting, "the last program has no calls");
     assert!(run.faults.is_empty(), "\n{}", run.faults.join("\n"));
-    assert_eq!(run.shown, (1..=17).collect(), "every refusal is shown under its own heading");
+    assert_eq!(run.shown, (1..=19).collect(), "every refusal is shown under its own heading");
     println!("{} calls", run.count);
 }
 

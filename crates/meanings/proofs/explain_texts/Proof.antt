@@ -1,8 +1,8 @@
--- `meanings::explain_texts` meets its contract, arm by arm. Assumes nothing.
+-- `meanings::explain_texts` meets its contract: arm by arm. Assumes nothing.
 use borrow.Author.Needs.{needs}
 use mathlib.Core.Path.{sym, _∙_}
 use native.Mathlib.Omega.{arith}
-use Rattle.meanings.proofs.Sentences.{has, has-none}
+use Rattle.meanings.proofs.Sentences.{has, has-later}
 use Rattle.meanings.proofs.explain_texts.Statement.{statement}
 use Rattle.meanings.proofs.explain_texts.Tie as tie
 
@@ -42,6 +42,9 @@ slice-aggregate-said-6 c = search needs
 said-requires-6 : tie.Need-said-requires-6
 said-requires-6 c κs = search needs
 
+explain-lines-requires : tie.Need-explain-lines-requires
+explain-lines-requires c κs = search needs
+
 returns : tie.Need-returns
 returns c = c .said .ensures ∙ sym (has 12 (c .before .before .before .args .number) (omega arith) (omega arith))
 
@@ -61,7 +64,7 @@ returns-6 : tie.Need-returns-6
 returns-6 c = c .said6 .ensures ∙ sym (has 12 (c .before .before .before .args .number) (omega arith) (omega arith))
 
 returns-7 : tie.Need-returns-7
-returns-7 c = sym (has-none 12 (c .before .args .number) (λ low. omega arith))
+returns-7 c = c .explain-lines .ensures ∙ has-later 12 18 (c .before .before .args .number) (omega arith) (λ low. omega arith)
 
 pub explain-texts-spec : {M : Type 1} → statement M
 explain-texts-spec =
@@ -79,6 +82,7 @@ explain-texts-spec =
     said-requires-5
     slice-aggregate-said-6
     said-requires-6
+    explain-lines-requires
     returns
     returns-2
     returns-3

@@ -13,6 +13,7 @@ use crate::lens::trimmed;
 use crate::program::Program;
 use crate::table::{Node, Side, SIDES};
 
+pub mod afm;
 mod clashes;
 mod padding;
 mod puts;

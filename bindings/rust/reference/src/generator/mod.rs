@@ -20,8 +20,10 @@
 //! | [`clashes`] | programs that clash, by texts of all lengths |
 //! | [`texts`] | sources, sheets, edits, garbage |
 //! | [`cases`] | whole calls, with buffers of every interesting size |
+//! | [`afm`] | sections and sheets for import and export, of their form and nearly so |
 //! | [`small`] | calls small enough to be evaluated from definitions |
 
+pub mod afm;
 pub mod cases;
 pub mod clashes;
 pub mod counted_arms;
