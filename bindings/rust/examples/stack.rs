@@ -16,6 +16,10 @@ fn main() {
     for case in stack::clash_cases() {
         println!("| {} | {} |", case.name, grouped(case.stack()));
     }
+    println!("\n| Import and export | stack |\n|---|---|");
+    for case in stack::afm_cases() {
+        println!("| {} | {} |", case.name, grouped(case.stack()));
+    }
 }
 
 /// A number with commas, by thousands.

@@ -7,7 +7,7 @@
 mod stack;
 
 use noontrough::{CLASH_STACK_BYTES, READ_STACK_BYTES, STACK_BYTES};
-use stack::{cases, clash_cases, clash_of_k, few_words, k, Call, Case, ClashCase, CALLS};
+use stack::{afm_cases, cases, clash_cases, clash_of_k, few_words, k, Call, Case, ClashCase, CALLS};
 
 const READS: [Call; 2] = [Call::Check, Call::Get];
 /// What check, get and create of a program like K keep to, and what its put and its
@@ -15,6 +15,8 @@ const READS: [Call; 2] = [Call::Check, Call::Get];
 const LIKE_K: usize = 64 * 1024;
 const PUT_LIKE_K: usize = 96 * 1024;
 const CLASH_LIKE_K: usize = 96 * 1024;
+/// What import and export keep to, whatever the text is.
+const AFM: usize = 16 * 1024;
 /// The stack of a thread that is started without a size.
 const DEFAULT_THREAD: usize = 2 << 20;
 /// What a thread takes for itself, and more than that.
@@ -98,4 +100,12 @@ fn a_clash_of_a_program_like_k_takes_little() {
 fn a_clash_of_an_accepted_program_takes_what_check_does() {
     assert_clash_keeps_to(LIKE_K, &k(8).to_clash());
     cases().iter().for_each(|case| assert_clash_keeps_to(READ_STACK_BYTES, &case.to_clash()));
+}
+
+#[test]
+fn import_and_export_take_little() {
+    for case in afm_cases() {
+        let taken = case.stack();
+        assert!(taken <= AFM, "{}: {taken} bytes of stack, over {AFM}", case.name);
+    }
 }

@@ -19,8 +19,8 @@ pub fn put_text(text: &[u8], at: usize, out: &mut [u8]) -> usize
 pub fn digit_count(number: usize) -> usize
     ensures { λ r. ⌜ r ≡ length (decimal number) ⌝ }
 {
-    let mut digits = [0u8; 20];
-    io::decimal(number as u64, &mut digits)
+    let mut room = [0u8; 20];
+    io::decimal(number as u64, &mut room)
 }
 
 pub fn put_number(number: usize, at: usize, out: &mut [u8]) -> usize

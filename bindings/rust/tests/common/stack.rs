@@ -7,6 +7,7 @@
 
 #![allow(dead_code)] // Each file that measures uses its own part of this.
 
+use noontrough::afm::{self, export_into, import_into};
 use noontrough::in_place::{check, clash, create, get, put};
 use noontrough::{Answer, ClashAnswer, MAX_CLASH, MAX_TEXT};
 use noontrough_reference::generator::draft::{Draft, NodeNumber};
@@ -93,6 +94,27 @@ impl ClashCase {
         let shown = answer.clash().map(|clash| (clash.number, clash.text.len()));
         let is_refused = matches!(answer, ClashAnswer::Refusal { .. });
         assert!(!is_refused && shown == self.shows, "{}: clash gives {answer:?}", self.name);
+    }
+
+    pub fn stack(&self) -> usize {
+        measured(|| self.make())
+    }
+}
+
+/// A call of import or export, which take no program, and a text with which it gives
+/// a result.
+pub struct AfmCase {
+    pub name: String,
+    text: Vec<u8>,
+    call: fn(&[u8], &mut [u8]) -> Answer,
+}
+
+impl AfmCase {
+    /// Makes the call on this thread's stack.
+    pub fn make(&self) {
+        let mut out = vec![0; afm::MAX_TEXT];
+        let answer = (self.call)(&self.text, &mut out);
+        assert!(matches!(answer, Answer::Result { .. }), "{}: {answer:?}", self.name);
     }
 
     pub fn stack(&self) -> usize {
@@ -487,4 +509,24 @@ fn clashing_join() -> ClashCase {
     draft.lens_join(letters, letters);
     let name = "a join of 128 positions in a full program".to_string();
     ClashCase { name, table: draft.table(), shows: Some((7, 127)) }
+}
+
+/// Import and export of few pairs and of as many as there can be, of the longest names,
+/// and of the longest run of spaces.
+pub fn afm_cases() -> Vec<AfmCase> {
+    let name = "n".repeat(63);
+    let pairs = [("a", "0", 2), ("a", "0", 6550), (&name, "-32768", 470)];
+    let by_pairs = pairs.into_iter().flat_map(|(name, value, count)| {
+        let sheet = format!("{name};{name};{value}\n").repeat(count);
+        let lines = format!("KPX {name} {name} {value}\n").repeat(count);
+        let section = format!("StartKernPairs {count}\n{lines}EndKernPairs\n");
+        let told = |call: &str| format!("{call} of {count} pairs, names of {} bytes", name.len());
+        [
+            AfmCase { name: told("import"), text: section.into_bytes(), call: import_into },
+            AfmCase { name: told("export"), text: sheet.into_bytes(), call: export_into },
+        ]
+    });
+    let spaces = format!("StartKernPairs{}0\nEndKernPairs\n", " ".repeat(65_506)).into_bytes();
+    let run = AfmCase { name: "import of a run of 65,506 spaces".to_string(), text: spaces, call: import_into };
+    by_pairs.chain([run]).collect()
 }

@@ -11,8 +11,6 @@ use Rattle.fields.specs.Runs.{name-within}
 use Rattle.fields.proofs.name_end.Statement.{statement}
 use Rattle.fields.proofs.name_end.Tie as tie
 
-
-
 sub-name-length : tie.Need-sub-name-length
 sub-name-length c = search needs
 

@@ -12,8 +12,6 @@ use Rattle.fields.proofs.Scanning.{digits-front}
 use Rattle.fields.proofs.number_at.Statement.{statement}
 use Rattle.fields.proofs.number_at.Tie as tie
 
-
-
 run-length-requires : tie.Need-run-length-requires
 run-length-requires c κs = search needs
 

@@ -11,8 +11,6 @@ use Rattle.fields.specs.Runs.{separator-within}
 use Rattle.fields.proofs.separator_end.Statement.{statement}
 use Rattle.fields.proofs.separator_end.Tie as tie
 
-
-
 sub-separator-length : tie.Need-sub-separator-length
 sub-separator-length c = search needs
 

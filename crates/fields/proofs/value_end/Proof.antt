@@ -11,8 +11,6 @@ use Rattle.fields.specs.Runs.{value-within}
 use Rattle.fields.proofs.value_end.Statement.{statement}
 use Rattle.fields.proofs.value_end.Tie as tie
 
-
-
 sub-value-length : tie.Need-sub-value-length
 sub-value-length c = search needs
 

@@ -13,7 +13,6 @@ use Rattle.fields.proofs.Scanning.{begins-some, value-plain-length, val
 use Rattle.fields.proofs.value_length.Statement.{statement}
 use Rattle.fields.proofs.value_length.Tie as tie
 
-
 begins-with-requires : tie.Need-begins-with-requires
 begins-with-requires c κs = search needs
 

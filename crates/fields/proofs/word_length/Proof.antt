@@ -14,7 +14,6 @@ use Rattle.fields.specs.Runs.{run-within, word-within, word-length-true,
 use Rattle.fields.proofs.word_length.Statement.{statement}
 use Rattle.fields.proofs.word_length.Tie as tie
 
-
 starts-with-requires : tie.Need-starts-with-requires
 starts-with-requires c κs = search needs
 

@@ -5,7 +5,6 @@ use Rattle.lines.proofs.Digits.{few-digits, decimal-count}
 use Rattle.lines.proofs.digit_count.Statement.{statement}
 use Rattle.lines.proofs.digit_count.Tie as tie
 
-
 decimal-requires : tie.Need-decimal-requires
 decimal-requires c κs = search needs
 

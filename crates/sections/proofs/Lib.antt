@@ -1,0 +1,2 @@
+-- The definitions, tried on small texts.
+pub mod Cases
