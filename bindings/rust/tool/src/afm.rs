@@ -22,7 +22,7 @@ fn refused(kind: Kind, text: &Text, refusal: Refusal) -> Failure {
     let place = match refusal.number {
         12 => format!("{name}: {}", length_in_words(bytes)),
         16 => format!("the result would have {} bytes", grouped(section_length(bytes))),
-        18 => format!("{name}:{}: {}", refusal.node, lines::told(kind, bytes, refusal.node as usize)),
+        18 => format!("{name}: line {}: {}", refusal.node, lines::told(kind, bytes, refusal.node as usize)),
         _ => format!("{name}: {}", lines::counts(bytes)),
     };
     Failure::Refused(format!("noontrough: {refusal}\n{place}"))

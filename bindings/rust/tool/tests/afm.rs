@@ -15,7 +15,7 @@ fn not_of_its_form(way: &str, text: impl AsRef<[u8]>, line: usize, told: &str) {
     let folder = Folder::new();
     folder.write("text", text.as_ref());
     let done = folder.sh(&format!("noontrough afm {way} text"));
-    let wanted = format!("noontrough: refused 18 {line}: {FORM}\ntext:{line}: {told}\n");
+    let wanted = format!("noontrough: refused 18 {line}: {FORM}\ntext: line {line}: {told}\n");
     assert_eq!((done.status, done.stdout, done.stderr), (1, String::new(), wanted));
 }
 
@@ -235,13 +235,13 @@ fn the_wrong_one_of_the_two_commands() {
         1,
         &[
             "refused 18 1: ",
-            "\nsection:1: \"StartKernPairs   10\": this is a line of a section, and 'afm import' takes sections\n",
+            "\nsection: line 1: \"StartKernPairs   10\": this is a line of a section, and 'afm import' takes sections\n",
         ],
     );
     folder.fails(
         "noontrough afm import sheet",
         1,
-        &["refused 18 1: ", "\nsheet:1: \"A;V;-80\": this is a line of a sheet, and 'afm export' takes sheets\n"],
+        &["refused 18 1: ", "\nsheet: line 1: \"A;V;-80\": this is a line of a sheet, and 'afm export' takes sheets\n"],
     );
 }
 
