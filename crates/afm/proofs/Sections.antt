@@ -1,6 +1,6 @@
 -- The first and the last line of a section. Assumes nothing.
 use mathlib.Core.Path.{_≡_, refl, sym, ap, _∙_}
-use mathlib.Core.Bool.{Bool, true, false, _&&_, cond}
+use mathlib.Core.Bool.{Bool, true, false, cond}
 use mathlib.Core.List.{List, [], _∷_, _++_, append-assoc, append-nil}
 use mathlib.Core.Option.{Option, none, some}
 use Prim.Native.Nat.{ℕ, _+_, _-_, _≤_, _<_}
@@ -10,9 +10,12 @@ use lib.ListN.{length, take, drop, length-drop, take-append-drop, drop-of-length
 use lib.Seq.{drop-drop, take-append-seam, drop-append-seam}
 use borrow.Author.Tests.{ltb-true, lt-ltb}
 use Rattle.semantics.specs.Text.{Text, sameText}
-use Rattle.laws.specs.Basics.{never, not-both, and-both, and-of, cond-true, cond-false, false-of-not-true, sameText-eq, sameText-refl}
+use Rattle.semantics.specs.Calls.{decimal}
+use Rattle.laws.specs.Basics.{not-both, and-both, and-of, cond-true, cond-false, false-of-not-true, sameText-eq, sameText-refl}
 use Rattle.sections.specs.Afm.{newline, space, beginsWith, squeezed, split, each, isDigit, numberOf, isNumber, fieldsOf, maxCount, countFrom, countOf, Lines, linesOf, withByte, Pairs, pairsOf, kpxOf, nothingLeft, good, bad, Section, sectionEnd, sectionFrom, sectionIn, sectionOf, startWord, endWord}
 use Rattle.sections.specs.Splitting.{isNot, each-join, number-of, number-clean, number-some, number-begins, newline-no-name, space-no-name, lines-ended, lines-first}
+use Rattle.sections.specs.Numbers.{decimal-of-number}
+use Rattle.sections.specs.Writing.{start-clean, count-form, count-from, count-word}
 use Rattle.fields.specs.declared.Form.the-variants.{Kpx}
 use Rattle.fields.specs.declared.Digits.{Digits}
 use Rattle.fields.specs.Scan.{front, run, wordLength, numberIn, endsAt}
@@ -127,81 +130,43 @@ from-none found rest = refl
 -- the word, spaces and a count
 record CountShape (line : Text) (n : ℕ) : Type 0 where
   spaces : Text
-  count : Text
-  line-is : line ≡ startWord ++ (spaces ++ count)
+  line-is : line ≡ startWord ++ (spaces ++ decimal n)
   separates : Separates Kpx spaces
-  number : isNumber maxCount count ≡ true
-  n-is : n ≡ numberOf count
+  small : n ≤ maxCount
 
-start-plain : each (isNot space) startWord ≡ true
+start-one-line : each (isNot newline) startWord ≡ true
 unfolding each isNot
-start-plain = refl
-
-start-clean : each (isNot newline) startWord ≡ true
-unfolding each isNot
-start-clean = refl
-
-count-two : (c : Text) → isNumber maxCount c ≡ true → countFrom (startWord ∷ c ∷ []) ≡ some (numberOf c)
-unfolding countFrom
-count-two c e =
-    cond-true
-    (sameText startWord startWord && isNumber maxCount c)
-    (some (numberOf c))
-    none
-    (and-of (sameText startWord startWord) (isNumber maxCount c) (sameText-refl startWord) e)
+start-one-line = refl
 
 shape-count : (line : Text) (n : ℕ) → CountShape line n → countOf line ≡ some n
 unfolding countOf fieldsOf fieldsIn
 shape-count line n shape =
-    let c = shape .count in
-    let plain = number-clean space space-no-name maxCount c (shape .number) in
-    let clear = ap (beginsWith space) (sym (append-nil c)) ∙ number-begins maxCount c [] (shape .number) in
+    let number = count-form n (shape .small) in
+    let plain = number-clean space space-no-name maxCount (decimal n) number in
+    let clear = ap (beginsWith space) (sym (append-nil (decimal n))) ∙ number-begins maxCount (decimal n) [] number in
     ap countFrom
     (ap (fieldsIn Kpx) (shape .line-is)
-    ∙ fields-more Kpx startWord (shape .spaces) c start-plain (shape .separates) clear
-    ∙ ap (λ (fs : List Text). startWord ∷ fs) (fields-last Kpx c plain))
-    ∙ count-two c (shape .number)
-    ∙ ap some (sym (shape .n-is))
-
-record Two (fields : List Text) (n : ℕ) : Type 0 where
-  count : Text
-  fields-are : fields ≡ startWord ∷ count ∷ []
-  number : isNumber maxCount count ≡ true
-  n-is : n ≡ numberOf count
-
-two-fields : (fields : List Text) (n : ℕ) → countFrom fields ≡ some n → Two fields n
-unfolding countFrom
-two-fields [] n e = never (cc e)
-two-fields (w ∷ []) n e = never (cc e)
-two-fields (w ∷ c ∷ m ∷ ms) n e = never (cc e)
-two-fields (w ∷ c ∷ []) n e = go (sameText w startWord && isNumber maxCount c) refl e
-  where
-    go : (b : Bool) → sameText w startWord && isNumber maxCount c ≡ b → cond b (some (numberOf c)) none ≡ some n → Two (w ∷ c ∷ []) n
-    go true h k =
-        let (word, number) = and-both (sameText w startWord) (isNumber maxCount c) h in
-        let n-is : numberOf c ≡ n = cc k in
-        record { count = c; fields-are = ap (λ (x : Text). x ∷ c ∷ []) (sameText-eq w startWord word); number = number; n-is = sym n-is }
-    go false h k = never (cc k)
+    ∙ fields-more Kpx startWord (shape .spaces) (decimal n) start-clean (shape .separates) clear
+    ∙ ap (λ (fs : List Text). startWord ∷ fs) (fields-last Kpx (decimal n) plain))
+    ∙ count-from n (shape .small)
 
 count-shape : (line : Text) (n : ℕ) → countOf line ≡ some n → CountShape line n
 unfolding countOf fieldsOf fieldsIn
 count-shape line n e =
-    let two = two-fields (split space (squeezed line)) n e in
-    let m = more-fields Kpx line startWord (two .count) [] (two .fields-are) in
+    let (fields-are, small) = count-word (split space (squeezed line)) n e in
+    let m = more-fields Kpx line startWord (decimal n) [] fields-are in
     record {
       spaces = m .between;
-      count = two .count;
-      line-is = m .line-is ∙ ap (λ (x : Text). startWord ++ (m .between ++ x)) (last-field Kpx (m .behind) (two .count) (m .behind-is));
+      line-is = m .line-is ∙ ap (λ (x : Text). startWord ++ (m .between ++ x)) (last-field Kpx (m .behind) (decimal n) (m .behind-is));
       separates = m .separates;
-      number = two .number;
-      n-is = two .n-is;
+      small = small;
     }
 
 shape-clean : (line : Text) (n : ℕ) → CountShape line n → each (isNot newline) line ≡ true
 shape-clean line n shape =
     ap (each (isNot newline)) (shape .line-is)
-    ∙ each-join (isNot newline) startWord (shape .spaces ++ shape .count) start-clean
-    (each-join (isNot newline) (shape .spaces) (shape .count) (separator-clean Kpx (shape .spaces) (shape .separates)) (number-clean newline newline-no-name maxCount (shape .count) (shape .number)))
+    ∙ each-join (isNot newline) startWord (shape .spaces ++ decimal n) start-one-line
+    (each-join (isNot newline) (shape .spaces) (decimal n) (separator-clean Kpx (shape .spaces) (shape .separates)) (number-clean newline newline-no-name maxCount (decimal n) (count-form n (shape .small))))
 
 -- what `numberIn` says of digits that are a number, and of others
 in-number : (d : Text) → isNumber maxCount d ≡ true → numberIn 65535 d ≡ record { count = length d; number = numberOf d }
@@ -266,14 +231,15 @@ module _ (t : Text) (at : ℕ) (found : Digits) (at-is : at ≡ wordLength start
 
     shape : CountShape line (found .number)
     unfolding line
-    shape = record {
-      spaces = word .spaces;
-      count = digits;
-      line-is = refl;
-      separates = word .separates;
-      number = number;
-      n-is = ap (λ (d : Digits). d .number) known;
-    }
+    shape =
+        let n-is : found .number ≡ numberOf digits = ap (λ (d : Digits). d .number) known in
+        let form : decimal (found .number) ≡ digits = ap decimal n-is ∙ decimal-of-number maxCount digits (omega arith) number in
+        record {
+          spaces = word .spaces;
+          line-is = ap (λ (x : Text). startWord ++ (word .spaces ++ x)) (sym form);
+          separates = word .separates;
+          small = omega (arith, n-is, number-of maxCount digits number .within);
+        }
 
     text-is : t ≡ line ++ newline ∷ drop (end + 1) t
     unfolding line
@@ -311,10 +277,11 @@ module _ (t : Text) (at : ℕ) (found : Digits) (at-is : at ≡ wordLength start
     no-count line lines n e shape =
         let first = lines-first t line lines e in
         let behind = first .behind in
-        let c = shape .count in
+        let c = decimal n in
+        let number-form = count-form n (shape .small) in
         let whole : t ≡ startWord ++ (shape .spaces ++ (c ++ newline ∷ behind)) =
         first .text-is ∙ ap (λ (x : Text). x ++ newline ∷ behind) (shape .line-is) ∙ simp append-assoc refl in
-        let clear = number-begins maxCount c (newline ∷ behind) (shape .number) in
+        let clear = number-begins maxCount c (newline ∷ behind) number-form in
         let at-word : at ≡ length startWord + length (shape .spaces) =
         at-is ∙ ap (wordLength startWord) whole ∙ word-read startWord (shape .spaces) (c ++ newline ∷ behind) (shape .separates) clear in
         let at-start : drop (length startWord) t ≡ shape .spaces ++ (c ++ newline ∷ behind) =
@@ -322,12 +289,12 @@ module _ (t : Text) (at : ℕ) (found : Digits) (at-is : at ≡ wordLength start
         let at-count : drop at t ≡ c ++ newline ∷ behind =
         ap (λ (n : ℕ). drop n t) at-word ∙ behind-part t (shape .spaces) (c ++ newline ∷ behind) (length startWord) (length (shape .spaces)) at-start refl in
         let front-is : front isDigit (drop at t) ≡ c =
-        ap (front isDigit) at-count ∙ front-through isDigit c (newline ∷ behind) (number-of maxCount c (shape .number) .digits) (newline-no-digit behind) in
+        ap (front isDigit) at-count ∙ front-through isDigit c (newline ∷ behind) (number-of maxCount c number-form .digits) (newline-no-digit behind) in
         let count-is : found .count ≡ length c =
-        ap (λ (d : Digits). d .count) (found-is ∙ ap (numberIn 65535) front-is ∙ in-number c (shape .number)) in
+        ap (λ (d : Digits). d .count) (found-is ∙ ap (numberIn 65535) front-is ∙ in-number c number-form) in
         let at-end : drop end t ≡ newline ∷ behind = behind-part t c (newline ∷ behind) at (found .count) at-count count-is in
         not-both
-        (and-of (ltb at end) (beginsWith newline (drop end t)) (lt-ltb at end (omega (arith, count-is, number-some maxCount c (shape .number)))) (ap (beginsWith newline) at-end ∙ newline-begins behind))
+        (and-of (ltb at end) (beginsWith newline (drop end t)) (lt-ltb at end (omega (arith, count-is, number-some maxCount c number-form))) (ap (beginsWith newline) at-end ∙ newline-begins behind))
         none-ends
 
     faulted : sectionOf t ≡ bad 1

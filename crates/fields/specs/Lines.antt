@@ -156,13 +156,13 @@ module _ (form : Form) (t line rest : Text) (p : Pair) (at : Line) where
         ∙ regroup (shape .lead) (p .left) (body .first) (p .right) (body .second) (p .value) (newline ∷ rest)
 
     left-clear : beginsWith space (p .left ++ (body .first ++ righting)) ≡ false
-    left-clear = name-begins (p .left) (body .first ++ righting) (body .left-name)
+    left-clear = name-begins (p .left) (body .first ++ righting) (body .legal .left-name)
 
     right-clear : beginsWith space righting ≡ false
-    right-clear = name-begins (p .right) (body .second ++ ending) (body .right-name)
+    right-clear = name-begins (p .right) (body .second ++ ending) (body .legal .right-name)
 
     value-clear : beginsWith space ending ≡ false
-    value-clear = value-begins (p .value) (newline ∷ rest) (body .value-form)
+    value-clear = value-begins (p .value) (newline ∷ rest) (body .legal .value-fits)
 
     at-left : drop (at .left) t ≡ p .left ++ (body .first ++ righting)
     at-left =
@@ -171,7 +171,7 @@ module _ (form : Form) (t line rest : Text) (p : Pair) (at : Line) where
 
     left-length : nameLength (drop (at .left) t) ≡ length (p .left)
     left-length =
-        ap nameLength at-left ∙ name-read (p .left) (body .first ++ righting) (body .left-name) (separator-stops form (body .first) righting (body .first-separates))
+        ap nameLength at-left ∙ name-read (p .left) (body .first ++ righting) (body .legal .left-name) (separator-stops form (body .first) righting (body .first-separates))
 
     at-between : drop (at .between) t ≡ body .first ++ righting
     at-between = ap (λ (n : ℕ). drop n t) (places .between-is) ∙ behind-part t (p .left) (body .first ++ righting) (at .left) (nameLength (drop (at .left) t)) at-left left-length
@@ -184,7 +184,7 @@ module _ (form : Form) (t line rest : Text) (p : Pair) (at : Line) where
 
     right-length : nameLength (drop (at .right) t) ≡ length (p .right)
     right-length =
-        ap nameLength at-right ∙ name-read (p .right) (body .second ++ ending) (body .right-name) (separator-stops form (body .second) ending (body .second-separates))
+        ap nameLength at-right ∙ name-read (p .right) (body .second ++ ending) (body .legal .right-name) (separator-stops form (body .second) ending (body .second-separates))
 
     at-behind : drop (at .behind) t ≡ body .second ++ ending
     at-behind = ap (λ (n : ℕ). drop n t) (places .behind-is) ∙ behind-part t (p .right) (body .second ++ ending) (at .right) (nameLength (drop (at .right) t)) at-right right-length
@@ -196,7 +196,7 @@ module _ (form : Form) (t line rest : Text) (p : Pair) (at : Line) where
     at-value = ap (λ (n : ℕ). drop n t) (places .value-is) ∙ behind-part t (body .second) ending (at .behind) (separatorLength form (drop (at .behind) t)) at-behind second-length
 
     value-length : valueLength (drop (at .value) t) ≡ length (p .value)
-    value-length = ap valueLength at-value ∙ value-read (p .value) (newline ∷ rest) (body .value-form) (newline-no-digit rest)
+    value-length = ap valueLength at-value ∙ value-read (p .value) (newline ∷ rest) (body .legal .value-fits) (newline-no-digit rest)
 
     at-end : drop (at .end) t ≡ newline ∷ rest
     at-end = ap (λ (n : ℕ). drop n t) (places .end-is) ∙ behind-part t (p .value) (newline ∷ rest) (at .value) (valueLength (drop (at .value) t)) at-value value-length
@@ -204,9 +204,9 @@ module _ (form : Form) (t line rest : Text) (p : Pair) (at : Line) where
     shape-found : isPair t at ≡ true
     unfolding isPair endsAt beginsWith
     shape-found =
-        let lefts = and-of (ltb (at .left) (at .between)) (ltb (at .between) (at .right)) (rising (at .left) (at .between) (length (p .left)) (places .between-is ∙ ap (λ (n : ℕ). at .left + n) left-length) (name-some (p .left) (body .left-name))) (rising (at .between) (at .right) (length (body .first)) (places .right-is ∙ ap (λ (n : ℕ). at .between + n) first-length) (separator-some form (body .first) (body .first-separates))) in
-        let rights = and-of (ltb (at .right) (at .behind)) (ltb (at .behind) (at .value)) (rising (at .right) (at .behind) (length (p .right)) (places .behind-is ∙ ap (λ (n : ℕ). at .right + n) right-length) (name-some (p .right) (body .right-name))) (rising (at .behind) (at .value) (length (body .second)) (places .value-is ∙ ap (λ (n : ℕ). at .behind + n) second-length) (separator-some form (body .second) (body .second-separates))) in
-        let values = and-of (ltb (at .value) (at .end)) (beginsWith newline (drop (at .end) t)) (rising (at .value) (at .end) (length (p .value)) (places .end-is ∙ ap (λ (n : ℕ). at .value + n) value-length) (value-some (p .value) (body .value-form))) (ap (beginsWith newline) at-end) in
+        let lefts = and-of (ltb (at .left) (at .between)) (ltb (at .between) (at .right)) (rising (at .left) (at .between) (length (p .left)) (places .between-is ∙ ap (λ (n : ℕ). at .left + n) left-length) (name-some (p .left) (body .legal .left-name))) (rising (at .between) (at .right) (length (body .first)) (places .right-is ∙ ap (λ (n : ℕ). at .between + n) first-length) (separator-some form (body .first) (body .first-separates))) in
+        let rights = and-of (ltb (at .right) (at .behind)) (ltb (at .behind) (at .value)) (rising (at .right) (at .behind) (length (p .right)) (places .behind-is ∙ ap (λ (n : ℕ). at .right + n) right-length) (name-some (p .right) (body .legal .right-name))) (rising (at .behind) (at .value) (length (body .second)) (places .value-is ∙ ap (λ (n : ℕ). at .behind + n) second-length) (separator-some form (body .second) (body .second-separates))) in
+        let values = and-of (ltb (at .value) (at .end)) (beginsWith newline (drop (at .end) t)) (rising (at .value) (at .end) (length (p .value)) (places .end-is ∙ ap (λ (n : ℕ). at .value + n) value-length) (value-some (p .value) (body .legal .value-fits))) (ap (beginsWith newline) at-end) in
         and-of ((ltb (at .left) (at .between) && ltb (at .between) (at .right)) && (ltb (at .right) (at .behind) && ltb (at .behind) (at .value))) (ltb (at .value) (at .end) && beginsWith newline (drop (at .end) t)) (and-of (ltb (at .left) (at .between) && ltb (at .between) (at .right)) (ltb (at .right) (at .behind) && ltb (at .behind) (at .value)) lefts rights) values
 
 -- ---- Fields at their places are a line with a pair
@@ -315,10 +315,10 @@ shape-clean form line p shape =
     let body = shape .body in
     let name = name-clean newline newline-no-name in
     let join = each-join (isNot newline) in
-    let ending = join (body .second) (p .value) (separator-clean form (body .second) (body .second-separates)) (value-clean newline newline-no-name (p .value) (body .value-form)) in
-    let righting = join (p .right) (body .second ++ p .value) (name (p .right) (body .right-name)) ending in
+    let ending = join (body .second) (p .value) (separator-clean form (body .second) (body .second-separates)) (value-clean newline newline-no-name (p .value) (body .legal .value-fits)) in
+    let righting = join (p .right) (body .second ++ p .value) (name (p .right) (body .legal .right-name)) ending in
     let behind = join (body .first) (p .right ++ (body .second ++ p .value)) (separator-clean form (body .first) (body .first-separates)) righting in
-    let all = join (p .left) (body .first ++ (p .right ++ (body .second ++ p .value))) (name (p .left) (body .left-name)) behind in
+    let all = join (p .left) (body .first ++ (p .right ++ (body .second ++ p .value))) (name (p .left) (body .legal .left-name)) behind in
     ap (each (isNot newline)) (shape .line-is)
     ∙ join (shape .lead) (shape .rest) (lead-clean form (shape .lead) (shape .leads)) (ap (each (isNot newline)) (body .body-is) ∙ all)
 
@@ -408,9 +408,12 @@ module _ (form : Form) (t : Text) (at : Line) (places : LineAt form t at) where
       body-is = refl;
       first-separates = rw first-part (separator-found form (drop (at .between) t) (omega (arith, first-part, rises .between-rises)));
       second-separates = rw second-part (separator-found form (drop (at .behind) t) (omega (arith, second-part, rises .behind-rises)));
-      left-name = rw left-part (name-found (drop (at .left) t) (omega (arith, left-part, rises .left-rises)));
-      right-name = rw right-part (name-found (drop (at .right) t) (omega (arith, right-part, rises .right-rises)));
-      value-form = rw value-part (value-found (drop (at .value) t) (omega (arith, value-part, rises .value-rises)));
+      legal =
+          record {
+            left-name = rw left-part (name-found (drop (at .left) t) (omega (arith, left-part, rises .left-rises)));
+            right-name = rw right-part (name-found (drop (at .right) t) (omega (arith, right-part, rises .right-rises)));
+            value-fits = rw value-part (value-found (drop (at .value) t) (omega (arith, value-part, rises .value-rises)));
+          };
     }
 
     line : Text

@@ -1,14 +1,14 @@
 -- What a line with a pair is made of: what leads it, the names and the value, and what separates them; and that it is read as that pair, and no other line is.
-use mathlib.Core.Path.{_≡_, refl, sym, ap, _∙_, subst}
-use mathlib.Core.Bool.{Bool, true, false, _&&_, cond}
+use mathlib.Core.Path.{_≡_, refl, sym, ap, _∙_}
+use mathlib.Core.Bool.{true, false}
 use mathlib.Core.List.{List, [], _∷_, _++_, append-assoc, append-nil}
-use mathlib.Core.Option.{Option, none, some}
+use mathlib.Core.Option.{Option, some}
 use Prim.Native.Nat.{ℕ, _≤_}
 use lib.ListN.{length}
-use Rattle.semantics.specs.Text.{Text, sameText}
-use Rattle.laws.specs.Basics.{never, and-both, and-of, cond-true, sameText-eq, sameText-refl}
+use Rattle.semantics.specs.Text.{Text}
 use Rattle.sections.specs.Afm.{space, semicolon, beginsWith, squeezed, split, each, isNameByte, isName, isValue, Pair, pairFrom, pairOf, fieldsOf, kpxWord, kpxFrom, kpxOf}
 use Rattle.sections.specs.Splitting.{isNot, isSpace, split-field, split-last, split-more, split-one, squeezed-word, squeezed-spaces, squeezed-more, squeezed-one, space-no-name, semicolon-no-name, name-clean, value-clean, name-begins, value-begins}
+use Rattle.sections.specs.Writing.{LegalPair, pair-forth, pair-back, kpx-clean, kpx-from, kpx-word}
 use Rattle.fields.specs.declared.Form.{Form}
 use Rattle.fields.specs.declared.Form.the-variants.{Kpx, Sheet}
 
@@ -41,9 +41,7 @@ pub record Body (form : Form) (body : Text) (p : Pair) : Type 0 where
   pub body-is : body ≡ bodyOf (p .left) first (p .right) second (p .value)
   pub first-separates : Separates form first
   pub second-separates : Separates form second
-  pub left-name : isName (p .left) ≡ true
-  pub right-name : isName (p .right) ≡ true
-  pub value-form : isValue (p .value) ≡ true
+  pub legal : LegalPair p
 
 pub record Shape (form : Form) (line : Text) (p : Pair) : Type 0 where
   pub lead : Text
@@ -125,52 +123,22 @@ value-whole form t e = value-clean (separatorOf form) (separator-no-name form) t
 
 -- ---- Three fields
 
-pair-three : (l r v : Text) → isName l ≡ true → isName r ≡ true → isValue v ≡ true → pairFrom (l ∷ r ∷ v ∷ []) ≡ some (record { left = l; right = r; value = v })
-unfolding pairFrom
-pair-three l r v e f g = cond-true (isName l && isName r && isValue v) (some (record { left = l; right = r; value = v })) none (and-of (isName l && isName r) (isValue v) (and-of (isName l) (isName r) e f) g)
-
-record Three (fields : List Text) (p : Pair) : Type 0 where
-  fields-are : fields ≡ p .left ∷ p .right ∷ p .value ∷ []
-  left-name : isName (p .left) ≡ true
-  right-name : isName (p .right) ≡ true
-  value-form : isValue (p .value) ≡ true
-
-three-pair : (fields : List Text) (p : Pair) → pairFrom fields ≡ some p → Three fields p
-unfolding pairFrom
-three-pair [] p e = never (cc e)
-three-pair (l ∷ []) p e = never (cc e)
-three-pair (l ∷ r ∷ []) p e = never (cc e)
-three-pair (l ∷ r ∷ v ∷ m ∷ ms) p e = never (cc e)
-three-pair (l ∷ r ∷ v ∷ []) p e = go (isName l && isName r && isValue v) refl e
-  where
-    go :
-        (b : Bool)
-        → isName l && isName r && isValue v ≡ b
-        → cond b (some (record { left = l; right = r; value = v })) none ≡ some p
-        → Three (l ∷ r ∷ v ∷ []) p
-    go true h k =
-        let (names, value) = and-both (isName l && isName r) (isValue v) h in
-        let (left, right) = and-both (isName l) (isName r) names in
-        let p-is : record { left = l; right = r; value = v } ≡ p = cc k in
-        subst (Three (l ∷ r ∷ v ∷ [])) p-is (record { fields-are = refl; left-name = left; right-name = right; value-form = value })
-    go false h k = never (cc k)
-
 body-fields : {form : Form} {body : Text} {p : Pair} → Body form body p → fieldsIn form body ≡ p .left ∷ p .right ∷ p .value ∷ []
 body-fields {form} {body} {p} b =
     ap (fieldsIn form) (b .body-is)
-    ∙ fields-more form (p .left) (b .first) (p .right ++ (b .second ++ p .value)) (name-whole form (p .left) (b .left-name)) (b .first-separates) (name-begins (p .right) (b .second ++ p .value) (b .right-name))
+    ∙ fields-more form (p .left) (b .first) (p .right ++ (b .second ++ p .value)) (name-whole form (p .left) (b .legal .left-name)) (b .first-separates) (name-begins (p .right) (b .second ++ p .value) (b .legal .right-name))
     ∙ ap (λ (fs : List Text). p .left ∷ fs)
-    (fields-more form (p .right) (b .second) (p .value) (name-whole form (p .right) (b .right-name)) (b .second-separates) (ap (beginsWith space) (sym (append-nil (p .value))) ∙ value-begins (p .value) [] (b .value-form))
-    ∙ ap (λ (fs : List Text). p .right ∷ fs) (fields-last form (p .value) (value-whole form (p .value) (b .value-form))))
+    (fields-more form (p .right) (b .second) (p .value) (name-whole form (p .right) (b .legal .right-name)) (b .second-separates) (ap (beginsWith space) (sym (append-nil (p .value))) ∙ value-begins (p .value) [] (b .legal .value-fits))
+    ∙ ap (λ (fs : List Text). p .right ∷ fs) (fields-last form (p .value) (value-whole form (p .value) (b .legal .value-fits))))
 
 body-pair : {form : Form} {body : Text} {p : Pair} → Body form body p → pairFrom (fieldsIn form body) ≡ some p
 body-pair {form} {body} {p} b =
-    ap pairFrom (body-fields b) ∙ pair-three (p .left) (p .right) (p .value) (b .left-name) (b .right-name) (b .value-form)
+    ap pairFrom (body-fields b) ∙ pair-forth p (b .legal)
 
 pair-body : (form : Form) (body : Text) (p : Pair) → pairFrom (fieldsIn form body) ≡ some p → Body form body p
 pair-body form body p e =
-    let three = three-pair (fieldsIn form body) p e in
-    let m = more-fields form body (p .left) (p .right) (p .value ∷ []) (three .fields-are) in
+    let fields = pair-back (fieldsIn form body) p e in
+    let m = more-fields form body (p .left) (p .right) (p .value ∷ []) (fields .fields-are) in
     let n = more-fields form (m .behind) (p .right) (p .value) [] (m .behind-is) in
     let last = last-field form (n .behind) (p .value) (n .behind-is) in
     record {
@@ -180,24 +148,14 @@ pair-body form body p e =
           m .line-is ∙ ap (λ (x : Text). p .left ++ (m .between ++ x)) (n .line-is ∙ ap (λ (x : Text). p .right ++ (n .between ++ x)) last);
       first-separates = m .separates;
       second-separates = n .separates;
-      left-name = three .left-name;
-      right-name = three .right-name;
-      value-form = three .value-form;
+      legal = fields .legal;
     }
 
 body-begins : {form : Form} {body : Text} {p : Pair} → Body form body p → beginsWith space body ≡ false
 body-begins {form} {body} {p} b =
-    ap (beginsWith space) (b .body-is) ∙ name-begins (p .left) (b .first ++ (p .right ++ (b .second ++ p .value))) (b .left-name)
+    ap (beginsWith space) (b .body-is) ∙ name-begins (p .left) (b .first ++ (p .right ++ (b .second ++ p .value))) (b .legal .left-name)
 
 -- ---- A line of that shape is read as the pair, and a line that is read as one has that shape
-
-kpx-clean : each (isNot space) kpxWord ≡ true
-unfolding each isNot
-kpx-clean = refl
-
-kpx-others : (fields : List Text) → kpxFrom (kpxWord ∷ fields) ≡ pairFrom fields
-unfolding kpxFrom
-kpx-others fields = cond-true (sameText kpxWord kpxWord) (pairFrom fields) none (sameText-refl kpxWord)
 
 pub shape-read : (form : Form) (line : Text) (p : Pair) → Shape form line p → formOf form line ≡ some p
 unfolding formOf kpxOf pairOf fieldsOf Leads fieldsIn
@@ -205,40 +163,21 @@ shape-read Kpx line p shape =
     let word = shape .leads in
     let whole = shape .line-is ∙ ap (λ (x : Text). x ++ shape .rest) (word .lead-is) ∙ append-assoc kpxWord (word .spaces) (shape .rest) in
     ap kpxFrom (ap (fieldsIn Kpx) whole ∙ fields-more Kpx kpxWord (word .spaces) (shape .rest) kpx-clean (word .separates) (body-begins (shape .body)))
-    ∙ kpx-others (fieldsIn Kpx (shape .rest))
+    ∙ kpx-from (fieldsIn Kpx (shape .rest))
     ∙ body-pair (shape .body)
 shape-read Sheet line p shape =
     ap (λ (x : Text). pairFrom (split semicolon x)) (shape .line-is ∙ ap (λ (x : Text). x ++ shape .rest) (shape .leads)) ∙ body-pair (shape .body)
 
-record Word (fields : List Text) (p : Pair) : Type 0 where
-  others : List Text
-  fields-are : fields ≡ kpxWord ∷ others
-  pair-is : pairFrom others ≡ some p
-
-kpx-word : (fields : List Text) (p : Pair) → kpxFrom fields ≡ some p → Word fields p
-unfolding kpxFrom
-kpx-word [] p e = never (cc e)
-kpx-word (w ∷ fs) p e = go (sameText w kpxWord) refl e
-  where
-    go : (b : Bool) → sameText w kpxWord ≡ b → cond b (pairFrom fs) none ≡ some p → Word (w ∷ fs) p
-    go true h k = record { others = fs; fields-are = ap (λ (x : Text). x ∷ fs) (sameText-eq w kpxWord h); pair-is = k }
-    go false h k = never (cc k)
-
--- the fields behind the word are at least one
-others-some : (others : List Text) (p : Pair) → pairFrom others ≡ some p → others ≡ p .left ∷ p .right ∷ p .value ∷ []
-others-some others p e = three-pair others p e .fields-are
-
 pub read-shape : (form : Form) (line : Text) (p : Pair) → formOf form line ≡ some p → Shape form line p
 unfolding formOf kpxOf pairOf fieldsOf Leads fieldsIn
 read-shape Kpx line p e =
-    let word = kpx-word (split space (squeezed line)) p e in
-    let others = others-some (word .others) p (word .pair-is) in
-    let m = more-fields Kpx line kpxWord (p .left) (p .right ∷ p .value ∷ []) (word .fields-are ∙ ap (λ (fs : List Text). kpxWord ∷ fs) others) in
+    let (fields-are, legal) = kpx-word (split space (squeezed line)) p e in
+    let m = more-fields Kpx line kpxWord (p .left) (p .right ∷ p .value ∷ []) fields-are in
     record {
       lead = kpxWord ++ m .between;
       rest = m .behind;
       line-is = m .line-is ∙ sym (append-assoc kpxWord (m .between) (m .behind));
       leads = record { spaces = m .between; lead-is = refl; separates = m .separates };
-      body = pair-body Kpx (m .behind) p (ap pairFrom (m .behind-is ∙ sym others) ∙ word .pair-is);
+      body = pair-body Kpx (m .behind) p (ap pairFrom (m .behind-is) ∙ pair-forth p legal);
     }
 read-shape Sheet line p e = record { lead = []; rest = line; line-is = refl; leads = refl; body = pair-body Sheet line p e }

@@ -145,7 +145,7 @@ kpx-fields p legal =
     split-field space kpxWord (pairLine space p) kpx-clean
     ∙ ap (λ (fields : List Text). kpxWord ∷ fields) (pair-split space space-no-name p legal)
 
-kpx-from : (fields : List Text) → kpxFrom (kpxWord ∷ fields) ≡ pairFrom fields
+pub kpx-from : (fields : List Text) → kpxFrom (kpxWord ∷ fields) ≡ pairFrom fields
 unfolding kpxFrom
 kpx-from fields = cond-true (sameText kpxWord kpxWord) (pairFrom fields) none (sameText-refl kpxWord)
 
@@ -158,7 +158,7 @@ kpx-forth p legal =
     ∙ pair-forth p legal
 
 -- and every line that is read as a pair becomes it when its runs of spaces are made one.
-kpx-word : (fields : List Text) (p : Pair) → kpxFrom fields ≡ some p → (fields ≡ kpxWord ∷ p .left ∷ p .right ∷ p .value ∷ []) × LegalPair p
+pub kpx-word : (fields : List Text) (p : Pair) → kpxFrom fields ≡ some p → (fields ≡ kpxWord ∷ p .left ∷ p .right ∷ p .value ∷ []) × LegalPair p
 unfolding kpxFrom
 kpx-word [] p e = never (cc)
 kpx-word (word ∷ fields) p e = go (sameText word kpxWord) refl e
@@ -193,7 +193,7 @@ pub start-clean : each (isNot space) startWord ≡ true
 unfolding each isNot
 start-clean = refl
 
-count-form : (n : ℕ) → n ≤ maxCount → isNumber maxCount (decimal n) ≡ true
+pub count-form : (n : ℕ) → n ≤ maxCount → isNumber maxCount (decimal n) ≡ true
 count-form n small = decimal-is-number n maxCount small (omega arith)
 
 start-squeezed : (n : ℕ) → n ≤ maxCount → squeezed (startLine n) ≡ startLine n
@@ -212,7 +212,7 @@ start-fields n small =
     split-field space startWord (decimal n) start-clean
     ∙ ap (λ (fields : List Text). startWord ∷ fields) (split-last space (decimal n) (number-clean space space-no-name maxCount (decimal n) (count-form n small)))
 
-count-from : (n : ℕ) → n ≤ maxCount → countFrom (startWord ∷ decimal n ∷ []) ≡ some n
+pub count-from : (n : ℕ) → n ≤ maxCount → countFrom (startWord ∷ decimal n ∷ []) ≡ some n
 unfolding countFrom
 count-from n small =
     cond-true
@@ -228,7 +228,7 @@ unfolding countOf fieldsOf
 count-forth n small =
     ap (λ (t : Text). countFrom (split space t)) (start-squeezed n small) ∙ ap countFrom (start-fields n small) ∙ count-from n small
 
-count-word : (fields : List Text) (n : ℕ) → countFrom fields ≡ some n → (fields ≡ startWord ∷ decimal n ∷ []) × (n ≤ maxCount)
+pub count-word : (fields : List Text) (n : ℕ) → countFrom fields ≡ some n → (fields ≡ startWord ∷ decimal n ∷ []) × (n ≤ maxCount)
 unfolding countFrom
 count-word [] n e = never (cc)
 count-word (word ∷ []) n e = never (cc)

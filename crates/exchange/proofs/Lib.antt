@@ -1,0 +1,2 @@
+-- What the proofs of both functions cite.
+mod Exchanging
