@@ -1,10 +1,12 @@
 // The first and the last line of a section.
-use crate::TEXT;
 use fields::ends_at;
 use fields::number_at;
 use fields::starts_with;
 use fields::word_length;
 ghost use Rattle.afm.specs.Section.{StartsAt, EndFault};
+
+// The largest count.
+const COUNT: usize = 65535;
 
 // Where the line behind the first begins, and the count; 0 and 0 where the first line is not of its form.
 pub struct Start {
@@ -16,7 +18,7 @@ pub fn start_line(text: &[u8]) -> Start
     ensures { λ r. ⌜ StartsAt (now (text .entry)) r ⌝ }
 {
     let at = word_length(b"StartKernPairs", text);
-    let found = number_at(TEXT, &text[at..]);
+    let found = number_at(COUNT, &text[at..]);
     let end = at + found.count;
     if ends_at(text, at, end) {
         return Start {

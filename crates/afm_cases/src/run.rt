@@ -1,6 +1,5 @@
 // The lines of a script, one after the other.
 use crate::show;
-use crate::show::within;
 use script::append;
 use script::append_numbers;
 use script::append_times;
@@ -8,6 +7,7 @@ use script::argument;
 use script::find;
 use script::letters;
 use script::number;
+use script::within;
 use texts::write_text;
 
 // How many bytes the text has, how many are lent for an answer, and how many the last result has.

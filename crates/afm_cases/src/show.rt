@@ -3,8 +3,7 @@
 use answers::Answer;
 use libc::STDOUT_FILENO;
 use script::fill;
-ghost use Prim.Native.Nat.{_≤_};
-ghost use lib.ListN.{length};
+use script::within;
 
 // Above this, a sum over a text's bytes stands for it.
 const LONGEST_SHOWN: usize = 200;
@@ -14,17 +13,6 @@ const MARK: u8 = b'.';
 
 // What sums are taken modulo: the largest prime below 2 to the 32.
 const PRIME: u64 = 4294967291;
-
-// A length, as far as the text goes.
-pub fn within(count: usize, text: &[u8]) -> usize
-    ensures { λ r. ⌜ r ≤ length (now (text .entry)) ⌝ }
-{
-    if count < text.len() {
-        count
-    } else {
-        text.len()
-    }
-}
 
 fn write(text: &[u8]) {
     io::write_all(STDOUT_FILENO, text);

@@ -7,8 +7,7 @@ use script::argument;
 use script::find;
 use script::letters;
 use script::number;
-ghost use Prim.Native.Nat.{_≤_};
-ghost use lib.ListN.{length};
+use script::within;
 
 // How much of each buffer is in use, the length that is lent for an answer, and which text was set last.
 pub struct State {
@@ -143,17 +142,6 @@ fn call(line: &[u8], state: State, table: &[u8], sheet: &[u8], source: &[u8], ou
         &source[0..s],
         &mut out[0..o],
     );
-}
-
-// A length, as far as the text goes.
-fn within(count: usize, text: &[u8]) -> usize
-    ensures { λ r. ⌜ r ≤ length (now (text .entry)) ⌝ }
-{
-    if count < text.len() {
-        count
-    } else {
-        text.len()
-    }
 }
 
 fn answer(word: u64, name: &[u8], table: &[u8], sheet: &[u8], source: &[u8], out: &mut [u8]) {

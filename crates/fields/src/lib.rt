@@ -10,8 +10,19 @@ ghost use Rattle.sections.specs.Afm.{each, isNameByte, isDigit, leadingZero, be
 ghost use Rattle.fields.specs.declared.Form.the-variants.{Sheet};
 ghost use Rattle.fields.specs.Scan.{isOf, run, nameLength, grown, cappedFrom, front, noNumber, numberIn, valueLength, separatorLength, wordLength, leadLength, LineAt, endsAt, isPair};
 
+// The longest name.
+const NAME: usize = 63;
+
+// The largest value, and the least one without its minus.
+const VALUE: usize = 32767;
+
+const NEGATIVE: usize = 32768;
+
+// The largest number that is asked for: beyond it no number is followed.
+const LARGEST: usize = 65535;
+
 // Bytes of names, spaces, digits.
-pub enum Class {
+enum Class {
     Name,
     Space,
     Digit,
@@ -44,7 +55,7 @@ fn is_of(class: Class, byte: u8) -> bool
 {
     match class {
         Class::Name => is_name_byte(byte),
-        Class::Space => byte == 32,
+        Class::Space => byte == b' ',
         Class::Digit => is_digit(byte),
     }
 }
@@ -52,16 +63,16 @@ fn is_of(class: Class, byte: u8) -> bool
 fn is_name_byte(byte: u8) -> bool
     ensures { λ r. ⌜ r ≡ isNameByte byte ⌝ }
 {
-    if byte == 59 {
+    if byte == b';' {
         return false;
     }
-    33 <= byte && byte <= 126
+    b'!' <= byte && byte <= b'~'
 }
 
 fn is_digit(byte: u8) -> bool
     ensures { λ r. ⌜ r ≡ isDigit byte ⌝ }
 {
-    48 <= byte && byte <= 57
+    b'0' <= byte && byte <= b'9'
 }
 
 fn run_length(class: Class, text: &[u8]) -> usize
@@ -82,7 +93,7 @@ fn name_length(text: &[u8]) -> usize
     ensures { λ r. ⌜ r ≡ nameLength (now (text .entry)) ⌝ }
 {
     let n = run_length(Class::Name, text);
-    if 63 < n {
+    if NAME < n {
         return 0;
     }
     n
@@ -93,10 +104,10 @@ fn grow(number: usize, digit: u8) -> usize
     requires { ⌜ isDigit digit ≡ true ⌝ }
     ensures { λ r. ⌜ r ≡ grown number digit ⌝ }
 {
-    if 65535 < number {
+    if LARGEST < number {
         return number;
     }
-    10 * number + (digit - 48) as usize
+    10 * number + (digit - b'0') as usize
 }
 
 // The number that some digits write, or one over 65,535 in place of a larger one.
@@ -117,7 +128,7 @@ fn number_of(digits: &[u8]) -> usize
 fn leading_zero(digits: &[u8]) -> bool
     ensures { λ r. ⌜ r ≡ leadingZero (now (digits .entry)) ⌝ }
 {
-    1 < digits.len() && digits[0] == 48
+    1 < digits.len() && digits[0] == b'0'
 }
 
 fn no_number() -> Digits
@@ -159,25 +170,25 @@ pub fn number_at(limit: usize, text: &[u8]) -> Digits
 fn value_length(text: &[u8]) -> usize
     ensures { λ r. ⌜ r ≡ valueLength (now (text .entry)) ⌝ }
 {
-    if !begins_with(45, text) {
-        let plain = number_at(32767, text);
+    if !begins_with(b'-', text) {
+        let plain = number_at(VALUE, text);
         return plain.count;
     }
-    let negative = number_at(32768, &text[1..]);
+    let negative = number_at(NEGATIVE, &text[1..]);
     if negative.number == 0 {
         return 0;
     }
     1 + negative.count
 }
 
-pub fn begins_with(byte: u8, text: &[u8]) -> bool
+fn begins_with(byte: u8, text: &[u8]) -> bool
     ensures { λ r. ⌜ r ≡ beginsWith byte (now (text .entry)) ⌝ }
 {
     0 < text.len() && text[0] == byte
 }
 
 // What separates two fields.
-pub fn separator_length(form: Form, text: &[u8]) -> usize
+fn separator_length(form: Form, text: &[u8]) -> usize
     ensures { λ r. ⌜ r ≡ separatorLength form (now (text .entry)) ⌝ }
 {
     match form {
@@ -189,7 +200,7 @@ pub fn separator_length(form: Form, text: &[u8]) -> usize
 fn mark_length(text: &[u8]) -> usize
     ensures { λ r. ⌜ r ≡ separatorLength Sheet (now (text .entry)) ⌝ }
 {
-    if begins_with(59, text) {
+    if begins_with(b';', text) {
         return 1;
     }
     0
@@ -294,7 +305,7 @@ pub fn ends_at(text: &[u8], from: usize, end: usize) -> bool
     requires { ⌜ end ≤ length (now text) ⌝ }
     ensures { λ r. ⌜ r ≡ endsAt (now (text .entry)) from end ⌝ }
 {
-    from < end && begins_with(10, &text[end..])
+    from < end && begins_with(b'\n', &text[end..])
 }
 
 fn rises(a: usize, b: usize, c: usize) -> bool

@@ -28,6 +28,17 @@ pub fn behind(text: &[u8], at: usize) -> usize
     if at < text.len() { at + 1 } else { text.len() }
 }
 
+// A length, as far as the text goes.
+pub fn within(count: usize, text: &[u8]) -> usize
+    ensures { λ r. ⌜ r ≡ min count (length (now (text .entry))) ⌝ }
+{
+    if count < text.len() {
+        count
+    } else {
+        text.len()
+    }
+}
+
 // Where what follows the first word of a line begins.
 pub fn argument(line: &[u8]) -> usize
     ensures { λ r. ⌜ r ≡ min (bytesBefore 32 (now (line .entry)) + 1) (length (now (line .entry))) ⌝ }
