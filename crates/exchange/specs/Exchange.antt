@@ -28,9 +28,9 @@ pub record SameSheet (sheet : Text) (r : Exchange) : Type 0 where
 pub record KeepsPairs (section : Text) (r : Exchange) : Type 0 where
   -- Wherever import gave a sheet for a section, export gives that section again, each run of spaces made one: 'On output one space separates fields'.
   pub same-section : (s : Text) → Gave (r .given) (r .first) s → Gave (r .again) (r .second) (squeezed section)
-  -- The sheet between them has the pairs of the section, in its order.
+  -- The sheet between them has the pairs of the section, in its order, and so has the section that is given.
   pub same-pairs :
       (s : Text) (read : Section)
       → Gave (r .given) (r .first) s
       → sectionOf section ≡ good read
-      → sheetOf s ≡ good (read .pairs)
+      → (sheetOf s ≡ good (read .pairs)) × (sectionOf (squeezed section) ≡ good read)

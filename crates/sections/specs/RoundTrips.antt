@@ -216,6 +216,18 @@ kept-pairs x s lent section e is =
     ∙ sheet-read (f .section .pairs) (section-of x (f .section) (f .section-is) .legal)
     ∙ ap (λ (r : Section). good (r .pairs)) same
 
+-- The section that export gives for that sheet is read as the first one was: the same count, and every pair in order.
+pub kept-section :
+    (x s : Text) (lent : ℕ) (section : Section) → importCall x lent ≡ gives s → sectionOf x ≡ good section → sectionOf (squeezed x) ≡ good section
+kept-section x s lent section e is =
+    let f = import-back x s lent e in
+    let same : f .section ≡ section = good-once (sectionOf x) (f .section) section (f .section-is) is in
+    let read = section-of x (f .section) (f .section-is) in
+    ap sectionOf (section-written x (f .section) (f .section-is) (f .count-is))
+    ∙ section-read (f .section .pairs) (read .legal) (omega (arith, f .count-is, read .small))
+    ∙ ap (λ (n : ℕ). good (record { count = n; pairs = f .section .pairs })) (sym (f .count-is))
+    ∙ ap good same
+
 -- The pairs of a sheet that export takes are never over 65,535, so their count has always its form,
 pub exported-few : (s x : Text) (lent : ℕ) (ps : List Pair) → exportCall s lent ≡ gives x → sheetOf s ≡ good ps → length ps ≤ 65535
 exported-few s x lent ps e is =

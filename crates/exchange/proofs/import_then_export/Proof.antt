@@ -2,7 +2,7 @@
 use borrow.Author.Needs.{needs}
 use denote.Ref.{now}
 use Rattle.sections.specs.Afm.{importCall, exportCall}
-use Rattle.sections.specs.RoundTrips.{import-export, kept-pairs}
+use Rattle.sections.specs.RoundTrips.{import-export, kept-pairs, kept-section}
 use Rattle.demands.proofs.Following.{gives-held}
 use Rattle.exchange.proofs.Exchanging.{made, first-gave, second-gave}
 use Rattle.exchange.proofs.import_then_export.Statement.{statement}
@@ -32,7 +32,7 @@ export-of-requires c κs = gives-held (c .before .before .before .import .ensure
 returns : tie.Need-returns
 returns c =
     let calls = made (importCall (now (c .before .before .before .before .before .before .before .before .before .before .args .section))) (λ n t. exportCall t n) (c .before .before .before .before .before .before .before .before .blank-buffer .ensures) (c .before .before .before .before .before .before .before .blank-buffer2 .ensures) (c .before .before .before .before .before .import .ensures) (c .before .export-of .ensures) in
-    (calls, record { same-section = λ s. second-gave calls s _ (import-export _ s); same-pairs = λ s read gave. kept-pairs _ s 65535 read (first-gave calls s gave) })
+    (calls, record { same-section = λ s. second-gave calls s _ (import-export _ s); same-pairs = λ s read gave is. (kept-pairs _ s 65535 read (first-gave calls s gave) is, kept-section _ s 65535 read (first-gave calls s gave) is) })
 
 pub import-then-export-spec : {M : Type 1} → statement M
 import-then-export-spec =
