@@ -14,9 +14,11 @@ use Rattle.semantics.specs.Text.{Text, sameText}
 use Rattle.laws.specs.Basics.{and-both, and-of, cond-true, cond-false, sameText-eq}
 use Rattle.sections.specs.Afm.{semicolon, minus, beginsWith, each, isNameByte, isName, isDigit, isValue, kpxWord}
 use Rattle.sections.specs.Splitting.{isSpace, begins-none}
+use Rattle.fields.specs.declared.Part.{Part}
+use Rattle.fields.specs.declared.Part.the-variants as P
 use Rattle.fields.specs.declared.Form.{Form}
 use Rattle.fields.specs.declared.Form.the-variants.{Kpx, Sheet}
-use Rattle.fields.specs.Scan.{run, front, lengthIf, nameLength, valueFront, valueLength, separatorLength, wordLength, leadLength}
+use Rattle.fields.specs.Scan.{run, front, lengthIf, nameLength, valueFront, valueLength, separatorLength, wordLength, leadLength, partLength}
 
 -- a test that nothing passes
 and-nothing : (b : Bool) → b && false ≡ false
@@ -200,3 +202,10 @@ pub lead-within : (form : Form) (t : Text) → leadLength form t ≤ length t
 unfolding leadLength
 lead-within Kpx t = word-length-within kpxWord t
 lead-within Sheet t = omega arith
+
+-- what a line has next lies in the text
+pub part-within : (part : Part) (form : Form) (t : Text) → partLength part form t ≤ length t
+unfolding partLength
+part-within P.Name form t = name-within t
+part-within P.Separator form t = separator-within form t
+part-within P.Value form t = value-within t

@@ -10,6 +10,8 @@ use Rattle.sections.specs.Afm.{newline, semicolon, minus, nought, beginsWith, i
 use Rattle.sections.specs.Splitting.{isSpace}
 use Rattle.fields.specs.declared.Class.{Class}
 use Rattle.fields.specs.declared.Class.the-variants.{Name, Space, Digit}
+use Rattle.fields.specs.declared.Part.{Part}
+use Rattle.fields.specs.declared.Part.the-variants as P
 use Rattle.fields.specs.declared.Form.{Form}
 use Rattle.fields.specs.declared.Form.the-variants.{Kpx, Sheet}
 use Rattle.fields.specs.declared.Digits.{Digits}
@@ -75,6 +77,12 @@ wordLength word t =
 unfoldable pub leadLength : Form → Text → ℕ
 leadLength Kpx t = wordLength kpxWord t
 leadLength Sheet t = 0
+
+-- what a line has next
+unfoldable pub partLength : Part → Form → Text → ℕ
+partLength P.Name form t = nameLength t
+partLength P.Separator form t = separatorLength form t
+partLength P.Value form t = valueLength t
 
 -- where the names and the value of a line begin and end, whether or not they are there
 pub record LineAt (form : Form) (t : Text) (line : Line) : Type 0 where

@@ -8,7 +8,7 @@ ghost use lib.ListN.{length, take, drop};
 ghost use Rattle.semantics.specs.Text.{sameText};
 ghost use Rattle.sections.specs.Afm.{each, isNameByte, isDigit, leadingZero, beginsWith};
 ghost use Rattle.fields.specs.declared.Form.the-variants.{Sheet};
-ghost use Rattle.fields.specs.Scan.{isOf, run, nameLength, grown, cappedFrom, front, noNumber, numberIn, valueLength, separatorLength, wordLength, leadLength, LineAt, endsAt, isPair};
+ghost use Rattle.fields.specs.Scan.{isOf, run, nameLength, grown, cappedFrom, front, noNumber, numberIn, valueLength, separatorLength, wordLength, leadLength, partLength, LineAt, endsAt, isPair};
 
 // The longest name.
 const NAME: usize = 63;
@@ -26,6 +26,13 @@ enum Class {
     Name,
     Space,
     Digit,
+}
+
+// What a line with a pair is made of, behind what leads it.
+enum Part {
+    Name,
+    Separator,
+    Value,
 }
 
 // How a line holds a pair: `KPX` and three fields between spaces, or three fields between semicolons.
@@ -242,28 +249,24 @@ pub fn word_length(word: &[u8], text: &[u8]) -> usize
     n + spaces
 }
 
-fn name_end(text: &[u8], at: usize) -> usize
-    requires { ⌜ at ≤ length (now text) ⌝ }
-    ensures end { λ r. ⌜ r ≡ at + nameLength (drop at (now (text .entry))) ⌝ }
-    ensures within { λ r. ⌜ r ≤ length (now (text .entry)) ⌝ }
+// How long what a line has next is.
+fn part_length(part: Part, form: Form, text: &[u8]) -> usize
+    ensures { λ r. ⌜ r ≡ partLength part form (now (text .entry)) ⌝ }
 {
-    at + name_length(&text[at..])
+    match part {
+        Part::Name => name_length(text),
+        Part::Separator => separator_length(form, text),
+        Part::Value => value_length(text),
+    }
 }
 
-fn separator_end(form: Form, text: &[u8], at: usize) -> usize
+// Where it ends, if it begins at a place.
+fn part_end(part: Part, form: Form, text: &[u8], at: usize) -> usize
     requires { ⌜ at ≤ length (now text) ⌝ }
-    ensures end { λ r. ⌜ r ≡ at + separatorLength form (drop at (now (text .entry))) ⌝ }
+    ensures end { λ r. ⌜ r ≡ at + partLength part form (drop at (now (text .entry))) ⌝ }
     ensures within { λ r. ⌜ r ≤ length (now (text .entry)) ⌝ }
 {
-    at + separator_length(form, &text[at..])
-}
-
-fn value_end(text: &[u8], at: usize) -> usize
-    requires { ⌜ at ≤ length (now text) ⌝ }
-    ensures end { λ r. ⌜ r ≡ at + valueLength (drop at (now (text .entry))) ⌝ }
-    ensures within { λ r. ⌜ r ≤ length (now (text .entry)) ⌝ }
-{
-    at + value_length(&text[at..])
+    at + part_length(part, form, &text[at..])
 }
 
 // Where the fields of the line at the start of a text are, if they are there.
@@ -271,11 +274,11 @@ pub fn line_at(form: Form, text: &[u8]) -> Line
     ensures { λ r. ⌜ LineAt form (now (text .entry)) r ⌝ }
 {
     let left = lead_length(form, text);
-    let between = name_end(text, left);
-    let right = separator_end(form, text, between);
-    let behind = name_end(text, right);
-    let value = separator_end(form, text, behind);
-    let end = value_end(text, value);
+    let between = part_end(Part::Name, form, text, left);
+    let right = part_end(Part::Separator, form, text, between);
+    let behind = part_end(Part::Name, form, text, right);
+    let value = part_end(Part::Separator, form, text, behind);
+    let end = part_end(Part::Value, form, text, value);
     Line {
         left,
         between,
