@@ -1,14 +1,14 @@
 use borrow.Author.Needs.{needs}
--- `sheet_cases::sentences` is safe and ends: each turn takes the next of the seventeen numbers. Assumes nothing.
+-- `sheet_cases::sentences` is safe and ends: each turn takes the next of the nineteen numbers. Assumes nothing.
 use Prim.Native.Nat.{_-_, _≤_}
 use Rattle.sheet_cases.proofs.sentences.Statement.{statement}
 use Rattle.sheet_cases.proofs.sentences.Tie as tie
 
 abbrev Inv-loop : tie.InvT-loop
-Inv-loop number₀ number = number ≤ 18
+Inv-loop number₀ number = number ≤ 20
 
 abbrev μ-loop : tie.MeasureT-loop
-μ-loop number₀ number = 18 - number
+μ-loop number₀ number = 20 - number
 
 loop-holds : tie.Need-loop-holds Inv-loop μ-loop
 loop-holds c = search needs
