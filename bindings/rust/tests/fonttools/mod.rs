@@ -4,12 +4,16 @@
 #![allow(dead_code)] // The test and the benchmark each use their own part of this.
 
 use std::io::{BufRead, BufReader, Write};
-use std::path::Path;
+use std::path::{Path, PathBuf};
 use std::process::{Child, ChildStdout, Command, Stdio};
 use std::time::Duration;
 
-/// Where a Python with fontTools may be.
-const INTERPRETERS: [&str; 2] = ["python3", "/usr/bin/python3"];
+/// Every Python of the search path, the first one first: fontTools may be there for a
+/// later one only.
+fn interpreters() -> Vec<PathBuf> {
+    let path = std::env::var_os("PATH").unwrap_or_default();
+    std::env::split_paths(&path).map(|folder| folder.join("python3")).filter(|file| file.is_file()).collect()
+}
 
 pub struct FontTools {
     process: Child,
@@ -21,9 +25,8 @@ pub struct FontTools {
 impl FontTools {
     /// Starts it, or tells why that can't be done.
     pub fn start() -> Result<FontTools, String> {
-        let found = INTERPRETERS.iter().find_map(|interpreter| Some((interpreter, version_at(interpreter)?)));
-        let (interpreter, version) =
-            found.ok_or_else(|| format!("no fontTools.afmLib in {}", INTERPRETERS.join(" or ")))?;
+        let found = interpreters().into_iter().find_map(|python| version_at(&python).map(|version| (python, version)));
+        let (interpreter, version) = found.ok_or("no python3 of the search path has fontTools.afmLib")?;
         let script = Path::new(env!("CARGO_MANIFEST_DIR")).join("tests/fonttools/afm.py");
         let mut command = Command::new(interpreter);
         let started = command.arg("-B").arg(script).stdin(Stdio::piped()).stdout(Stdio::piped()).spawn();
@@ -87,7 +90,7 @@ impl Drop for FontTools {
 }
 
 /// The version of fontTools that an interpreter has, if there is one.
-fn version_at(interpreter: &str) -> Option<String> {
+fn version_at(interpreter: &Path) -> Option<String> {
     let mut command = Command::new(interpreter);
     let asked = command.args(["-B", "-c", "import fontTools.afmLib; print(fontTools.version)"]);
     let output = asked.stderr(Stdio::null()).output().ok()?;
