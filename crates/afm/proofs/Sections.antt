@@ -19,7 +19,7 @@ use Rattle.sections.specs.Writing.{start-clean, count-form, count-from, count-w
 use Rattle.fields.specs.declared.Form.the-variants.{Kpx}
 use Rattle.fields.specs.declared.Digits.{Digits}
 use Rattle.fields.specs.Scan.{front, run, wordLength, numberIn, endsAt}
-use Rattle.fields.specs.Runs.{front-length, run-within, word-length-within}
+use Rattle.fields.specs.Runs.{number-in-is, front-length, run-within, word-length-within}
 use Rattle.fields.specs.Shapes.{Separates, AfterWord, fieldsIn, fields-more, fields-last, more-fields, last-field}
 use Rattle.fields.specs.Lines.{front-through, newline-no-digit, word-read, word-found, begins-one, separator-clean, cut, behind-part}
 use Rattle.afm.specs.Section.{sectionBehind, StartsAt, faulty, EndFault}
@@ -168,11 +168,7 @@ shape-clean line n shape =
     ∙ each-join (isNot newline) startWord (shape .spaces ++ decimal n) start-one-line
     (each-join (isNot newline) (shape .spaces) (decimal n) (separator-clean Kpx (shape .spaces) (shape .separates)) (number-clean newline newline-no-name maxCount (decimal n) (count-form n (shape .small))))
 
--- what `numberIn` says of digits that are a number, and of others
-in-number : (d : Text) → isNumber maxCount d ≡ true → numberIn 65535 d ≡ record { count = length d; number = numberOf d }
-unfolding numberIn
-in-number d e = cond-true (isNumber maxCount d) (record { count = length d; number = numberOf d }) (record { count = 0; number = 0 }) e
-
+-- digits that were found are a number
 number-in : (d : Text) → 0 < numberIn 65535 d .count → isNumber maxCount d ≡ true
 unfolding numberIn
 number-in d h = go (isNumber maxCount d) refl h
@@ -217,7 +213,7 @@ module _ (t : Text) (at : ℕ) (found : Digits) (at-is : at ≡ wordLength start
     number = number-in digits (omega (arith, ap (λ (d : Digits). d .count) found-is, between .0))
 
     known : found ≡ record { count = length digits; number = numberOf digits }
-    known = found-is ∙ in-number digits number
+    known = found-is ∙ number-in-is maxCount digits number
 
     word : AfterWord startWord (take at t)
     word = rw at-is (word-found startWord t (omega (arith, start-inside, between .0, at-is)))
@@ -291,7 +287,7 @@ module _ (t : Text) (at : ℕ) (found : Digits) (at-is : at ≡ wordLength start
         let front-is : front isDigit (drop at t) ≡ c =
         ap (front isDigit) at-count ∙ front-through isDigit c (newline ∷ behind) (number-of maxCount c number-form .digits) (newline-no-digit behind) in
         let count-is : found .count ≡ length c =
-        ap (λ (d : Digits). d .count) (found-is ∙ ap (numberIn 65535) front-is ∙ in-number c number-form) in
+        ap (λ (d : Digits). d .count) (found-is ∙ ap (numberIn 65535) front-is ∙ number-in-is maxCount c number-form) in
         let at-end : drop end t ≡ newline ∷ behind = behind-part t c (newline ∷ behind) at (found .count) at-count count-is in
         not-both
         (and-of (ltb at end) (beginsWith newline (drop end t)) (lt-ltb at end (omega (arith, count-is, number-some maxCount c number-form))) (ap (beginsWith newline) at-end ∙ newline-begins behind))

@@ -1,6 +1,6 @@
 -- The start of a text, asked byte by byte. Assumes nothing.
 use mathlib.Core.Path.{_≡_, refl, sym, ap, _∙_}
-use mathlib.Core.Bool.{Bool, true, false, not, _&&_, cond, true≢false}
+use mathlib.Core.Bool.{Bool, true, false, not, _&&_, cond}
 use mathlib.Core.List.{[], _∷_}
 use Prim.Native.Nat.{ℕ, suc, _+_, _-_, _*_, _≤_, _<_}
 use native.Mathlib.Omega.{arith}
@@ -9,16 +9,17 @@ use lib.Dec.{eqb, leb, ltb}
 use native.Mathlib.Numerals.{add-one}
 use lib.ListN.{length, take, drop, getD, drop-of-length-le}
 use lib.Seq.{drop-cons}
-use borrow.Author.Tests.{lt-ltb, le-ltb, le-leb, leb-true, leb-false, ne-eqb, eqb-true}
+use borrow.Author.Tests.{lt-ltb, le-ltb, le-leb, leb-true, leb-false, ne-eqb}
 use Rattle.semantics.specs.Text.{Text, sameText}
 use Rattle.laws.specs.Basics.{cond-true, cond-false, and-of, not-both, false-of-not-true}
 use Rattle.sections.specs.Afm.{semicolon, nought, beginsWith, each, isNameByte, isName, isDigit, numberFrom, numberOf, leadingZero, isNumber, isValue}
-use Rattle.sections.specs.Splitting.{each-both, name-of, number-of, is-number, value-none, value-plain, value-minus, digit-range, begins-none, begins-at}
+use Rattle.sections.specs.Splitting.{and-left, and-right, each-both, name-of, number-of, is-number, value-none, value-plain, value-minus, digit-range}
 use Rattle.fields.specs.declared.Digits.{Digits}
 use Rattle.fields.specs.declared.Line.{Line}
 use Rattle.fields.specs.declared.Form.the-variants.{Sheet}
 use Rattle.fields.specs.Scan.{run, front, lengthIf, nameLength, grown, cappedFrom, numberIn, valueFront, valueLength, separatorLength, endsAt, isPair}
-use Rattle.fields.specs.Runs.{run-more, run-over, run-none, front-length, front-each, length-if-true, length-if-false, word-within}
+use Rattle.fields.specs.Runs.{run-more, run-over, run-none, front-length, front-each, length-if-true, length-if-false, word-within, number-in-is}
+use Rattle.fields.specs.Lines.{begins-one}
 
 -- ---- One byte
 
@@ -59,10 +60,6 @@ module _ {test : ℕ → Bool} {t : Text} {i : ℕ} (inv : RunsOn test t i) wher
   run-ended h = omega (arith, inv .runs-on, run-none test t i h)
 
 -- ---- Classes
-
-and-false : (b : Bool) → b && false ≡ false
-and-false true = refl
-and-false false = refl
 
 and-true : (b : Bool) → b && true ≡ b
 and-true true = refl
@@ -117,10 +114,6 @@ grown-within n d h = sym (cond-false (ltb 65535 n) n (10 * n + (d - nought)) (le
 capped-cons : (n d : ℕ) (t : Text) → cappedFrom n (d ∷ t) ≡ cappedFrom (grown n d) t
 unfolding cappedFrom
 capped-cons n d t = refl
-
-number-cons : (n d : ℕ) (t : Text) → numberFrom n (d ∷ t) ≡ numberFrom (10 * n + (d - 48)) t
-unfolding numberFrom
-number-cons n d t = refl
 
 capped-over : (n : ℕ) (t : Text) → 65535 < n → cappedFrom n t ≡ n
 unfolding cappedFrom
@@ -210,7 +203,7 @@ zero-leads (d ∷ t) h =
 pub zero-alone : (t : Text) → length t ≤ 1 → false ≡ leadingZero t
 unfolding leadingZero
 zero-alone [] h = refl
-zero-alone (d ∷ t) h = sym (ap (λ x. eqb d 48 && x) (le-ltb 0 (length t) (omega arith)) ∙ and-false (eqb d 48))
+zero-alone (d ∷ t) h = sym (and-right (eqb d 48) (ltb 0 (length t)) (le-ltb 0 (length t) (omega arith)))
 
 capped-none : cappedFrom 0 [] ≡ 0
 unfolding cappedFrom
@@ -224,10 +217,6 @@ module _ (limit : ℕ) (t : Text) where
   none-in : isNumber limit t ≡ false → record { count = 0; number = 0 } ≡ numberIn limit t
   unfolding numberIn
   none-in e = sym (cond-false (isNumber limit t) (record { count = length t; number = numberOf t }) (record { count = 0; number = 0 }) e)
-
-  some-in : isNumber limit t ≡ true → record { count = length t; number = numberOf t } ≡ numberIn limit t
-  unfolding numberIn
-  some-in e = sym (cond-true (isNumber limit t) (record { count = length t; number = numberOf t }) (record { count = 0; number = 0 }) e)
 
   -- a nought stands in front of others,
   pub number-zero : leadingZero t ≡ true → record { count = 0; number = 0 } ≡ numberIn limit t
@@ -249,8 +238,8 @@ module _ (limit : ℕ) (t : Text) where
         go : (b : Bool) → leb 1 (length t) ≡ b → record { count = length t; number = capped } ≡ numberIn limit t
         go true k =
             rw e
-            (some-in
-            (is-number limit t (record { some = leb-true 1 (length t) k; digits = digits; no-zero = plain; within = omega (arith, e) })))
+            (sym (number-in-is limit t
+            (is-number limit t (record { some = leb-true 1 (length t) k; digits = digits; no-zero = plain; within = omega (arith, e) }))))
         go false k =
             let few = leb-false 1 (length t) k in
             let nothing : t ≡ [] = length-none t (omega arith) in
@@ -293,17 +282,9 @@ value-plain-length t e =
     count-in 32767 (front isDigit t)
     ∙ sym (ap (lengthIf isValue) (front-plain t e) ∙ length-if-same isValue (isNumber 32767) (front isDigit t) (digits-value (front isDigit t) (front-each isDigit t)))
 
-begins-cons : (b : ℕ) (t : Text) → beginsWith b t ≡ true → t ≡ b ∷ drop 1 t
-begins-cons b [] e = absurd (true≢false (sym e ∙ begins-none b))
-begins-cons b (c ∷ t) e = ap (λ (x : ℕ). x ∷ t) (eqb-true c b (sym (begins-at b c t) ∙ e))
-
-pub begins-some : (b : ℕ) (t : Text) → beginsWith b t ≡ true → 1 ≤ length t
-begins-some b [] e = absurd (true≢false (sym e ∙ begins-none b))
-begins-some b (c ∷ t) e = omega arith
-
 minus-length : (t : Text) → beginsWith 45 t ≡ true → valueLength t ≡ lengthIf isValue (45 ∷ front isDigit (drop 1 t))
 unfolding valueLength
-minus-length t e = ap (lengthIf isValue) (ap valueFront (begins-cons 45 t e) ∙ front-minus (drop 1 t))
+minus-length t e = ap (lengthIf isValue) (ap valueFront (begins-one 45 t e .0) ∙ front-minus (drop 1 t))
 
 -- what is known of a number that is not 0, and of one that is
 in-some : (limit : ℕ) (d : Text) → ¬ (numberIn limit d .number ≡ 0) → (isNumber limit d ≡ true) × (0 < numberOf d) × (numberIn limit d .count ≡ length d)
@@ -363,10 +344,10 @@ digits-front t n e = ap (λ (k : ℕ). take k t) (sub-zero n ∙ e)
 -- ---- Whether all of a line is there, asked part by part
 
 first-fails : (a b c : Bool) → a ≡ false → false ≡ a && b && c
-first-fails a b c e = rw e refl
+first-fails a b c e = sym (and-left (a && b) c (and-left a b e))
 
 second-fails : (a b c : Bool) → b ≡ false → false ≡ a && b && c
-second-fails a b c e = rw (e, and-false a) refl
+second-fails a b c e = sym (and-left (a && b) c (and-right a b e))
 
 third-tells : (a b c : Bool) → a ≡ true → b ≡ true → c ≡ a && b && c
 third-tells a b c p q = rw (p, q) refl

@@ -9,21 +9,16 @@ use native.Mathlib.Omega.{arith}
 use lib.Dec.{eqb, ltb}
 use lib.ListN.{length, take, drop, getD, length-take, length-drop, drop-of-length-le}
 use lib.Seq.{drop-cons, length-take-le}
-use borrow.Author.Tests.{lt-ltb, ltb-true, ltb-false}
+use borrow.Author.Tests.{lt-ltb, le-ltb, ltb-true, ltb-false}
 use Rattle.semantics.specs.Text.{Text, sameText}
 use Rattle.laws.specs.Basics.{and-both, and-of, cond-true, cond-false, sameText-eq}
-use Rattle.sections.specs.Afm.{semicolon, minus, beginsWith, each, isNameByte, isName, isDigit, isValue, kpxWord}
-use Rattle.sections.specs.Splitting.{isSpace, begins-none}
+use Rattle.sections.specs.Afm.{semicolon, minus, beginsWith, each, isNameByte, isName, isDigit, numberOf, isNumber, isValue}
+use Rattle.sections.specs.Splitting.{isSpace, and-left, and-right, begins-none}
 use Rattle.fields.specs.declared.Part.{Part}
 use Rattle.fields.specs.declared.Part.the-variants as P
 use Rattle.fields.specs.declared.Form.{Form}
 use Rattle.fields.specs.declared.Form.the-variants.{Kpx, Sheet}
-use Rattle.fields.specs.Scan.{run, front, lengthIf, nameLength, valueFront, valueLength, separatorLength, wordLength, leadLength, partLength}
-
--- a test that nothing passes
-and-nothing : (b : Bool) → b && false ≡ false
-and-nothing true = refl
-and-nothing false = refl
+use Rattle.fields.specs.Scan.{run, front, lengthIf, noNumber, numberIn, nameLength, valueFront, valueLength, separatorLength, wordLength, partLength}
 
 module _ (test : ℕ → Bool) where
   run-cons : (b : ℕ) (t : Text) → run test (b ∷ t) ≡ cond (test b) (suc (run test t)) 0
@@ -138,9 +133,9 @@ pub value-within : (t : Text) → valueLength t ≤ length t
 unfolding valueLength
 value-within t = omega (arith, length-if-within isValue (valueFront t), value-front-within t)
 
-begun : (m : ℕ) (t : Text) → beginsWith m t ≡ true → 1 ≤ length t
-begun m [] e = absurd (true≢false (sym e ∙ begins-none m))
-begun m (b ∷ t) e = omega arith
+pub begins-some : (m : ℕ) (t : Text) → beginsWith m t ≡ true → 1 ≤ length t
+begins-some m [] e = absurd (true≢false (sym e ∙ begins-none m))
+begins-some m (b ∷ t) e = omega arith
 
 pub separator-within : (form : Form) (t : Text) → separatorLength form t ≤ length t
 unfolding separatorLength
@@ -148,7 +143,7 @@ separator-within Kpx t = run-within isSpace t
 separator-within Sheet t = go (beginsWith semicolon t) refl
   where
     go : (b : Bool) → beginsWith semicolon t ≡ b → cond b 1 0 ≤ length t
-    go true e = begun semicolon t e
+    go true e = begins-some semicolon t e
     go false e = omega arith
 
 -- a word that a text starts with
@@ -183,8 +178,8 @@ word-length-false word t e =
     go :
         (sameText (take (length word) t) word ≡ false) ⊎ (run isSpace (drop (length word) t) ≡ 0)
         → sameText (take (length word) t) word && ltb 0 (run isSpace (drop (length word) t)) ≡ false
-    go (inl h) = rw h refl
-    go (inr h) = rw h (and-nothing (sameText (take (length word) t) word))
+    go (inl h) = and-left (sameText (take (length word) t) word) (ltb 0 (run isSpace (drop (length word) t))) h
+    go (inr h) = and-right (sameText (take (length word) t) word) (ltb 0 (run isSpace (drop (length word) t))) (le-ltb 0 (run isSpace (drop (length word) t)) (omega arith))
 
 pub word-length-within : (word t : Text) → wordLength word t ≤ length t
 word-length-within word t = go (sameText (take (length word) t) word) refl (ltb 0 (run isSpace (drop (length word) t))) refl
@@ -198,14 +193,14 @@ word-length-within word t = go (sameText (take (length word) t) word) refl (ltb 
         omega (arith, word-length-false word t (inr (omega arith)))
     go false e b h = omega (arith, word-length-false word t (inl e))
 
-pub lead-within : (form : Form) (t : Text) → leadLength form t ≤ length t
-unfolding leadLength
-lead-within Kpx t = word-length-within kpxWord t
-lead-within Sheet t = omega arith
-
 -- what a line has next lies in the text
 pub part-within : (part : Part) (form : Form) (t : Text) → partLength part form t ≤ length t
 unfolding partLength
 part-within P.Name form t = name-within t
 part-within P.Separator form t = separator-within form t
 part-within P.Value form t = value-within t
+
+-- digits that are a number up to the limit
+pub number-in-is : (limit : ℕ) (digits : Text) → isNumber limit digits ≡ true → numberIn limit digits ≡ record { count = length digits; number = numberOf digits }
+unfolding numberIn
+number-in-is limit digits e = cond-true (isNumber limit digits) (record { count = length digits; number = numberOf digits }) noNumber e

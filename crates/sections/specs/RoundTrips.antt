@@ -1,4 +1,4 @@
--- Import and export undo each other; how long the result is; that a count has always its form; and which refusals there are.
+-- Import and export undo each other; how long the result is; that a count has always its form; and that no refusal is number 0.
 use mathlib.Core.Path.{_≡_, refl, sym, ap, _∙_}
 use mathlib.Core.Bool.{Bool, true, false, not}
 use mathlib.Core.List.{List, [], _∷_, _++_, map}
@@ -77,9 +77,6 @@ line-each line (p ∷ ps) = omega (arith, line-each line ps, newlines-length (li
 
 pub few-pairs : (ps : List Pair) → length (writeSheet ps) ≤ 65535 → length ps ≤ 65535
 few-pairs ps h = omega (arith, ap length (sheet-lines ps), line-each (pairLine semicolon) ps)
-
-pub few-section-pairs : (ps : List Pair) → length (writeSection ps) ≤ 65535 → length ps ≤ 65535
-few-section-pairs ps h = omega (arith, section-length ps)
 
 -- ---- The calls
 

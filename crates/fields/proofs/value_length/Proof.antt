@@ -8,8 +8,8 @@ use Rattle.sections.specs.Afm.{isDigit}
 use Rattle.texts.specs.Cutting.{rest-lent}
 use Rattle.fields.specs.declared.Digits.{Digits}
 use Rattle.fields.specs.Scan.{front, numberIn}
-use Rattle.fields.specs.Runs.{value-within}
-use Rattle.fields.proofs.Scanning.{begins-some, value-plain-length, value-nought, value-negative}
+use Rattle.fields.specs.Runs.{begins-some, value-within}
+use Rattle.fields.proofs.Scanning.{value-plain-length, value-nought, value-negative}
 use Rattle.fields.proofs.value_length.Statement.{statement}
 use Rattle.fields.proofs.value_length.Tie as tie
 
