@@ -1,10 +1,9 @@
-//! Times the engine beside the reference, and beside Augeas, fontTools and Python's `re`
-//! where they are there; and the engine alone on the slowest calls known.
+//! Times the engine beside the reference, and beside Augeas and fontTools where they
+//! are there; and the engine alone on the slowest calls known.
 //!
 //! `cargo run --release --example bench`, in the folder of this package.
 
 mod afm;
-mod belongs;
 #[path = "../tests/fonttools/mod.rs"]
 mod fonttools;
 mod slow_calls;
@@ -65,7 +64,6 @@ fn bench() {
     checks();
     clashes(&table);
     by_size(&table);
-    belongs::bench();
     slow();
     match Augeas::start(&texts.source, &texts.reversed_source) {
         Ok(augeas) => beside_augeas(augeas, &table, &texts),

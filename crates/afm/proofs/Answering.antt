@@ -20,11 +20,11 @@ use Rattle.answers.proofs.Giving.{refused, passed, given}
 use Rattle.fields.specs.declared.Form.TheVariants.{Kpx, Sheet}
 use Rattle.fields.specs.Shapes.{form_of}
 use Rattle.fields.specs.Lines.{pairs_in}
-use Rattle.metrics.specs.declared.pairs.Measured.{Measured}
-use Rattle.metrics.specs.declared.section.Start.{Start}
-use Rattle.metrics.specs.Pairs.{Measures, line_for, lines_for}
-use Rattle.metrics.specs.Section.{section_behind, StartsAt, faulty, EndFault, section_text}
-use Rattle.metrics.proofs.Sections.{left_none, left_some}
+use Rattle.afm.specs.declared.pairs.Measured.{Measured}
+use Rattle.afm.specs.declared.section.Start.{Start}
+use Rattle.afm.specs.Pairs.{Measures, line_for, lines_for}
+use Rattle.afm.specs.Section.{section_behind, StartsAt, faulty, EndFault, section_text}
+use Rattle.afm.proofs.Sections.{left_none, left_some}
 
 -- ---- What both calls do at their ends
 

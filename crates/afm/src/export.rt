@@ -3,14 +3,14 @@ ghost use Rattle.std.specs.Prelude.{◌≤◌, length};
 ghost use Rattle.sections.specs.Afm.{export_call};
 ghost use Rattle.answers.specs.Contracts.{GivesText};
 ghost use Rattle.lines.specs.Line.{Puts};
-ghost use Rattle.metrics.specs.Section.{section_text};
+ghost use Rattle.afm.specs.Section.{section_text};
 
+use crate::pairs::{measure, put_lines};
 use crate::{TEXT, refuse_line, too_long};
 use answers::Answer;
 use answers::results::refuse;
 use fields::Form;
 use lines::{digit_count, put_number, put_text};
-use metrics::pairs::{measure, put_lines};
 
 pub fn export(sheet: &[u8], out: &mut [u8]) -> Answer
     ensures { GivesText (export_call sheet.now (length out.old)) out.old out.new result }

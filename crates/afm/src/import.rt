@@ -2,14 +2,14 @@
 ghost use Rattle.std.specs.Prelude.{◌≤◌, length};
 ghost use Rattle.sections.specs.Afm.{import_call, imported};
 ghost use Rattle.answers.specs.Contracts.{GivesText};
-ghost use Rattle.metrics.specs.Section.{section_behind};
+ghost use Rattle.afm.specs.Section.{section_behind};
 
+use crate::pairs::{measure, put_lines};
+use crate::section::{end_fault, start_line};
 use crate::{TEXT, refuse_line, too_long};
 use answers::Answer;
 use answers::results::refuse;
 use fields::Form;
-use metrics::pairs::{measure, put_lines};
-use metrics::section::{end_fault, start_line};
 
 pub fn import(section: &[u8], out: &mut [u8]) -> Answer
     ensures { GivesText (import_call section.now (length out.old)) out.old out.new result }

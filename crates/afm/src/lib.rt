@@ -1,5 +1,7 @@
 // Document 02 (v): Adobe's metrics in and out. `import` gives the sheet lines of a kerning section, `export` the section of sheet lines. Each goes over the lent text
 // twice: first it checks every line, counts the pairs and adds up what their lines will take, and then, with nothing left to refuse, it writes.
+#![tactic(auto)]
+
 ghost use Rattle.std.specs.Prelude.{◌≡◌, min, ltb};
 ghost use Rattle.answers.specs.declared.Answer.TheVariants.{Refusal};
 ghost use Rattle.sections.specs.Afm.{max_text};
@@ -8,6 +10,8 @@ use answers::Answer;
 
 pub mod export;
 pub mod import;
+mod pairs;
+mod section;
 
 // The longest text that is read or given.
 const TEXT: usize = 65535;

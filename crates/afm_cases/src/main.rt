@@ -1,5 +1,7 @@
 // Runs a script of kerning sections and sheets on standard input, and writes the answer of each on a line of its own. The script's first lines say
 // what its words mean. The lines that are expected are from the papers, never from this program.
+#![tactic(auto)]
+
 mod run;
 mod show;
 

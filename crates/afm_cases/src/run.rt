@@ -4,7 +4,7 @@ use script::{append, append_numbers, append_times, argument, find, letters, numb
 use texts::write_text;
 
 // How many bytes the text has, how many are lent for an answer, and how many the last result has.
-#[derive(Drop)]
+#[derive(Clone, Copy)]
 pub struct State {
     pub text: usize,
     pub room: usize,

@@ -12,8 +12,8 @@ use Rattle.laws.specs.Refusals.{get_named, put_named}
 use Rattle.laws.specs.Demand3.{put_then_get}
 use Rattle.laws.specs.Tally.{tally_old, tally_new}
 use Rattle.answers.specs.Contracts.{put_answer_for}
-use Rattle.numbers.specs.declared.PutNumbers.{PutNumbers}
-use Rattle.numbers.specs.Exports.{put_numbers_of, ExportsSource}
+use Rattle.noontrough.specs.declared.PutNumbers.{PutNumbers}
+use Rattle.noontrough.specs.Exports.{put_numbers_of, ExportsSource}
 use Rattle.noontrough.specs.Numbers.{result_iff, source_result_iff}
 use Rattle.afresh.specs.declared.tallied.ReadAfresh.{ReadAfresh}
 use Rattle.demands.specs.Demands.{blank, LinkedMade, LinkedRestores}

@@ -9,9 +9,9 @@ use Rattle.semantics.specs.Calls.{Answer as Outcome}
 use Rattle.semantics.specs.Tally.{Tally}
 use Rattle.laws.specs.Refusals.{Named}
 use Rattle.answers.specs.Contracts.{answer_for, put_answer_for}
-use Rattle.numbers.specs.declared.Numbers.{Numbers}
-use Rattle.numbers.specs.declared.PutNumbers.{PutNumbers}
-use Rattle.numbers.specs.Exports.{numbers_of, put_numbers_of, ExportsText, ExportsSource}
+use Rattle.noontrough.specs.declared.Numbers.{Numbers}
+use Rattle.noontrough.specs.declared.PutNumbers.{PutNumbers}
+use Rattle.noontrough.specs.Exports.{numbers_of, put_numbers_of, ExportsText, ExportsSource}
 use Rattle.noontrough.specs.Numbers.{result_iff}
 use Rattle.demands.specs.declared.LinkedCalls.{LinkedCalls}
 use Rattle.demands.specs.Demands.{blank, then_call, then_count, LinkedMade}

@@ -4,7 +4,7 @@ use Rattle.semantics.specs.Text.{Text}
 use Rattle.semantics.specs.Lens.{Lens, entries}
 use Rattle.semantics.specs.Calls.{gives, program, get_call, put_call}
 use Rattle.semantics.specs.Tally.{put_tally}
-use Rattle.numbers.specs.Exports.{ExportsSource}
+use Rattle.noontrough.specs.Exports.{ExportsSource}
 use Rattle.afresh.specs.declared.tallied.ReadAfresh.{ReadAfresh}
 use Rattle.demands.specs.Demands.{blank, LinkedMade}
 

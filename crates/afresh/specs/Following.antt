@@ -4,9 +4,9 @@ use Rattle.semantics.specs.Text.{Text}
 use Rattle.semantics.specs.Calls.{Answer as Outcome}
 use Rattle.semantics.specs.Tally.{Tally}
 use Rattle.laws.specs.Refusals.{Named}
-use Rattle.numbers.specs.declared.Numbers.{Numbers}
-use Rattle.numbers.specs.declared.PutNumbers.{PutNumbers}
-use Rattle.numbers.specs.Exports.{ExportsText, ExportsSource}
+use Rattle.noontrough.specs.declared.Numbers.{Numbers}
+use Rattle.noontrough.specs.declared.PutNumbers.{PutNumbers}
+use Rattle.noontrough.specs.Exports.{ExportsText, ExportsSource}
 use Rattle.demands.specs.Demands.{then_call, then_count}
 
 pub record LinkedHeld (given : Text) (first : Numbers) : Type 0 where

@@ -6,8 +6,7 @@ ghost use Rattle.demands.specs.Demands.{LinkedMade, LinkedRestores};
 ghost use Rattle.afresh.specs.Following.{LinkedHeld, LinkedFollows};
 
 use demands::{LinkedCalls, blank_buffer};
-use noontrough::{noontrough_get, noontrough_put};
-use numbers::{Numbers, PutNumbers};
+use noontrough::{Numbers, PutNumbers, noontrough_get, noontrough_put};
 
 pub fn linked_get_then_put(table: &[u8], source: &[u8]) -> LinkedCalls
     ensures made { LinkedMade (get_call table.now source.now 4096) (λ a. put_call table.now a source.now 4096) (λ a. put_tally table.now a source.now) result }

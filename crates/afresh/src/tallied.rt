@@ -3,11 +3,10 @@ ghost use Rattle.afresh.specs.Counting.{ReadMade, CountsAfresh};
 
 use crate::linked::linked_get_then_put;
 use demands::{LinkedCalls, blank_buffer};
-use noontrough::noontrough_put;
-use numbers::PutNumbers;
+use noontrough::{PutNumbers, noontrough_put};
 
 // The numbers of put and its whole buffer afterwards, and the calls that read the new source.
-#[derive(Drop)]
+#[derive(Clone, Copy)]
 pub struct ReadAfresh {
     pub first: PutNumbers,
     pub given: [u8; 4096],

@@ -1,4 +1,6 @@
 // What every call does: it checks the program in a lent slice, asks the root's languages, and answers a result with its length, or a refusal.
+#![tactic(auto)]
+
 ghost use Rattle.std.specs.Prelude.{◌≡◌, ◌≤◌, length};
 ghost use Rattle.std.proofs.Math.Option.{none};
 ghost use Rattle.semantics.specs.Table.{first_that_holds};
@@ -13,14 +15,14 @@ use typing::round::{TypingAnswer, second_round};
 pub mod results;
 
 // A result with its length, or a refusal with its number and node.
-#[derive(Drop)]
+#[derive(Clone, Copy)]
 pub enum Answer {
     Result { length: usize },
     Refusal { number: usize, node: usize },
 }
 
 // The sheet entries of a put that took an old entry, those that did not, and the old entries left unused.
-#[derive(Drop)]
+#[derive(Clone, Copy)]
 pub struct Tally {
     pub kept: usize,
     pub made: usize,
@@ -29,7 +31,7 @@ pub struct Tally {
 
 // What Clash answers: that no clash exists; a clash with the number and node of its rule, the length of the text that shows it, and its two ends, or a
 // union's two children; or a refusal with its number and node.
-#[derive(Drop)]
+#[derive(Clone, Copy)]
 pub enum ClashAnswer {
     Accepted,
     Clash {
@@ -46,7 +48,7 @@ pub enum ClashAnswer {
 }
 
 // What a call came to: its answer and, where a put has a result, its tally; and the answer of Clash.
-#[derive(Drop)]
+#[derive(Clone, Copy)]
 pub struct Reply {
     pub answer: Answer,
     pub tally: Tally,
@@ -54,7 +56,7 @@ pub struct Reply {
 }
 
 // What a put answers: a result with its length and its tally, or a refusal with its number and node.
-#[derive(Drop)]
+#[derive(Clone, Copy)]
 pub enum PutAnswer {
     Result {
         length: usize,
@@ -69,7 +71,7 @@ pub enum PutAnswer {
 }
 
 // What checking a program in a lent slice came to.
-#[derive(Drop)]
+#[derive(Clone, Copy)]
 pub enum Checked {
     Accepted,
     Refused { number: usize, node: usize },

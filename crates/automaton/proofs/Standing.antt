@@ -76,7 +76,7 @@ module _ (prepared : List ℕ) (row : ℕ) where
 -- ---- Two positions
 
 -- the same number, the same bytes
-pub alike_stands :
+alike_stands :
     (prepared : List ℕ) (row row' : ℕ)
     → alike_in prepared row row' ≡ true
     → (byte : ℕ)

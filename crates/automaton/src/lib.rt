@@ -1,5 +1,7 @@
 // The position automata of a program's nodes, in the prepared program. Only the functions of this crate, which read it, and
 // those of `builder`, which write it, know where its numbers stand.
+#![tactic(auto)]
+
 ghost use Rattle.std.specs.Prelude.{◌≡◌, ◌+◌, ◌*◌, ◌≤◌, ◌<◌, length};
 ghost use Rattle.automaton.specs.Rows.{row_at, follow_of, class_at, RowRoom, stands_in, share_in, stands_or_none, FirstShared, alike_in, automaton_at};
 
@@ -7,14 +9,14 @@ use classes::Class;
 use positions::Set;
 use table::Table;
 
-#[derive(Drop)]
+#[derive(Clone, Copy)]
 pub enum Side {
     Source,
     Sheet,
 }
 
 // An automaton by value: where its rows start, how many positions it has, whether the empty text belongs, and where texts begin and end.
-#[derive(Drop)]
+#[derive(Clone, Copy)]
 pub struct Automaton {
     pub start: usize,
     pub count: usize,

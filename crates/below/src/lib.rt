@@ -1,5 +1,7 @@
 // What stands at and below each node: four numbers a node, the set of the children of its matches, 1 where there is a union, and how many matches a put meets there, if that
 // depends on no text.
+#![tactic(auto)]
+
 ghost use Rattle.std.specs.Prelude.{◌≡◌, ◌↔◌, true, false, ◌||◌, cond, ◌+◌, ◌*◌, ◌≤◌, ◌<◌, min, eqb, length};
 ghost use Rattle.semantics.specs.Table.{node_count};
 ghost use Rattle.table.specs.Rules.{AllSized};
@@ -43,7 +45,7 @@ pub fn count_at(below: &[u64], node: usize) -> u64
 }
 
 // The children of the matches at and below a node, whether there is a union, and the count.
-#[derive(Drop)]
+#[derive(Clone, Copy)]
 struct Standing {
     asked: Set,
     union: bool,

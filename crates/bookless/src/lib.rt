@@ -1,4 +1,6 @@
 // Put where no old entry answers: onto an old text, with no book. Without an old text it is create, which is read off the sheet.
+#![tactic(auto)]
+
 ghost use Rattle.std.proofs.Math.Option.{some};
 ghost use Rattle.semantics.specs.Lens.{repeat};
 ghost use Rattle.semantics.specs.Table.{trees, lens};

@@ -1,4 +1,6 @@
 // The entries of an old source: the book of them, and lookups by key.
+#![tactic(auto)]
+
 use positions::Set;
 
 pub mod entries;
@@ -6,7 +8,7 @@ pub mod lookups;
 
 // The old source's entries: where each stands in the source and where its match's positions begin there, the child node of its match, and whether it was taken. `left` has
 // the children of which an entry may be left: no other has one.
-#[derive(Drop)]
+#[derive(Clone, Copy)]
 pub struct Book {
     pub starts: [u16; Book::ENTRIES],
     pub lengths: [u16; Book::ENTRIES],
@@ -18,7 +20,7 @@ pub struct Book {
 }
 
 // Where an old text stands in the old source, and where its node's positions begin.
-#[derive(Drop)]
+#[derive(Clone, Copy)]
 pub struct Place {
     pub start: usize,
     pub len: usize,
@@ -26,14 +28,14 @@ pub struct Place {
 }
 
 // An old text, where there is one.
-#[derive(Drop)]
+#[derive(Clone, Copy)]
 pub enum Old {
     At(Place),
     Nothing,
 }
 
 // The old text that a lookup found, and the book without it.
-#[derive(Drop)]
+#[derive(Clone, Copy)]
 pub struct Lookup {
     pub old: Old,
     pub book: Book,

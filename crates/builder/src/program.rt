@@ -16,14 +16,14 @@ use table::parts::node_count;
 use table::{Kind, Table};
 
 // The two ways to make a pattern of two.
-#[derive(Drop)]
+#[derive(Clone, Copy)]
 enum Pair {
     Join,
     Union,
 }
 
 // The parts of a node on one side: letters of the pool, runs of bytes from a place of the table on, or nodes whose same side it is made of.
-#[derive(Drop)]
+#[derive(Clone, Copy)]
 enum Parts {
     Letters(usize, usize),
     Runs(usize, usize),

@@ -1,2 +1,4 @@
 // What a put does with an accepted and prepared program.
+#![tactic(auto)]
+
 pub mod put;

@@ -1,4 +1,6 @@
 // The card of a key: the key without its trailing spaces, and in front of it its length in two bytes. Beside it goes one byte of a fingerprint, which tells most keys apart.
+#![tactic(auto)]
+
 ghost use Rattle.std.specs.Prelude.{◌≡◌, ◌++◌, ◌+◌, ◌≤◌, ◌<◌, length, take, drop};
 ghost use Rattle.semantics.specs.Lens.{sheet};
 ghost use Rattle.lens.specs.Emitting.{LensNode};
@@ -12,7 +14,7 @@ use padding::trimmed_length;
 use texts::Wrote;
 
 // How many bytes a card has, and the byte of its key's fingerprint.
-#[derive(Drop)]
+#[derive(Clone, Copy)]
 pub struct Card {
     pub len: usize,
     pub print: u8,

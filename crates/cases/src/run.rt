@@ -3,7 +3,7 @@ use crate::show;
 use script::{append, append_numbers, append_times, argument, find, letters, number, within};
 
 // How much of each buffer is in use, the length that is lent for an answer, and which text was set last.
-#[derive(Drop)]
+#[derive(Clone, Copy)]
 pub struct State {
     pub table: usize,
     pub sheet: usize,

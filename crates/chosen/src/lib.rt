@@ -1,5 +1,7 @@
 // Put of chosen sheet entries of a source. All that it knows of the program it asks the calls: a text is a source if get does not refuse it with 13, and
 // a part of a repeat ends at the first place at which the text before it and the text behind it are sources.
+#![tactic(auto)]
+
 ghost use Rattle.std.specs.Prelude.{◌≤◌, length};
 ghost use Rattle.demands.specs.Demands.{PutMade, SetsInOrder};
 ghost use Rattle.chosen.specs.Parting.{TellsSource, TellsCut, EndsPart, StartsPart, SheetOfPart, SheetOfParts};

@@ -5,7 +5,8 @@ use Rattle.std.proofs.Common.{sym, ◌∙◌, subst, arith}
 use Rattle.std.proofs.Math.Bool.{true, false}
 use Rattle.std.proofs.lemmas.Bool.{false≢true}
 use mathlib.Core.List.{List, [], ◌∷◌, ◌++◌, map}
-use Rattle.std.proofs.Math.Logic.{inl, inr, ⊎_elim, ⊎_map, Iff·symm, Iff·trans}
+use Rattle.std.proofs.Math.Logic.{inl, inr, ⊎_elim, ⊎_map}
+use Rattle.std.proofs.Math.Logic.Iff
 use Rattle.semantics.specs.Text.{Text, joined, All, Member, some_passes, least}
 use Rattle.semantics.specs.Pattern.{Class, in_class, Pattern, concat, star, In, nullable, Head, heads}
 use Rattle.semantics.specs.Ambiguity.{share_byte, same_pair}
@@ -431,12 +432,12 @@ reads_one a t = (
 -- the test of the rule is the test of its readings: of a join
 cut_reads : (r s : Pattern) (t : Text) → reads (apart s r r ∷ []) t ≡ cut_twice r s t
 unfolding Reads
-cut_reads r s t = same_test (reads (apart s r r ∷ []) t) (cut_twice r s t) (Iff·trans (reads_one (apart s r r) t) (Iff·symm (apart_iff r s t)))
+cut_reads r s t = same_test (reads (apart s r r ∷ []) t) (cut_twice r s t) (Iff.trans (reads_one (apart s r r) t) (Iff.symm (apart_iff r s t)))
 
 -- of a union
 arm_reads : (r s : Pattern) (t : Text) → reads (both r s ∷ []) t ≡ breaks (one_arm r s) t
 unfolding Reads
-arm_reads r s t = same_test (reads (both r s ∷ []) t) (breaks (one_arm r s) t) (Iff·trans (reads_one (both r s) t) (Iff·symm (arm_iff r s t)))
+arm_reads r s t = same_test (reads (both r s ∷ []) t) (breaks (one_arm r s) t) (Iff.trans (reads_one (both r s) t) (Iff.symm (arm_iff r s t)))
 
 -- and of a repeat whose child does not hold the empty text
 list_reads : (r : Pattern) (t : Text) → nullable r ≡ false → reads (apart (star r) r r ∷ []) t ≡ breaks (one_list r) t

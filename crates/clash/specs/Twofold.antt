@@ -3,7 +3,8 @@
 use Rattle.std.specs.Prelude.{◌≡◌, refl, Bool, true, false, ◌&&◌, ◌⊎◌, ◌↔◌, ℕ, zero, suc, ◌≤◌, ◌<◌, ltb, length, take, drop}
 use Rattle.std.proofs.Common.{sym, ap, ◌∙◌, subst, inl, inr, ⊎_elim, not-suc-le-zero, le_of_suc-le-suc, arith, length-append, take-append-drop, le-leb, ltb-true, ltb-false}
 use mathlib.Core.List.{[], ◌∷◌, ◌++◌, append_assoc, nil≢cons, head-eq_of_cons-eq, tail-eq_of_cons-eq}
-use Rattle.std.proofs.Math.Logic.{⊎_map, Iff·rfl, Iff·trans, Iff·and}
+use Rattle.std.proofs.Math.Logic.{⊎_map}
+use Rattle.std.proofs.Math.Logic.Iff
 use Rattle.std.proofs.Math.Seq.{take-append_seam}
 use Rattle.semantics.specs.Text.{Text}
 use Rattle.semantics.specs.Pattern.{Pattern, concat, star, In, in_class, nullable, matches}
@@ -41,14 +42,14 @@ unfolding positions rest_at class_at stands_at
 join_whole r s =
     record {
       more = omega arith;
-      rest_iff = λ p h t. rw (split_left (positions r) (λ q. concat (rest_at r q) s) (rest_at s) p h) Iff·rfl;
+      rest_iff = λ p h t. rw (split_left (positions r) (λ q. concat (rest_at r q) s) (rest_at s) p h) Iff.rfl;
       stands_is = λ p c h. ap (λ k. in_class k c) (split_left (positions r) (class_at r) (class_at s) p h);
     }
 
 -- and those of a repeat are its child's
 pub repeat_whole : (r : Pattern) → Whole r (star r) (star r)
 unfolding positions rest_at class_at stands_at
-repeat_whole r = record { more = omega arith; rest_iff = λ p h t. Iff·rfl; stands_is = λ p c h. refl }
+repeat_whole r = record { more = omega arith; rest_iff = λ p h t. Iff.rfl; stands_is = λ p c h. refl }
 
 -- ---- Both readings behind their positions
 
@@ -145,14 +146,14 @@ late_iff w s p q t = (λ l. (l.in_whole, l.in_second), λ h. record { in_whole =
 pub late_end_iff :
     (w s : Pattern) (p q : ℕ) → p < positions w → q < positions s
     → Late w s p q [] ↔ ((last_at w p ≡ true) × (last_at s q ≡ true))
-late_end_iff w s p q h k = Iff·trans (late_iff w s p q []) (Iff·and (last_law w p h) (last_law s q k))
+late_end_iff w s p q h k = Iff.trans (late_iff w s p q []) (Iff.and (last_law w p h) (last_law s q k))
 
 -- and goes on by a byte that leads both on
 pub late_step_iff :
     (w s : Pattern) (p q : ℕ) → p < positions w → q < positions s → (c : ℕ) (t : Text)
     → Late w s p q (c ∷ t) ↔ ((i : ℕ) × (j : ℕ) × BothStep w s (follow_at w p) (follow_at s q) c i j × Late w s i j t)
 late_step_iff w s p q h k c t =
-    Iff·trans
+    Iff.trans
     (late_iff w s p q (c ∷ t))
     (both_iff (rest_at w p) (rest_at s q) w s (follow_at w p) (follow_at s q) (follow_law w p h) (follow_law s q k) c t)
 
@@ -173,7 +174,7 @@ pub arm_step_iff :
     (r s : Pattern) (c : ℕ) (t : Text)
     → (breaks (one_arm r s) (c ∷ t) ≡ true) ↔ ((i : ℕ) × (j : ℕ) × BothStep r s (first_at r) (first_at s) c i j × Late r s i j t)
 arm_step_iff r s c t =
-    Iff·trans (arm_iff r s (c ∷ t)) (both_iff r s r s (first_at r) (first_at s) (first_law r) (first_law s) c t)
+    Iff.trans (arm_iff r s (c ∷ t)) (both_iff r s r s (first_at r) (first_at s) (first_law r) (first_law s) c t)
 
 -- ---- Early: both in r
 
@@ -286,7 +287,7 @@ apart_step_iff :
     ↔ (((i : ℕ) × (j : ℕ) × BothStep r r next next' c i j × Early r s i j t)
     ⊎ ((ends ≡ true) × ((i : ℕ) × (j : ℕ) × BothStep r s next' (first_at s) c i j × Late w s i j t)))
 apart_step_iff k l r s w next next' ends whole read read' end_iff c t =
-    Iff·trans
+    Iff.trans
     (apart_cons_iff
     k
     l
@@ -453,6 +454,6 @@ pub cut_step_iff :
     ↔ (((i : ℕ) × (j : ℕ) × BothStep r r (first_at r) (first_at r) c i j × Early r s i j t)
     ⊎ ((nullable r ≡ true) × ((i : ℕ) × (j : ℕ) × BothStep r s (first_at r) (first_at s) c i j × Late w s i j t)))
 cut_step_iff r s w whole c t =
-    Iff·trans
+    Iff.trans
     (apart_iff r s (c ∷ t))
     (apart_step_iff r r r s w (first_at r) (first_at r) (nullable r) whole (first_law r) (first_law r) (in_nullable r, nullable_in r) c t)

@@ -1,4 +1,6 @@
 // What the call Clash does with a program that is refused: for 7 to 11 the text that shows why.
+#![tactic(auto)]
+
 ghost use Rattle.std.specs.Prelude.{◌≡◌, ◌<◌, length};
 ghost use Rattle.semantics.specs.Table.{node_count, node_at, tree_at, trees};
 ghost use Rattle.clash.specs.Clash.{rule_at, clash_call};

@@ -9,7 +9,7 @@ use quests::hunt;
 use search::patches::Quest;
 
 // Room for 2,048 pairs, or for as many as there can be.
-#[derive(Drop)]
+#[derive(Clone, Copy)]
 pub enum Room {
     Small,
     Full,

@@ -13,7 +13,7 @@ use ends::ends_of;
 use quests::{arm_quest, cut_quest};
 
 // The length of the text, and the two ends; for a union its two children.
-#[derive(Drop)]
+#[derive(Clone, Copy)]
 pub struct Shown {
     pub length: usize,
     pub first: usize,

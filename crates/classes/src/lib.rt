@@ -1,4 +1,6 @@
 // Classes: sets of bytes, what one position of a pattern may hold. Each question takes constant time, whatever the number of runs.
+#![tactic(auto)]
+
 ghost use Rattle.std.specs.Prelude.{◌≡◌, true, false, not, ◌&&◌, ◌||◌, ◌↔◌, ℕ, ◌≤◌, ltb, leb};
 ghost use Rattle.semantics.specs.Pattern.{in_run, in_class};
 ghost use Rattle.semantics.specs.Table.{runs_of};
@@ -7,7 +9,7 @@ ghost use Rattle.classes.specs.Classes.{holds_byte, SharedByte, FirstShared};
 use positions::Set;
 
 // Bytes 0 to 127 are the positions of low; those from 128 on, less 128, are those of high.
-#[derive(Drop)]
+#[derive(Clone, Copy)]
 pub struct Class {
     pub low: Set,
     pub high: Set,

@@ -4,7 +4,7 @@ ghost use Rattle.commands.specs.Commands.{command_of, words_of};
 
 use texts::same_text;
 
-#[derive(Drop)]
+#[derive(Clone, Copy)]
 pub enum Command {
     Check,
     Get,

@@ -9,7 +9,7 @@ use engine::lenscheck_line;
 use lines::put_refused;
 
 // How many bytes to print, and the number of the refusal, or 0 for a result.
-#[derive(Drop)]
+#[derive(Clone, Copy)]
 pub struct Reply {
     pub length: usize,
     pub number: usize,

@@ -1,4 +1,6 @@
 // What a node writes behind what was written where none of its matches can find an entry, with no book, and the count of the matches that it meets.
+#![tactic(auto)]
+
 ghost use Rattle.lens.specs.Emitting.{LensNode};
 ghost use Rattle.books.specs.Looking.{old_text};
 ghost use Rattle.bookless.specs.Bookless.{GivenOld};
@@ -11,7 +13,7 @@ use steps::{Spot, behind};
 use texts::Wrote;
 
 // What was written so far, and how many matches were met, modulo 2^64.
-#[derive(Drop)]
+#[derive(Clone, Copy)]
 pub struct Plain {
     pub wrote: Wrote,
     pub met: usize,

@@ -1,4 +1,6 @@
 // What is counted of a put: the matches that it met, and the old entries that are left.
+#![tactic(auto)]
+
 ghost use Rattle.std.specs.Prelude.{◌≡◌, cond, ◌≤◌, length, take};
 ghost use Rattle.counts.specs.Counts.{unused_of, CountsFit, TalliesFrom};
 
@@ -7,7 +9,7 @@ use answers::results::no_tally;
 use texts::Wrote;
 
 // What was written of a source, how many matches were met, and how many entries of the book are left.
-#[derive(Drop)]
+#[derive(Clone, Copy)]
 pub struct Made {
     pub wrote: Wrote,
     pub met: usize,

@@ -1,4 +1,6 @@
 // What is read off the path of a text: where a join is cut, the arm of a union, the parts of a repeat.
+#![tactic(auto)]
+
 ghost use Rattle.std.specs.Prelude.{◌≡◌, ◌&&◌, ◌<◌, length};
 ghost use Rattle.laws.specs.Paths.{border, goes_left, first_loop};
 ghost use Rattle.positions.specs.Positions.{holds, Moved};
@@ -56,7 +58,7 @@ fn loops(last: Set, first: Set, from: u8, to: u8) -> bool
 }
 
 // The positions at which the parts of a repeat end, and those at which they begin.
-#[derive(Drop)]
+#[derive(Clone, Copy)]
 pub struct Ends {
     pub last: Set,
     pub first: Set,

@@ -1,4 +1,6 @@
 // The cards of the old entries of a put, dealt into a deck that is lent: with room for the paths of sheets that are no longer than a text or, where one asks for it, for any.
+#![tactic(auto)]
+
 ghost use Rattle.std.specs.Prelude.{◌≡◌, ◌<◌, length};
 ghost use Rattle.answers.specs.Answers.{Ready};
 ghost use Rattle.below.specs.Below.{BelowIs};
@@ -11,7 +13,7 @@ use books::Book;
 use decks::deck::{Dealing, deal};
 
 // The sheets of old entries whose paths there is room for: those that are as long as a text may be, or all.
-#[derive(Drop)]
+#[derive(Clone, Copy)]
 pub enum Reach {
     Short,
     Long,

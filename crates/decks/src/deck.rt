@@ -20,14 +20,14 @@ use lens::read::{emit, read_text};
 use texts::{Wrote, write_text};
 
 // How far the cards of a book have come: so many entries have theirs, and the last one ends at `at`.
-#[derive(Drop)]
+#[derive(Clone, Copy)]
 pub struct Dealing {
     pub entries: usize,
     pub at: usize,
 }
 
 // What making the card of an old entry came to: the card, or there was no room for the entry's sheet or its path.
-#[derive(Drop)]
+#[derive(Clone, Copy)]
 enum Tried {
     Made(Card),
     Long,

@@ -10,7 +10,7 @@ use Rattle.laws.specs.Demand3.{OneRepeatedEntry}
 use Rattle.laws.specs.Shuffle.{selected, PartNumbers}
 use Rattle.answers.specs.Contracts.{GivesText, GivesSource, untallied}
 use Rattle.engine.specs.Demand3.{Gave}
-use Rattle.numbers.specs.Exports.{ExportsText, ExportsSource}
+use Rattle.noontrough.specs.Exports.{ExportsText, ExportsSource}
 use Rattle.demands.specs.declared.trips.TwoCalls.{TwoCalls}
 use Rattle.demands.specs.declared.Chosen.{Chosen}
 use Rattle.demands.specs.declared.LinkedCalls.{LinkedCalls}

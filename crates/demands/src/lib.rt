@@ -2,16 +2,18 @@
 // clause says of them. Nothing links these functions. They tie the clauses to the contracts of the calls: with a weaker contract they could not be
 // proved. The clauses all stand in specs/Demands.antt. Here are the functions for those on there and back; those of two crates over this one hand
 // back what is declared here: `chosen` has put of chosen entries, and `afresh` the linked calls.
+#![tactic(auto)]
+
 ghost use Rattle.std.specs.Prelude.{◌≡◌};
 ghost use Rattle.demands.specs.Demands.{blank};
 
 use answers::PutAnswer;
-use numbers::{Numbers, PutNumbers};
+use noontrough::{Numbers, PutNumbers};
 
 pub mod trips;
 
 // The sheet that was put together, the answer of put, and its whole buffer afterwards.
-#[derive(Drop)]
+#[derive(Clone, Copy)]
 pub struct Chosen {
     pub sheet: [u8; 4096],
     pub length: usize,
@@ -20,7 +22,7 @@ pub struct Chosen {
 }
 
 // The numbers of two linked calls, one after the other, and their whole buffers afterwards.
-#[derive(Drop)]
+#[derive(Clone, Copy)]
 pub struct LinkedCalls {
     pub first: Numbers,
     pub given: [u8; 4096],

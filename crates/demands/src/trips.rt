@@ -12,7 +12,7 @@ use engine::get::get;
 use engine::put::put;
 
 // The answers of two calls, one after the other, put's without its counts, and their whole buffers afterwards.
-#[derive(Drop)]
+#[derive(Clone, Copy)]
 pub struct TwoCalls {
     pub first: Answer,
     pub given: [u8; 4096],

@@ -21,8 +21,7 @@ use Rattle.positions.specs.Positions.{Shared}
 use Rattle.automaton.specs.declared.Automaton.{Automaton}
 use Rattle.automaton.specs.Rows.{Room, Describes}
 use Rattle.language.specs.declared.Run.{Run}
-use Rattle.places.specs.Sets.{Gathered}
-use Rattle.language.specs.Sets.{Standing}
+use Rattle.language.specs.Sets.{Gathered, Standing}
 use Rattle.language.specs.Runs.{Behind, SteppedBack}
 use Rattle.language.proofs.Steps.{few, counted, stands_is, behind_begins}
 use Rattle.ends.specs.Places.{Retreated, flagged, Flagged}

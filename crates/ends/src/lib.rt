@@ -1,26 +1,27 @@
 // The two smallest ends that the first half can have in a cut of a text: a pass backward flags each place from which the rest belongs to the second
 // half, a pass forward finds the first two flagged places in front of which the text belongs to the first half.
-ghost use Rattle.std.specs.Prelude.{◌≡◌, true, ◌&&◌, ◌+◌, ◌≤◌, ◌<◌, eqb, length};
+#![tactic(auto)]
+
+ghost use Rattle.std.specs.Prelude.{◌≡◌, true, ◌&&◌, ◌+◌, ◌<◌, eqb, length};
 ghost use Rattle.semantics.specs.Pattern.{Pattern};
 ghost use Rattle.clash.specs.Clash.{cut_twice, first_end, second_end};
 ghost use Rattle.automaton.specs.Rows.{Room, Describes};
-ghost use Rattle.language.specs.Sets.{Leading};
+ghost use Rattle.language.specs.Sets.{Leads};
 ghost use Rattle.ends.specs.Places.{Retreated, flagged, Flagged, ReadTo, NextEnd, TwoEnds};
 
 use automaton::Automaton;
-use language::{Run, advance_asking, fill_leading, standing};
+use language::{Run, advance, fill_leads, no_leads, standing, step_back};
 use positions::Set;
-use ways::{many_ways, no_ways};
 
 // The two smallest ends that the first half can have in a cut of a text.
-#[derive(Drop)]
+#[derive(Clone, Copy)]
 pub struct Ends {
     pub first: usize,
     pub second: usize,
 }
 
 // A place of a text, with the run over what stands in front of it.
-#[derive(Drop)]
+#[derive(Clone, Copy)]
 struct Place {
     at: usize,
     run: Run,
@@ -31,14 +32,14 @@ struct Place {
 // One byte backward: whether the text belongs with the byte in front of it, and the positions behind which it may then stand.
 fn retreat(prepared: &[u64], b: Automaton, leads: &[u64], behind: Set, byte: u8) -> Run
     requires room { Room b prepared.now }
-    requires in_bounds { (258 ≤ length leads.now) × Leading prepared.now b leads.now }
+    requires leads { Leads prepared.now b leads.now }
     ensures { Retreated prepared.now b byte behind result }
 {
     let begins = b.first;
     let here = standing(prepared, b, behind, byte);
     Run {
         here: begins.meets(here),
-        set: many_ways(leads, here),
+        set: step_back(prepared, b, leads, behind, byte),
     }
 }
 
@@ -51,7 +52,7 @@ fn flag(here: bool) -> u8
 // The flag of each place tells whether the rest of the text belongs.
 fn flag_rests(prepared: &[u64], b: Automaton, leads: &[u64], text: &[u8], flags: &mut [u8])
     requires room { Room b prepared.now }
-    requires in_bounds { (258 ≤ length leads.now) × Leading prepared.now b leads.now }
+    requires leads { Leads prepared.now b leads.now }
     requires text_in_bounds { length text.now < length flags.old }
     ensures { Flagged prepared.now b text.now 0 flags.new }
 {
@@ -92,7 +93,7 @@ fn pass(prepared: &[u64], a: Automaton, text: &[u8], place: Place) -> Place
     let at = place.at;
     Place {
         at: at + 1,
-        run: advance_asking(prepared, a, run, text[at]),
+        run: advance(prepared, a, run, text[at]),
     }
 }
 
@@ -148,8 +149,8 @@ pub fn ends_of(prepared: &[u64], a: Automaton, b: Automaton, text: &[u8], flags:
     requires text_in_bounds { length text.now < length flags.old }
     ensures { (r s : Pattern) → Describes r a prepared.now → Describes s b prepared.now → cut_twice r s text.now ≡ true → (result.first ≡ first_end r s text.now) × (result.second ≡ second_end r s text.now) }
 {
-    let mut leads = no_ways();
-    fill_leading(prepared, b, &mut leads);
+    let mut leads = no_leads();
+    fill_leads(prepared, b, &mut leads);
     flag_rests(prepared, b, &leads, text, flags);
     two_ends(prepared, a, text, flags)
 }

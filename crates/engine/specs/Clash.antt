@@ -3,7 +3,8 @@
 use Rattle.std.specs.Prelude.{◌≡◌, refl, true, [], ◌∷◌, ◌++◌, ◌⊎◌, ◌↔◌, ℕ, ◌≤◌, ◌<◌, length, take, drop}
 use Rattle.std.proofs.Common.{sym, ◌∙◌, subst, arith}
 use Rattle.std.proofs.Math.Path.{ap}
-use Rattle.std.proofs.Math.Logic.{inl, inr, ⊎_elim, Iff·trans}
+use Rattle.std.proofs.Math.Logic.{inl, inr, ⊎_elim}
+use Rattle.std.proofs.Math.Logic.Iff
 use Rattle.std.proofs.Math.Seq.{take-append_seam, drop-append_seam}
 use Rattle.semantics.specs.Text.{Text, All}
 use Rattle.semantics.specs.Pattern.{Pattern, star, In}
@@ -138,15 +139,15 @@ module _ (bytes before after : Text) (answer : ClashAnswer) (given : GivesClash 
 
   -- so a refusal is the outcome's
   refusal_iff : (number node : ℕ) → (answer ≡ Refusal number node) ↔ (clash_call bytes (length before) ≡ refused number node)
-  refusal_iff number node = Iff·trans answered (refusal_told (clash_call bytes (length before)) number node)
+  refusal_iff number node = Iff.trans answered (refusal_told (clash_call bytes (length before)) number node)
 
   -- 'Accepted programs answer that no clash exists'
   pub accepted_iff : (answer ≡ Accepted) ↔ ((n : ℕ) × (check_call bytes ≡ gives n))
-  accepted_iff = Iff·trans answered (Iff·trans (accepted_told (clash_call bytes (length before))) (no_clash_iff bytes (length before)))
+  accepted_iff = Iff.trans answered (Iff.trans (accepted_told (clash_call bytes (length before))) (no_clash_iff bytes (length before)))
 
   -- 'other refusals come through': 1 to 6, and those that do are Check's
   pub comes_through_iff : (number node : ℕ) → number ≤ 6 → (answer ≡ Refusal number node) ↔ (check_call bytes ≡ refuses number node)
-  comes_through_iff number node h = Iff·trans (refusal_iff number node) (other_refusals bytes (length before) number node h)
+  comes_through_iff number node h = Iff.trans (refusal_iff number node) (other_refusals bytes (length before) number node h)
 
   -- 17 is the call's only own refusal, and 'gives node 0'
   pub own_refusal : (number node : ℕ) → answer ≡ Refusal number node → (number ≤ 6) ⊎ ((number ≡ 17) × (node ≡ 0))
@@ -173,7 +174,7 @@ module _ (bytes before after : Text) (answer : ClashAnswer) (given : GivesClash 
       × (check_call bytes ≡ refuses number node)
       × (7 ≤ number)
       × (length before < length (clash_text (rule_of bytes number node))))
-  too_long_iff = Iff·trans (refusal_iff 17 0) (long_iff bytes (length before))
+  too_long_iff = Iff.trans (refusal_iff 17 0) (long_iff bytes (length before))
 
   -- so no text that breaks the rule fits the buffer
   pub none_fits :

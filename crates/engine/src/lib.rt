@@ -1,4 +1,6 @@
 // The calls of the sheet engine. Each checks the program itself.
+#![tactic(auto)]
+
 ghost use Rattle.std.specs.Prelude.{◌≡◌, ◌++◌, ℕ, ◌≤◌, length, drop};
 ghost use Rattle.semantics.specs.Calls.{check_call, lenscheck_line};
 ghost use Rattle.answers.specs.Contracts.{answer_for};

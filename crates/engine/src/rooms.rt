@@ -16,7 +16,7 @@ use table::Table;
 use table::parts::node_count;
 
 // What is asked of an accepted program.
-#[derive(Drop)]
+#[derive(Clone, Copy)]
 pub enum Call {
     Check,
     Get,
@@ -28,7 +28,7 @@ pub enum Call {
 }
 
 // The rooms, by the rows that the automata of a program may take: 128, 2,048, and as many as any program has.
-#[derive(Drop)]
+#[derive(Clone, Copy)]
 pub enum Room {
     Small,
     Middle,
@@ -36,7 +36,7 @@ pub enum Room {
 }
 
 // What came of a call in a room: its reply, or that the program does not fit.
-#[derive(Drop)]
+#[derive(Clone, Copy)]
 enum Tried {
     Done(Reply),
     Small,

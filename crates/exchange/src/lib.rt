@@ -1,6 +1,8 @@
 // Document 02 (v), with the calls as they are: there and back between a sheet and Adobe's metrics. Each function makes two calls, with buffers of 65,535 bytes
 // of its own, and promises what the document says of them. Nothing links these functions. They tie its sentences to the contracts of the calls: with a weaker
 // contract they could not be proved.
+#![tactic(auto)]
+
 ghost use Rattle.std.specs.Prelude.{◌≡◌, length};
 ghost use Rattle.sections.specs.Afm.{import_call, export_call};
 ghost use Rattle.demands.specs.Following.{Held, Follows};
@@ -11,7 +13,7 @@ use afm::import::import;
 use answers::Answer;
 
 // The answers of two calls, one after the other, and their whole buffers afterwards.
-#[derive(Drop)]
+#[derive(Clone, Copy)]
 pub struct Exchange {
     pub first: Answer,
     pub given: [u8; 65535],

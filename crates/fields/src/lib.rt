@@ -1,4 +1,6 @@
 // The lines of kerning sections and of sheets, field by field. Each function looks at the start of a text and answers how many bytes it finds there.
+#![tactic(auto)]
+
 ghost use Rattle.std.specs.Prelude.{◌≡◌, true, ◌&&◌, ◌+◌, ◌≤◌, ltb, length, take, drop};
 ghost use Rattle.semantics.specs.Text.{same_text};
 ghost use Rattle.sections.specs.Afm.{each, is_name_byte, is_digit, leading_zero, begins_with};
@@ -19,7 +21,7 @@ const NEGATIVE: usize = 32768;
 const LARGEST: usize = 65535;
 
 // Bytes of names, spaces, digits.
-#[derive(Drop)]
+#[derive(Clone, Copy)]
 enum Class {
     Name,
     Space,
@@ -27,7 +29,7 @@ enum Class {
 }
 
 // What a line with a pair is made of, behind what leads it.
-#[derive(Drop)]
+#[derive(Clone, Copy)]
 enum Part {
     Name,
     Separator,
@@ -35,21 +37,21 @@ enum Part {
 }
 
 // How a line holds a pair: `KPX` and three fields between spaces, or three fields between semicolons.
-#[derive(Drop)]
+#[derive(Clone, Copy)]
 pub enum Form {
     Kpx,
     Sheet,
 }
 
 // How many digits a number has, and the number; no digits where there is no number.
-#[derive(Drop)]
+#[derive(Clone, Copy)]
 pub struct Digits {
     pub count: usize,
     pub number: usize,
 }
 
 // Where the fields of a line and what separates them begin, and where the line ends.
-#[derive(Drop)]
+#[derive(Clone, Copy)]
 pub struct Line {
     pub left: usize,
     pub between: usize,

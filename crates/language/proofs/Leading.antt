@@ -1,23 +1,61 @@
 -- The sets of the positions that a position may follow, found from the follow sets, and a step back that asks these: what the loops over the
 -- positions cite. Assumes nothing.
 use mathlib.Core.Path.{◌≡◌, refl, sym, subst, ◌∙◌}
-use mathlib.Core.Bool.{true}
+use mathlib.Core.Bool.{true, false}
 use mathlib.Core.List.{List}
-use mathlib.Core.Logic.{◌↔◌, inl, inr, ⊎_elim}
+use mathlib.Core.Logic.{◌↔◌, ◌≢◌, inl, inr, ⊎_elim}
 use Prim.Native.Nat.{ℕ, ◌+◌, ◌*◌, ◌≤◌, ◌<◌}
 use native.Mathlib.Omega.{arith}
 use borrow.Author.Tests.{eqb-true, eqb-false, eq-eqb, ltb-true, ltb-false}
 use lib.Dec.{eqb, ltb}
-use lib.ListN.{length}
-use Rattle.laws.specs.Basics.{bool_cases, not_both, and_both, and_of, or_either, or_left, or_right}
+use lib.ListN.{length, get_or, set, replicate, length-set, length-replicate, get_or-replicate}
+use lib.Seq.{get_or-set_same, get_or-set_other}
+use Rattle.laws.specs.Basics.{bool_cases, not_both, or_either, or_left, or_right}
 use Rattle.positions.specs.declared.Set.{Set}
-use Rattle.positions.specs.Positions.{holds, Empty, Added, Met, FirstFrom}
+use Rattle.positions.specs.Positions.{holds, Empty, Added, FirstFrom}
+use Rattle.positions.proofs.Bits.{bit_zero, holds_by}
 use Rattle.automaton.specs.declared.Automaton.{Automaton}
 use Rattle.automaton.specs.Rows.{Room, set_at, follow_of}
-use Rattle.places.specs.Sets.{Gathered, Grown, Stored}
-use Rattle.places.specs.Places.{Places}
-use Rattle.ways.specs.Ways.{NoWays, Shaded, Ways, Way}
-use Rattle.language.specs.Sets.{Standing, Onward, Back, Meeting, NoLeads, LedFrom, Led, Leads, Leading, Follows}
+use Rattle.language.specs.Sets.{Gathered, Grown, Standing, Back, Meeting, Stored, NoLeads, LedFrom, Led, Leads}
+
+-- ---- A set that is kept
+
+-- What stands at neither of two places stays when both are written.
+two_kept : (xs : List ℕ) (i x y k : ℕ) → k ≢ i → k ≢ i + 1 → get_or (set (set xs i x) (i + 1) y) k 0 ≡ get_or xs k 0
+two_kept xs i x y k ne ne' = get_or-set_other (set xs i x) (i + 1) k y 0 ne' ∙ get_or-set_other xs i k x 0 ne
+
+-- A set is written as two numbers.
+pub stored_two : (sets : List ℕ) (i : ℕ) (s : Set) → 2 * i + 2 ≤ length sets → Stored sets i s (set (set sets (2 * i) s.low) (2 * i + 1) s.high)
+stored_two sets i s h =
+    record {
+      same_length = length-set (set sets (2 * i) s.low) (2 * i + 1) s.high ∙ length-set sets (2 * i) s.low;
+      stored =
+          rw (
+            get_or-set_same (set sets (2 * i) s.low) (2 * i + 1) s.high 0 (rw length-set (omega arith)),
+            get_or-set_other (set sets (2 * i) s.low) (2 * i + 1) (2 * i) s.high 0 (λ e. omega arith),
+            get_or-set_same sets (2 * i) s.low 0 (omega arith),
+          );
+      kept = λ j ne.
+          rw (
+            two_kept sets (2 * i) s.low s.high (2 * j) (λ e. ne (omega arith)) (λ e. omega arith),
+            two_kept sets (2 * i) s.low s.high (2 * j + 1) (λ e. omega arith) (λ e. ne (omega arith)),
+          );
+    }
+
+-- ---- No sets yet
+
+nothing_held : (s : Set) → s.low ≡ 0 → s.high ≡ 0 → Empty s
+nothing_held s l h q = holds_by s q (λ k. rw l (bit_zero q)) (λ k m. rw h (bit_zero _)) (λ k. refl)
+
+no_leads_of : {leads : List ℕ} → length leads ≡ 256 → ((i : ℕ) → i < 256 → get_or leads i 0 ≡ 0) → NoLeads leads
+no_leads_of {leads} size zeros =
+    record {
+      size = omega arith;
+      none_held = λ p q l. nothing_held (set_at leads (2 * p)) (zeros (2 * p) (omega arith)) (zeros (2 * p + 1) (omega arith)) q;
+    }
+
+pub no_leads_zeros : NoLeads (replicate 256 0)
+no_leads_zeros = no_leads_of (length-replicate {A = ℕ} 256 0) (λ i l. get_or-replicate {A = ℕ} 256 i 0 0 l)
 
 -- ---- One position, added to the sets of those that may follow it
 
@@ -134,103 +172,3 @@ module _ {prepared : List ℕ} {a : Automaton} {s : Set} {byte : ℕ} {here : Se
   -- Where it stands at none, there are none.
   pub asked_none : Empty here → Gathered (Back prepared a s byte) a.count here
   asked_none none = record { held_iff = λ q. (λ e. absurd (not_both e (none q)), λ (p, l, g). absurd (not_both ((stood.held_iff p).1 (p, l, g.stood)) (none p))) }
-
--- ---- What is found before a long text is read
-
--- Of a byte, those that are due are met with those at which it may stand.
-pub placed_standing :
-    {prepared places : List ℕ} {a : Automaton} {byte : ℕ} (due here : Set) → Places prepared a places → 512 ≤ length places → byte < 256 → Met due (set_at places (2 * byte)) here
-    → Gathered (Standing prepared a due byte) a.count here
-placed_standing {prepared} {places} {a} {byte} due here known long small met =
-    record {
-      held_iff = λ q. (
-        λ e.
-            let (d, h) = and_both (holds due q) (holds (set_at places (2 * byte)) q) (sym (met q) ∙ e) in
-            let (l, stands) = (known.stands_iff long byte small q).0 h in
-            (q, l, record { itself = refl; held = d; stands = stands }),
-        λ (p, l, g). stood p l g,
-      );
-    }
-  where
-    stood : {q : ℕ} (p : ℕ) → p < a.count → Standing prepared a due byte p q → holds here q ≡ true
-    stood p l g = rw g.itself (met p ∙ and_of (holds due p) (holds (set_at places (2 * byte)) p) g.held ((known.stands_iff long byte small p).1 (l, g.stands)))
-
-module _ {prepared : List ℕ} {a : Automaton} {s : Set} {byte : ℕ} {here : Set} (stood : Gathered (Standing prepared a s byte) a.count here) where
-  -- A position at which the byte stands is one of the automaton's, and is due.
-  stood_at : (p : ℕ) → holds here p ≡ true → (p < a.count) × Standing prepared a s byte p p
-  stood_at p h =
-      let (n, l, g) = (stood.held_iff p).0 h in
-      rw g.itself (l, record { itself = refl; held = g.held; stands = g.stands })
-
-  -- Where they lead backward is a step back,
-  pub led_back : {ways : List ℕ} {back : Set} → a.count ≤ 128 → Led prepared a a.count ways → Gathered (Way ways here) 128 back → Gathered (Back prepared a s byte) a.count back
-  led_back {ways} {back} few led known =
-      record {
-        held_iff = λ q. (
-          λ e.
-              let (p, l, g) = (known.held_iff q).0 e in
-              let (m, there) = stood_at p g.held in
-              let (i, f) = (led.led_iff p m q).0 g.leads in
-              (p, m, record { stood = there; inside = i; leads = f }),
-          λ (p, l, g). (known.held_iff q).1 (p, omega arith, record { held = (stood.held_iff p).1 (p, l, g.stood); leads = (led.led_iff p l q).1 (g.inside, g.leads) }),
-        );
-      }
-
-  -- and where they lead forward is one onward.
-  pub followed_on : {ways : List ℕ} {next : Set} → a.count ≤ 128 → Follows prepared a ways → Gathered (Way ways here) 128 next → Gathered (Onward prepared a s byte) a.count next
-  followed_on {ways} {next} few follows known =
-      record {
-        held_iff = λ q. (
-          λ e.
-              let (p, l, g) = (known.held_iff q).0 e in
-              let (m, there) = stood_at p g.held in
-              (p, m, record { stood = there; follows = rw (follows.follow_is p m) at g.leads }),
-          λ (p, l, g). (known.held_iff q).1 (p, omega arith, record { held = (stood.held_iff p).1 (p, l, g.stood); leads = rw (follows.follow_is p l) g.follows }),
-        );
-      }
-
--- ---- The shadow, put behind the sets
-
--- It is one.
-shadow_of : {count : ℕ} {before after : List ℕ} → count ≤ 128 → 258 ≤ length before → Shaded count before after → Ways after
-shadow_of {count} {before} {after} few size shaded =
-    record {
-      size = omega (arith, shaded.same_length);
-      shadow = λ p h.
-          let (l, c) = (shaded.shadow_iff p).0 h in
-          record { covered = λ q. rw (shaded.kept p (omega arith), shaded.kept (p + 1) (omega arith)) (c.covered q) };
-    }
-
-pub leading_of : {prepared before after : List ℕ} {a : Automaton} → Room a prepared → 258 ≤ length before → Leads prepared a before → Shaded a.count before after → Leading prepared a after
-leading_of {prepared} {before} {after} {a} room size known shaded =
-    record {
-      led = λ long. record { led_iff = λ p l q. rw (shaded.kept p (omega (arith, room.few))) ((known.led (omega arith)).led_iff p l q) };
-      shaded = λ long. shadow_of room.few size shaded;
-    }
-
-pub no_leads_ways : {ways : List ℕ} → NoWays ways → NoLeads ways
-no_leads_ways none = record { size = omega (arith, none.size); none_held = none.none_held }
-
--- The follow sets of the positions below n are kept.
-pub record Copied (prepared : List ℕ) (a : Automaton) (n : ℕ) (ways : List ℕ) : Type 0 where
-  pub copied : (p : ℕ) → p < n → set_at ways (2 * p) ≡ follow_of prepared (a.start + p)
-
-pub copied_begins : {prepared ways : List ℕ} {a : Automaton} → Copied prepared a 0 ways
-copied_begins = record { copied = λ p l. absurd (omega arith) }
-
-pub copied_more : {prepared before after : List ℕ} {a : Automaton} {n : ℕ} {s : Set} → s ≡ follow_of prepared (a.start + n) → Copied prepared a n before → Stored before n s after → Copied prepared a (n + 1) after
-copied_more {n = n} is known stored =
-    record {
-      copied = λ p l.
-          ⊎_elim
-          (λ e. rw (eqb-true p n e) (stored.stored ∙ is))
-          (λ e. let ne = eqb-false p n e in stored.kept p ne ∙ known.copied p (omega arith))
-          (bool_cases (eqb p n));
-    }
-
-pub copied_all : {prepared before after : List ℕ} {a : Automaton} {n : ℕ} → Room a prepared → a.count ≤ n → 258 ≤ length before → Copied prepared a n before → Shaded a.count before after → Follows prepared a after
-copied_all {a = a} room all size known shaded =
-    record {
-      shaded = shadow_of room.few size shaded;
-      follow_is = λ p l. shaded.kept p (omega (arith, room.few)) ∙ known.copied p (omega arith);
-    }

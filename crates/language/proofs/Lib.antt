@@ -1,3 +1,4 @@
+pub mod Gathering
 pub mod Leading
 pub mod Steps
 pub mod Reading

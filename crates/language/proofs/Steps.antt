@@ -4,9 +4,8 @@ use mathlib.Core.Bool.{Bool, true, false}
 use mathlib.Core.List.{List, [], ◌∷◌, ◌++◌, append_assoc}
 use mathlib.Core.Logic.Iff
 use mathlib.Core.Logic.{◌↔◌}
-use Prim.Native.Nat.{ℕ, ◌+◌, ◌≤◌, ◌<◌}
+use Prim.Native.Nat.{ℕ, ◌+◌, ◌<◌}
 use native.Mathlib.Omega.{arith}
-use lib.ListN.{length}
 use Rattle.semantics.specs.Text.{Text}
 use Rattle.semantics.specs.Pattern.{Pattern, In, matches}
 use Rattle.semantics.specs.Table.{positions}
@@ -18,11 +17,8 @@ use Rattle.positions.specs.Positions.{holds, Empty, Shared}
 use Rattle.automaton.specs.declared.Automaton.{Automaton}
 use Rattle.automaton.specs.Rows.{Room, Describes, stands_in}
 use Rattle.language.specs.declared.Run.{Run}
-use Rattle.places.specs.Sets.{Gathered}
-use Rattle.ways.specs.Ways.{Way}
-use Rattle.language.specs.Sets.{Standing, Onward, Back, Leading}
-use Rattle.language.specs.Runs.{Forward, Behind, SteppedBack}
-use Rattle.language.proofs.Leading.{led_back}
+use Rattle.language.specs.Sets.{Gathered, Standing, Onward, Back}
+use Rattle.language.specs.Runs.{Forward, Behind}
 
 -- Two tests that are true of the same agree.
 same_test : (a b : Bool) → (a ≡ true) ↔ (b ≡ true) → a ≡ b
@@ -179,10 +175,3 @@ module _ {r : Pattern} {a : Automaton} {prepared : List ℕ} (room : Room a prep
             let there = standing_at_lem q m ((known.behind_iff q m).1 x.rest_in) x.stands in
             (led.held_iff p).1 (q, omega (arith, d.count_is), record { stood = there; inside = omega (arith, d.count_is); leads = (d.row_is p l).follow_is q ∙ x.allowed }),
       )
-
--- So is what those lead to at which the byte stands.
-pub stepped_back :
-    {a : Automaton} {prepared ways : List ℕ} {behind here next : Set} {c : ℕ} → Room a prepared → Leading prepared a ways → 258 ≤ length ways
-    → Gathered (Standing prepared a behind c) a.count here → Gathered (Way ways here) 128 next → SteppedBack prepared a c behind next
-stepped_back room known long stood found =
-    record { stepped = λ r d t before. behind_steps room d before (led_back stood room.few (known.led long) found) }

@@ -10,8 +10,7 @@ use Rattle.automaton.specs.declared.Automaton.{Automaton}
 use Rattle.automaton.specs.Rows.{Describes}
 use Rattle.language.specs.declared.Run.{Run}
 use Rattle.language.specs.declared.Step.{Step}
-use Rattle.places.specs.Sets.{Gathered}
-use Rattle.language.specs.Sets.{Standing, Onward}
+use Rattle.language.specs.Sets.{Gathered, Standing, Onward}
 
 -- The text t was read from its beginning; the set has the positions at which the next byte can stand.
 pub record Forward (r : Pattern) (t : Text) (run : Run) : Type 0 where

@@ -1,13 +1,18 @@
 -- Sets of positions that a byte or a step leads to, told by the prepared program alone.
-use Rattle.std.specs.Prelude.{◌≡◌, true, false, List, ◌↔◌, ℕ, ◌+◌, ◌*◌, ◌≤◌, ◌<◌, length}
+use Rattle.std.specs.Prelude.{◌≡◌, true, false, List, ◌↔◌, ◌⊎◌, ℕ, ◌+◌, ◌*◌, ◌≤◌, ◌<◌, length}
 use Rattle.std.proofs.Common.{arith}
 use Rattle.positions.specs.declared.Set.{Set}
 use Rattle.positions.specs.Positions.{holds, Shared}
 use Rattle.automaton.specs.declared.Automaton.{Automaton}
-use Rattle.places.specs.Sets.{Grown}
-use Rattle.places.specs.Places.{Places}
-use Rattle.ways.specs.Ways.{Ways}
 use Rattle.automaton.specs.Rows.{set_at, follow_of, stands_in}
+
+-- The set holds what some position below n gives.
+pub record Gathered (gives : ℕ → ℕ → Type 0) (n : ℕ) (s : Set) : Type 0 where
+  pub held_iff : (q : ℕ) → (holds s q ≡ true) ↔ ((p : ℕ) × (p < n) × gives p q)
+
+-- The set `after` holds what `before` holds, and what was given.
+pub record Grown (given : ℕ → Type 0) (before after : Set) : Type 0 where
+  pub grown_iff : (q : ℕ) → (holds after q ≡ true) ↔ ((holds before q ≡ true) ⊎ given q)
 
 -- A position of the set gives itself where the byte may stand at it.
 pub record Standing (prepared : List ℕ) (a : Automaton) (s : Set) (byte p q : ℕ) : Type 0 where
@@ -33,6 +38,12 @@ pub record Meeting (prepared : List ℕ) (a : Automaton) (s : Set) (p q : ℕ) :
 
 -- ---- Sets that are kept, two numbers each
 
+-- Set i of a slice is written, the others stay.
+pub record Stored (before : List ℕ) (i : ℕ) (set : Set) (after : List ℕ) : Type 0 where
+  pub same_length : length after ≡ length before
+  pub stored : set_at after (2 * i) ≡ set
+  pub kept : (j : ℕ) → ¬ (j ≡ i) → set_at after (2 * j) ≡ set_at before (2 * j)
+
 -- There is room for a set for each position, and all these sets are empty.
 pub record NoLeads (leads : List ℕ) : Type 0 where
   pub size : 256 ≤ length leads
@@ -47,25 +58,10 @@ pub record LedFrom (count : ℕ) (next : Set) (q n : ℕ) (before after : List �
 pub record Led (prepared : List ℕ) (a : Automaton) (n : ℕ) (leads : List ℕ) : Type 0 where
   pub led_iff : (p : ℕ) → p < a.count → (q : ℕ) → (holds (set_at leads (2 * p)) q ≡ true) ↔ ((q < n) × (holds (follow_of prepared (a.start + q)) p ≡ true))
 
--- The slice has, for each position, the set of those that it may follow.
+-- The slice has, for each position, the set of those that it may follow; or it is too short for that, and the follow sets are asked.
 pub record Leads (prepared : List ℕ) (a : Automaton) (leads : List ℕ) : Type 0 where
   pub led : 256 ≤ length leads → Led prepared a a.count leads
 
--- The same with its shadow, in a slice that is longer by that; or the slice is too short, and the follow sets are asked.
-pub record Leading (prepared : List ℕ) (a : Automaton) (ways : List ℕ) : Type 0 where
-  pub led : 258 ≤ length ways → Led prepared a a.count ways
-  pub shaded : 258 ≤ length ways → Ways ways
-
 -- Nothing is known of a slice that is too short.
-pub short_leading : {prepared : List ℕ} {a : Automaton} {ways : List ℕ} → length ways < 258 → Leading prepared a ways
-short_leading short = record { led = λ long. absurd (omega arith); shaded = λ long. absurd (omega arith) }
-
--- The slice has, for each position, the set of those that may follow it, and the shadow.
-pub record Follows (prepared : List ℕ) (a : Automaton) (ways : List ℕ) : Type 0 where
-  pub shaded : Ways ways
-  pub follow_is : (p : ℕ) → p < a.count → set_at ways (2 * p) ≡ follow_of prepared (a.start + p)
-
--- What is found before a long text is read forward: for each byte the positions at which it may stand, and for each position those that may follow it. For a short text nothing is.
-pub record Found (prepared : List ℕ) (a : Automaton) (places ways : List ℕ) : Type 0 where
-  pub placed : Places prepared a places
-  pub followed : 512 ≤ length places → Follows prepared a ways
+pub short_leads : {prepared : List ℕ} {a : Automaton} {leads : List ℕ} → length leads < 256 → Leads prepared a leads
+short_leads short = record { led = λ long. absurd (omega arith) }

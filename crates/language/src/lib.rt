@@ -1,29 +1,25 @@
-// The position automaton, run over a text: forward, for whether the text belongs to the language, and backward by one byte. The set of positions is two numbers by value. A long text
-// first finds for each byte where it may stand, and for each position where it leads; a short one asks the rows.
+// The position automaton, run over a text: forward, for whether the text belongs to the language, and backward by one byte.
+#![tactic(auto)]
+
 ghost use Rattle.std.specs.Prelude.{◌≡◌, true, ◌+◌, ◌*◌, ◌≤◌, ◌<◌, length};
 ghost use Rattle.semantics.specs.Pattern.{Pattern, matches};
 ghost use Rattle.positions.specs.Positions.{holds};
 ghost use Rattle.automaton.specs.Rows.{Room, Describes, follow_of};
-ghost use Rattle.places.specs.Sets.{Gathered, Grown};
-ghost use Rattle.places.specs.Places.{Places};
-ghost use Rattle.ways.specs.Ways.{NoWays};
-ghost use Rattle.language.specs.Sets.{Standing, Onward, Back, Meeting, NoLeads, LedFrom, Leads, Leading, Follows, Found};
+ghost use Rattle.language.specs.Sets.{Gathered, Grown, Standing, Onward, Back, Meeting, Stored, NoLeads, LedFrom, Leads};
 ghost use Rattle.language.specs.Runs.{Stepped, Advanced, SteppedBack};
 
 use automaton::{Automaton, set_at};
-use places::{PLACES, find_places, keep, no_places};
 use positions::Set;
-use ways::{WAYS, no_ways, one_way, shade, two_ways};
 
 // A run over a text: whether the part that was read belongs, and the positions by which it can go on.
-#[derive(Drop)]
+#[derive(Clone, Copy)]
 pub struct Run {
     pub here: bool,
     pub set: Set,
 }
 
 // A byte that is read: the positions at which it stands, and those that may follow them.
-#[derive(Drop)]
+#[derive(Clone, Copy)]
 struct Step {
     reached: Set,
     onward: Set,
@@ -65,8 +61,8 @@ fn read(prepared: &[u64], a: Automaton, due: Set, byte: u8) -> Step
     step
 }
 
-// One byte forward, by the rows.
-pub fn advance_asking(prepared: &[u64], a: Automaton, run: Run, byte: u8) -> Run
+// One byte forward.
+pub fn advance(prepared: &[u64], a: Automaton, run: Run, byte: u8) -> Run
     requires { Room a prepared.now }
     ensures { Advanced prepared.now a byte run result }
 {
@@ -81,22 +77,25 @@ pub fn advance_asking(prepared: &[u64], a: Automaton, run: Run, byte: u8) -> Run
     }
 }
 
-// ---- Where the positions lead
+// ---- The sets of the positions that a position may follow
 
-// For each position, the set of those that may follow it.
-fn fill_follows(prepared: &[u64], a: Automaton, ways: &mut [u64])
-    requires room { Room a prepared.now }
-    requires no_ways { NoWays ways.old }
-    ensures { Follows prepared.now a ways.new }
+// A set is kept, in two numbers.
+pub fn keep(sets: &mut [u64], i: usize, set: Set)
+    requires { 2 * i + 2 ≤ length sets.old }
+    ensures { Stored sets.old i set sets.new }
 {
-    let count = a.count;
-    let mut p = 0;
-    while p < count {
-        let row = a.start + p;
-        keep(ways, p, automaton::follow(prepared, row));
-        p += 1;
-    }
-    shade(count, ways);
+    sets[2 * i] = set.low;
+    sets[2 * i + 1] = set.high;
+}
+
+// A set for each position, in two numbers.
+const LEADS: usize = 2 * Set::SIZE;
+
+// Room for these sets.
+pub fn no_leads() -> [u64; LEADS]
+    ensures { NoLeads result }
+{
+    [0u64; LEADS]
 }
 
 // Position q is added to the sets of those that may follow it.
@@ -129,16 +128,6 @@ pub fn fill_leads(prepared: &[u64], a: Automaton, leads: &mut [u64])
         lead_from(prepared, a, q, leads);
         q += 1;
     }
-}
-
-// The same, with its shadow.
-pub fn fill_leading(prepared: &[u64], a: Automaton, ways: &mut [u64])
-    requires room { Room a prepared.now }
-    requires no_ways { NoWays ways.old }
-    ensures { Leading prepared.now a ways.new }
-{
-    fill_leads(prepared, a, ways);
-    shade(a.count, ways);
 }
 
 // ---- One byte backward
@@ -215,7 +204,7 @@ fn lead_at(
     set: Set,
 ) -> Set
     requires room { Room a prepared.now }
-    requires in_bounds { (258 ≤ length leads.now) × Leading prepared.now a leads.now }
+    requires in_bounds { (256 ≤ length leads.now) × Leads prepared.now a leads.now }
     requires p_lt_count { (p < a.count) × (holds behind p ≡ true) }
     ensures { Grown (Back prepared.now a behind byte p) set result }
 {
@@ -226,12 +215,15 @@ fn lead_at(
     set_at(leads, 2 * p).union(set)
 }
 
-// A step back by what leads to the positions, each of which is asked for its bytes.
-fn step_back_leading(prepared: &[u64], a: Automaton, leads: &[u64], behind: Set, byte: u8) -> Set
+// The positions behind which a text may stand, once a byte is put in front of it.
+pub fn step_back(prepared: &[u64], a: Automaton, leads: &[u64], behind: Set, byte: u8) -> Set
     requires room { Room a prepared.now }
-    requires in_bounds { (258 ≤ length leads.now) × Leading prepared.now a leads.now }
+    requires leads { Leads prepared.now a leads.now }
     ensures { SteppedBack prepared.now a byte behind result }
 {
+    if leads.len() < LEADS {
+        return step_back_asking(prepared, a, behind, byte);
+    }
     let count = a.count;
     let mut set = Set::empty();
     let mut left = behind;
@@ -244,52 +236,11 @@ fn step_back_leading(prepared: &[u64], a: Automaton, leads: &[u64], behind: Set,
     set
 }
 
-// The positions behind which a text may stand, once a byte is put in front of it.
-pub fn step_back(
-    prepared: &[u64],
-    a: Automaton,
-    places: &[u64],
-    leads: &[u64],
-    behind: Set,
-    byte: u8,
-) -> Set
-    requires room { Room a prepared.now }
-    requires places { Places prepared.now a places.now × Leading prepared.now a leads.now }
-    ensures { SteppedBack prepared.now a byte behind result }
-{
-    if leads.len() < WAYS {
-        return step_back_asking(prepared, a, behind, byte);
-    }
-    if places.len() < PLACES {
-        return step_back_leading(prepared, a, leads, behind, byte);
-    }
-    two_ways(leads, behind.intersect(set_at(places, 2 * byte as usize)))
-}
-
 // ---- Forward over a whole text
 
-// One byte forward.
-fn advance(prepared: &[u64], a: Automaton, places: &[u64], ways: &[u64], run: Run, byte: u8) -> Run
-    requires room { Room a prepared.now }
-    requires found { Found prepared.now a places.now ways.now }
-    ensures { Advanced prepared.now a byte run result }
-{
-    if places.len() < PLACES {
-        return advance_asking(prepared, a, run, byte);
-    }
-    let due = run.set;
-    let reached = due.intersect(set_at(places, 2 * byte as usize));
-    let ends = a.last;
-    Run {
-        here: reached.meets(ends),
-        set: one_way(ways, reached),
-    }
-}
-
-// Whether the text belongs, byte by byte.
-fn read_through(prepared: &[u64], a: Automaton, places: &[u64], ways: &[u64], text: &[u8]) -> bool
-    requires room { Room a prepared.now }
-    requires found { Found prepared.now a places.now ways.now }
+// Whether the text belongs.
+pub fn belongs(prepared: &[u64], a: Automaton, text: &[u8]) -> bool
+    requires { Room a prepared.now }
     ensures { (r : Pattern) → Describes r a prepared.now → result ≡ matches r text.now }
 {
     let first = a.first;
@@ -303,36 +254,8 @@ fn read_through(prepared: &[u64], a: Automaton, places: &[u64], ways: &[u64], te
         if due.is_empty() {
             return false;
         }
-        run = advance(prepared, a, places, ways, run, text[i]);
+        run = advance(prepared, a, run, text[i]);
         i += 1;
     }
     run.here
-}
-
-// The same for a long text, with what is found before it is read.
-fn read_long(prepared: &[u64], a: Automaton, text: &[u8]) -> bool
-    requires { Room a prepared.now }
-    ensures { (r : Pattern) → Describes r a prepared.now → result ≡ matches r text.now }
-{
-    let mut room = no_places();
-    let n = find_places(prepared, a, &mut room);
-    let places = &room[0..n];
-    let mut ways = no_ways();
-    fill_follows(prepared, a, &mut ways);
-    read_through(prepared, a, places, &ways, text)
-}
-
-// A text of so many bytes is long: what is found before it is read is worth its room.
-pub const LONG: usize = 256;
-
-// Whether the text belongs.
-pub fn belongs(prepared: &[u64], a: Automaton, text: &[u8]) -> bool
-    requires { Room a prepared.now }
-    ensures { (r : Pattern) → Describes r a prepared.now → result ≡ matches r text.now }
-{
-    if LONG <= text.len() {
-        return read_long(prepared, a, text);
-    }
-    let none = [0u64; 1];
-    read_through(prepared, a, &none, &none, text)
 }

@@ -2,7 +2,7 @@
 use Rattle.std.specs.Prelude.{◌≡◌, refl, Bool, true, false, not, List, [], ◌∷◌, ◌++◌, ◌⊎◌, ◌↔◌, ◌≢◌, ℕ, zero, suc, ◌-◌, ◌<◌, length, get_or}
 use Rattle.std.proofs.Common.{sym, ap, ◌∙◌, subst, subst₂, true≢false, inl, inr, ⊎_elim, not-suc-le-zero, arith}
 use Rattle.std.proofs.Math.Option.{Option, none, some, none-ne-some}
-use Rattle.std.proofs.Math.Logic.{Iff·trans, Iff·and}
+use Rattle.std.proofs.Math.Logic.Iff
 use Rattle.std.proofs.lemmas.Bool.{not-true, not-false}
 use Rattle.semantics.specs.Text.{Text, All, or_else, apply}
 use Rattle.semantics.specs.Pattern.{In, matches}
@@ -150,7 +150,7 @@ first_quiet j [] (t ∷ ts) d e = absurd (omega arith)
 first_quiet j (n ∷ ns) [] d e = absurd (omega arith)
 first_quiet j (n ∷ ns) (t ∷ ts) d e =
     let later = first_quiet (suc j) ns ts d (omega arith) in
-    Iff·trans (
+    Iff.trans (
       λ q. (
         λ h. record { known_kind = q.0; operands_right = q.1.0; not_nested = q.1.1.0; within_limits = q.1.1.1.0 },
         λ k h. later.0 q.1.1.1.1 k (omega arith),
@@ -178,10 +178,10 @@ second_quiet : (j : ℕ) (ts : Trees) → Quiet (second_round j ts) ↔ ((k : �
 unfolding second_round tree_at
 second_quiet j [] = (λ q k l e. never (cc), λ f. tt)
 second_quiet j (t ∷ ts) =
-    Iff·trans
+    Iff.trans
     (all_append_iff (λ x. x.holds ≡ false) (tree_lines j t) (second_round (suc j) ts))
-    (Iff·trans
-    (Iff·and (tree_quiet j t) (second_quiet (suc j) ts))
+    (Iff.trans
+    (Iff.and (tree_quiet j t) (second_quiet (suc j) ts))
     (each_number (λ k. TreeTyped (tree_at (t ∷ ts) k))))
 
 -- the two rounds over a program

@@ -107,6 +107,7 @@ least_le (suc n) test = go (test zero) (least_le n (λ i. test (suc i)))
 module _ {A : Type 0} where
   pub member_left : (x : A) (xs ys : List A) → Member x xs → Member x (xs ++ ys)
   member_left x (y ∷ xs) ys (inl e) = inl e
+  member_left x [] ys x'' = elim x'' [ ]
   member_left x (y ∷ xs) ys (inr m) = inr (member_left x xs ys m)
 
   pub member_right : (x : A) (xs ys : List A) → Member x ys → Member x (xs ++ ys)
@@ -124,6 +125,7 @@ module _ {A : Type 0} where
 
   pub all_at : (P : A → Type 0) (x : A) (xs : List A) → All P xs → Member x xs → P x
   all_at P x (y ∷ xs) h (inl e) = subst P (sym e) h.0
+  all_at P x [] h x3 = elim x3 [ ]
   all_at P x (y ∷ xs) h (inr m) = all_at P x xs h.1 m
 
   pub all_of : (P : A → Type 0) (xs : List A) → ((x : A) → Member x xs → P x) → All P xs
@@ -149,6 +151,7 @@ module _ {A : Type 0} where
   pub passes_of : (test : A → Bool) (x : A) (xs : List A) → Member x xs → test x ≡ true → some_passes test xs ≡ true
   unfolding some_passes
   passes_of test x (y ∷ xs) (inl e) p = or_left (test y) (some_passes test xs) (ap test (sym e) ∙ p)
+  passes_of test x [] x3 p = elim x3 [ ]
   passes_of test x (y ∷ xs) (inr m) p = or_right (test y) (some_passes test xs) (passes_of test x xs m p)
 
   -- ---- Joined parts
@@ -156,10 +159,12 @@ module _ {A : Type 0} where
   pub member_joined : (x : A) (p : List A) (ps : List (List A)) → Member x p → Member p ps → Member x (joined ps)
   unfolding joined
   member_joined x p (q ∷ ps) m (inl e) = member_left x q (joined ps) (subst (Member x) e m)
+  member_joined x p [] m x3 = elim x3 [ ]
   member_joined x p (q ∷ ps) m (inr n) = member_right x q (joined ps) (member_joined x p ps m n)
 
   pub joined_member : (x : A) (ps : List (List A)) → Member x (joined ps) → (p : List A) × Member p ps × Member x p
   unfolding joined
+  joined_member x [] m = elim m [ ]
   joined_member x (p ∷ ps) m = go (joined_member x ps) (member_append x p (joined ps) m)
     where
       go : (Member x (joined ps) → (q : List A) × Member q ps × Member x q) → Member x p ⊎ Member x (joined ps) → (q : List A) × Member q (p ∷ ps) × Member x q
@@ -169,8 +174,10 @@ module _ {A : Type 0} where
 module _ {A B : Type 0} where
   pub member_map : (f : A → B) (x : A) (xs : List A) → Member x xs → Member (f x) (map f xs)
   member_map f x (y ∷ xs) (inl e) = inl (ap f e)
+  member_map f x [] x'' = elim x'' [ ]
   member_map f x (y ∷ xs) (inr m) = inr (member_map f x xs m)
 
   pub map_member : (f : A → B) (y : B) (xs : List A) → Member y (map f xs) → (x : A) × Member x xs × (y ≡ f x)
   map_member f y (x ∷ xs) (inl e) = (x, inl refl, e)
+  map_member f y [] x' = elim x' [ ]
   map_member f y (x ∷ xs) (inr m) = let r = map_member f y xs m in (r.0, inr r.1, r.2)

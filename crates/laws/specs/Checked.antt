@@ -1,7 +1,7 @@
 -- What Check answers: N if and only if the program keeps the rules, and a typing refusal at the first node that breaks one.
 use Rattle.std.specs.Prelude.{◌≡◌, refl, true, false, [], ◌∷◌, ◌⊎◌, ◌↔◌, ℕ, zero, suc, ◌+◌, ◌≤◌, ◌<◌}
 use Rattle.std.proofs.Common.{sym, ap, ◌∙◌, subst, inl, inr, ⊎_elim, arith}
-use Rattle.std.proofs.Math.Logic.{Iff·trans, Iff·and}
+use Rattle.std.proofs.Math.Logic.Iff
 use Rattle.semantics.specs.Text.{Text}
 use Rattle.semantics.specs.Lens.{Lens, copy, const, key, join, union, repeat, match}
 use Rattle.semantics.specs.Table.{node_count, Tree, pattern, lens, broken, Trees, tree_at, trees, Line, line, typing_lines, tree_lines, second_round, lines}
@@ -97,7 +97,7 @@ tree_held : (k : ℕ) (t : Tree) (number node : ℕ) → FirstHeld (tree_lines k
 unfolding tree_lines
 tree_held k (pattern r) number node = (λ h. absurd (held_nil number node h), λ h. never (let e = h.1.1 in cc))
 tree_held k (lens l) number node =
-    Iff·trans
+    Iff.trans
     (typing_held k l number node) (
       λ h. (h.0, (l, refl, h.1)),
       λ h. let e = h.1.1 in let same : h.1.0 ≡ l = cc in (h.0, subst (λ m. Lowest (λ n. Breaks n m) number) same h.1.2),
@@ -191,5 +191,5 @@ check_refuses bytes number node = (
 pub check_refuses_iff : (bytes : Text) (number node : ℕ) → 6 ≤ number → (check_call bytes ≡ refuses number node) ↔ FirstBreak bytes number node
 check_refuses_iff bytes number node late =
     let in-round = second_held 0 (trees bytes) number node in
-    let broken = Iff·trans (in_second bytes number node late) (Iff·trans (Iff·and (λ t. t, λ t. t) in-round) (first_break bytes number node)) in
-    Iff·trans (check_refuses bytes number node) (Iff·trans (refuses_iff bytes number node) broken)
+    let broken = Iff.trans (in_second bytes number node late) (Iff.trans (Iff.and (λ t. t, λ t. t) in-round) (first_break bytes number node)) in
+    Iff.trans (check_refuses bytes number node) (Iff.trans (refuses_iff bytes number node) broken)

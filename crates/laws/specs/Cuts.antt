@@ -2,7 +2,7 @@
 use Rattle.std.specs.Prelude.{◌≡◌, refl, Bool, true, ◌&&◌, ℕ, zero, suc, ◌≤◌, length, take, drop}
 use Rattle.std.proofs.Common.{sym, ap, ◌∙◌, inl, inr, not-suc-le-zero, le_refl, arith, length-append, take-append-drop, length-take-le}
 use mathlib.Core.List.{List, [], ◌∷◌, ◌++◌, append_assoc, append_cancel_left, head-eq_of_cons-eq, List-discrete}
-use Rattle.std.proofs.Math.Logic.{Dec·not-not}
+use Rattle.std.proofs.Math.Logic.Dec
 use Rattle.std.proofs.Math.Decide.{ℕ_discrete}
 use Rattle.std.proofs.Math.Seq.{take-append_seam, drop-append_seam}
 use Rattle.semantics.specs.Text.{Text, joined, least, All}
@@ -14,7 +14,7 @@ use Rattle.laws.specs.Membership.{matches_in_lem, in_matches}
 
 -- two texts are equal if they cannot be different
 same_text_lem : (t u : Text) → ¬ (¬ (t ≡ u)) → t ≡ u
-same_text_lem t u h = (Dec·not-not (List-discrete ℕ_discrete t u)).0 h
+same_text_lem t u h = (Dec.not-not (List-discrete ℕ_discrete t u)).0 h
 
 -- where no text has two cuts, two cuts of one text have the same first half
 one_cut_lem : (r s : Pattern) → ¬ TwoCuts r s → (u v u' v' : Text) → In r u → In s v → In r u' → In s v' → u ++ v ≡ u' ++ v' → u ≡ u'

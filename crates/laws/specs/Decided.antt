@@ -3,7 +3,8 @@ use Rattle.std.specs.Prelude.{◌≡◌, Bool, true, false, ◌||◌, cond, ◌�
 use Rattle.std.proofs.Math.Path.{refl}
 use Rattle.std.proofs.Common.{sym, ap, ◌∙◌, subst, inr, ⊎_elim, arith, length-append}
 use mathlib.Core.List.{List, [], ◌∷◌, ◌++◌, append_assoc, append-nil, append_cancel_left, nil≢cons}
-use Rattle.std.proofs.Math.Logic.{inl, ⊎_map, Iff·rfl, Iff·and, Iff·trans}
+use Rattle.std.proofs.Math.Logic.{inl, ⊎_map}
+use Rattle.std.proofs.Math.Logic.Iff
 use Rattle.semantics.specs.Text.{Text, same_text, joined, some_passes, All, Member}
 use Rattle.semantics.specs.Pattern.{Pattern, star, In, nullable}
 use Rattle.semantics.specs.Ambiguity.{TwoCuts, Overlap, TwoLists, BadRepeat, Pair, next_pairs, both_end, states, reached, onward, overlaps, two_cuts, bad_repeat}
@@ -109,9 +110,9 @@ phase_iff :
     → All (Among r s) (onward f ps)
     → Some (Stops F) (reached r s (onward f ps)) ↔ Some (Stops G) ps
 phase_iff F G r s f ps e among =
-    Iff·trans
+    Iff.trans
     (reached_iff F r s (onward f ps) among)
-    (Iff·trans (some_onward (Runs F) f ps) (some_iff _ (Stops G) ps (λ p. Iff·and Iff·rfl (e p.1))))
+    (Iff.trans (some_onward (Runs F) f ps) (some_iff _ (Stops G) ps (λ p. Iff.and Iff.rfl (e p.1))))
 
 -- the last phase: both read to the end
 abbrev Empty : Text → Type 0
@@ -126,12 +127,12 @@ ends_iff a = (
 )
 
 end_iff : (ps : List Pair) → (some_passes both_end ps ≡ true) ↔ Some (Stops Empty) ps
-end_iff ps = Iff·trans (passes_iff both_end ps) (some_iff _ (Stops Empty) ps ends_iff)
+end_iff ps = Iff.trans (passes_iff both_end ps) (some_iff _ (Stops Empty) ps ends_iff)
 
 -- in that phase a pair runs if the two have a text in common
 both_iff : (p q : Pattern) → Some (Runs Empty) ((p, q) ∷ []) ↔ Left (In q) p
 both_iff p q =
-    Iff·trans
+    Iff.trans
     (some_one (Runs Empty) (p, q)) (
       λ h. let (u, w, i, j, e) = h in (u, i, subst (In q) (ap (λ v. u ++ v) e ∙ append-nil u) j),
       λ h. (h.0, [], h.1, subst (In q) (sym (append-nil h.0)) h.2, refl),
@@ -151,11 +152,11 @@ module _ (r s : Pattern) where
 pub overlaps_iff : (r s : Pattern) → (overlaps r s ≡ true) ↔ Overlap r s
 unfolding overlaps
 overlaps_iff r s =
-    Iff·trans
+    Iff.trans
     (end_iff (reached r s ((r, s) ∷ [])))
-    (Iff·trans
+    (Iff.trans
     (reached_iff Empty r s ((r, s) ∷ []) ((first_state r s, second_state r s), tt))
-    (Iff·trans
+    (Iff.trans
     (both_iff r s)
     (λ h. record { text = h.0; in_left = h.1; in_right = h.2 }, λ h. (h.text, h.in_left, h.in_right))))
 
@@ -253,13 +254,13 @@ onward_among r s f starts g h =
 pub two_cuts_iff : (r s : Pattern) → (two_cuts r s ≡ true) ↔ TwoCuts r s
 unfolding two_cuts
 two_cuts_iff r s =
-    Iff·trans
+    Iff.trans
     (end_iff (reached r s (onward begin_v x)))
-    (Iff·trans
+    (Iff.trans
     (phase_iff Empty (In s) r s begin_v x (λ q. both_iff q s) v_among)
-    (Iff·trans
+    (Iff.trans
     (phase_iff (In s) (Moved s) r s begin_x u (λ q. moved_iff q s) x_among)
-    (Iff·trans (reached_iff (Moved s) r s ((r, r) ∷ []) u_among) (Iff·trans (some_one (Runs (Moved s)) (r, r)) (cuts_iff r s)))))
+    (Iff.trans (reached_iff (Moved s) r s ((r, r) ∷ []) u_among) (Iff.trans (some_one (Runs (Moved s)) (r, r)) (cuts_iff r s)))))
   where
     begin_x : Pattern → List Pair
     begin_x q = next_pairs (q, s)

@@ -89,10 +89,13 @@ reads_either hs ks c t (h, m, e, i) = ⊎_map (λ n. (h, n, e, i)) (λ n. (h, n,
 -- ways to read a first byte give members
 reads_in : (r : Pattern) (c : ℕ) (t : Text) → Reads (heads r) c t → In r (c ∷ t)
 unfolding heads In joined ⊎_map
+reads_in (word []) c t (h, m, e, i) = absurd m
 reads_in (word (d ∷ w)) c t (h, inl p, e, i) =
     let q = only_byte d c (rw p at e) in
     let rest : t ≡ w = rw p at i in
     cc
+reads_in (word (d ∷ w)) c t (h , inr x8 , e , i) = elim x8 [ ]
+reads_in (one_of k) c t (h , inr x6 , e , i) = elim x6 [ ]
 reads_in (one_of k) c t (h, inl p, e, i) =
     let rest : t ≡ [] = rw p at i in
     (c, cc, rw p at e)

@@ -501,14 +501,14 @@ unfolding border
 join_from base at_first [] [] l = let (first, second) = at_first.both l in (first, record { steps = second })
 join_from base at_first [] (c ∷ t) l = absurd l
 join_from base at_first (q ∷ path) [] l = absurd l
-join_from {r} {s} {ends' = ends'} {may' = may'} base at_first (q ∷ path) (c ∷ t) (step, later) =
+join_from {r} {s} {ends = ends} {may = may} {ends' = ends'} {may' = may'} base at_first (q ∷ path) (c ∷ t) (step, later) =
     let n = positions r in
     let p = step.place in
     let on : (x : ℕ) → x < n → _ ≡ may' x = λ x h. at_first.on x ∙ split_left n may' (λ j. ends' && first_at s j) x h in
     ⊎_elim
     (λ e.
     let h : p < n = omega (arith, ltb-true q (base + n) e, step.place_is) in
-    let behind = join_from base (first_behind r s p h) path t later in
+    let behind = join_from {ends = last_at (concat r s) p} {may = follow_at (concat r s) p} base (first_behind r s p h) path t later in
     let allowed = sym (on p h) ∙ step.allowed in
     rw
     (border_in (base + n) q path e)

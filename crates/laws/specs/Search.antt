@@ -23,6 +23,7 @@ module _ {A : Type 0} where
   -- a member, and what stands before and after it
   member_split : (x : A) (ys : List A) → Member x ys → (us : List A) × (vs : List A) × (ys ≡ us ++ x ∷ vs)
   member_split x (y ∷ ys) (inl e) = ([], ys, rw e)
+  member_split x [] x'' = elim x'' [ ]
   member_split x (y ∷ ys) (inr m) = let r = member_split x ys m in (y ∷ r.0, r.1, ap (λ l. y ∷ l) r.2)
 
   -- A list without repeats is no longer than a list that holds its members.
@@ -57,6 +58,7 @@ module _ {A B : Type 0} where
 
   member_product : (x : A) (y : B) (xs : List A) (ys : List B) → Member x xs → Member y ys → Member (x, y) (product xs ys)
   member_product x y (z ∷ xs) ys (inl e) n = member_left (x, y) (map (λ v. (z, v)) ys) (product xs ys) (rw e (member_map (λ v. (z, v)) y ys n))
+  member_product x y [] ys x3 n = elim x3 [ ]
   member_product x y (z ∷ xs) ys (inr m) n = member_right (x, y) (map (λ v. (z, v)) ys) (product xs ys) (member_product x y xs ys m n)
 
 -- ---- The next pairs

@@ -32,6 +32,7 @@ data Picked {A : Type 0} : List A → List A → Type 0 where
 module _ {A : Type 0} where
   -- a member can be taken out
   member_out : (x : A) (ys : List A) → Member x ys → (zs : List A) × Out x ys zs
+  member_out x [] x'' = elim x'' [ ]
   member_out x (y ∷ ys) (inl e) = (ys, subst (λ z. Out x (z ∷ ys) ys) e here)
   member_out x (y ∷ ys) (inr m) = let r = member_out x ys m in (y ∷ r.0, later r.1)
 

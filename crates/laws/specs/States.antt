@@ -12,10 +12,12 @@ use Rattle.laws.specs.Classes.{same_class_eq, same_class_refl}
 
 module _ {A : Type 0} where
   pub member_one : (x y : A) → Member x (y ∷ []) → x ≡ y
+  member_one x y (inr x'') = elim x'' [ ]
   member_one x y (inl e) = e
 
   -- a member of a list that is there only if a test passes
   pub member_cond : (b : Bool) (x : A) (xs : List A) → Member x (cond b xs []) → (b ≡ true) × Member x xs
+  member_cond false x xs m = elim m [ ]
   member_cond true x xs m = (refl, m)
 
   pub cond_member : (b : Bool) (x : A) (xs : List A) → b ≡ true → Member x xs → Member x (cond b xs [])
@@ -48,14 +50,14 @@ both_eq {a = a} {b = b} e f g = let h = and_both a b e in (f h.0, g h.1)
 
 same_pattern_eq : (p q : Pattern) → same_pattern p q ≡ true → p ≡ q
 unfolding same_pattern
-same_pattern_eq (word w) q = elim q [ word v ↦ λ e. ap word (same_text_eq w v e) | one_of d ↦ never | concat r s ↦ never | alt r s ↦ never | star r ↦ never ]
+same_pattern_eq (word w) q = elim q as (λ k. same_pattern (word w) k ≡ true → (word w) ≡ k) [ word v ↦ λ e. ap word (same_text_eq w v e) | one_of d ↦ never | concat r s ↦ never | alt r s ↦ never | star r ↦ never ]
 same_pattern_eq (one_of c) q =
-    elim q [ word v ↦ never | one_of d ↦ λ e. ap one_of (same_class_eq c d e) | concat r s ↦ never | alt r s ↦ never | star r ↦ never ]
+    elim q as (λ k. same_pattern (one_of c) k ≡ true → (one_of c) ≡ k) [ word v ↦ never | one_of d ↦ λ e. ap one_of (same_class_eq c d e) | concat r s ↦ never | alt r s ↦ never | star r ↦ never ]
 same_pattern_eq (concat x y) q =
-    elim q [ word v ↦ never | one_of d ↦ never | concat r s ↦ λ e. two concat (both_eq e (same_pattern_eq x r) (same_pattern_eq y s)) | alt r s ↦ never | star r ↦ never ]
+    elim q as (λ k. same_pattern (concat x y) k ≡ true → (concat x y) ≡ k) [ word v ↦ never | one_of d ↦ never | concat r s ↦ λ e. two concat (both_eq e (same_pattern_eq x r) (same_pattern_eq y s)) | alt r s ↦ never | star r ↦ never ]
 same_pattern_eq (alt x y) q =
-    elim q [ word v ↦ never | one_of d ↦ never | concat r s ↦ never | alt r s ↦ λ e. two alt (both_eq e (same_pattern_eq x r) (same_pattern_eq y s)) | star r ↦ never ]
-same_pattern_eq (star x) q = elim q [ word v ↦ never | one_of d ↦ never | concat r s ↦ never | alt r s ↦ never | star r ↦ λ e. ap star (same_pattern_eq x r e) ]
+    elim q as (λ k. same_pattern (alt x y) k ≡ true → (alt x y) ≡ k) [ word v ↦ never | one_of d ↦ never | concat r s ↦ never | alt r s ↦ λ e. two alt (both_eq e (same_pattern_eq x r) (same_pattern_eq y s)) | star r ↦ never ]
+same_pattern_eq (star x) q = elim q as (λ k. same_pattern (star x) k ≡ true → (star x) ≡ k) [ word v ↦ never | one_of d ↦ never | concat r s ↦ never | alt r s ↦ never | star r ↦ λ e. ap star (same_pattern_eq x r e) ]
 
 same_pattern_refl : (p : Pattern) → same_pattern p p ≡ true
 unfolding same_pattern
@@ -85,12 +87,14 @@ heads_of h e m = subst (λ p. Member h (heads p)) e m
 word_closed : (w : Text) → Closed (word w)
 unfolding states rests word_rests heads
 word_closed [] q h (inl e) m = absurd (heads_of h e m)
+word_closed [] q h (inr n) m = elim n [ ]
 word_closed (c ∷ w) q h (inl e) m = inl (ap (λ k. k.rest) (member_one h _ (heads_of h e m)))
 word_closed (c ∷ w) q h (inr n) m = inr (word_closed w q h n m)
 
 class_closed : (c : Class) → Closed (one_of c)
 unfolding states rests heads
 class_closed c q h (inl e) m = inl (ap (λ k. k.rest) (member_one h _ (heads_of h e m)))
+class_closed c q h (inr (inr x3)) m = elim x3 [ ]
 class_closed c q h (inr (inl e)) m = absurd (heads_of h e m)
 
 -- After one byte of `concat k s`, either k goes on, or k was empty and s has begun.

@@ -2,7 +2,7 @@
 use Rattle.std.specs.Prelude.{◌≡◌, refl, Bool, true, [], ◌∷◌, ◌++◌, ◌↔◌, ℕ, ◌<◌}
 use Rattle.std.proofs.Common.{sym, subst, append-nil}
 use Rattle.std.proofs.Math.Option.{Option, none, some, none-ne-some, some-ne-none}
-use Rattle.std.proofs.Math.Logic.{Iff·symm, Iff·trans}
+use Rattle.std.proofs.Math.Logic.Iff
 use Rattle.semantics.specs.Text.{Text}
 use Rattle.semantics.specs.Pattern.{Pattern, In, nullable}
 use Rattle.semantics.specs.Ambiguity.{TwoCuts, Overlap}
@@ -201,8 +201,8 @@ moved_iff r s marked (some p) = (λ g. let (c, t, e) = first_byte g.text g.besid
 -- A join has a text with two cuts exactly if three stages end: u in r twice, x in r and in s (not empty), v in s twice.
 pub cuts_staged_iff : (r s : Pattern) → TwoCuts r s ↔ Ends s (Staged s s (Moved (Staged r s (Staged r r Start))))
 cuts_staged_iff r s =
-    Iff·trans
-    (Iff·symm (cuts_iff r s)) (
+    Iff.trans
+    (Iff.symm (cuts_iff r s)) (
       λ h.
           let (u, x, i, j, (c, t, v, e, k, l)) = h in
           let (u-end, u-walk, u-final) = (in_iff r u).0 i in

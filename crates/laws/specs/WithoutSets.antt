@@ -143,15 +143,15 @@ next_now p =
 -- the same patterns are told apart
 same_now : (p q : was.Pattern) → same_pattern (now p) (now q) ≡ was.same_pattern p q
 unfolding same_pattern was.same_pattern now
-same_now (was.word w) q = elim q [ was.word v ↦ refl | was.range c d ↦ refl | was.concat r s ↦ refl | was.alt r s ↦ refl | was.star r ↦ refl ]
+same_now (was.word w) q = elim q as (λ k. same_pattern (now (was.word w)) (now k) ≡ was.same_pattern (was.word w) k) [ was.word v ↦ refl | was.range c d ↦ refl | was.concat r s ↦ refl | was.alt r s ↦ refl | was.star r ↦ refl ]
 same_now (was.range a b) q =
-    elim q [ was.word v ↦ refl | was.range c d ↦ same_range a b c d | was.concat r s ↦ refl | was.alt r s ↦ refl | was.star r ↦ refl ]
+    elim q as (λ k. same_pattern (now (was.range a b)) (now k) ≡ was.same_pattern (was.range a b) k) [ was.word v ↦ refl | was.range c d ↦ same_range a b c d | was.concat r s ↦ refl | was.alt r s ↦ refl | was.star r ↦ refl ]
 same_now (was.concat x y) q =
-    elim q [ was.word v ↦ refl | was.range c d ↦ refl | was.concat r s ↦ ap₂ ◌&&◌ (same_now x r) (same_now y s) | was.alt r s ↦ refl | was.star r ↦ refl ]
+    elim q as (λ k. same_pattern (now (was.concat x y)) (now k) ≡ was.same_pattern (was.concat x y) k) [ was.word v ↦ refl | was.range c d ↦ refl | was.concat r s ↦ ap₂ ◌&&◌ (same_now x r) (same_now y s) | was.alt r s ↦ refl | was.star r ↦ refl ]
 same_now (was.alt x y) q =
-    elim q [ was.word v ↦ refl | was.range c d ↦ refl | was.concat r s ↦ refl | was.alt r s ↦ ap₂ ◌&&◌ (same_now x r) (same_now y s) | was.star r ↦ refl ]
+    elim q as (λ k. same_pattern (now (was.alt x y)) (now k) ≡ was.same_pattern (was.alt x y) k) [ was.word v ↦ refl | was.range c d ↦ refl | was.concat r s ↦ refl | was.alt r s ↦ ap₂ ◌&&◌ (same_now x r) (same_now y s) | was.star r ↦ refl ]
 same_now (was.star x) q =
-    elim q [ was.word v ↦ refl | was.range c d ↦ refl | was.concat r s ↦ refl | was.alt r s ↦ refl | was.star r ↦ same_now x r ]
+    elim q as (λ k. same_pattern (now (was.star x)) (now k) ≡ was.same_pattern (was.star x) k) [ was.word v ↦ refl | was.range c d ↦ refl | was.concat r s ↦ refl | was.alt r s ↦ refl | was.star r ↦ same_now x r ]
 
 -- and the same pairs
 same_pair_now : (p q : was.Pair) → same_pair (now_pair p) (now_pair q) ≡ was.same_pair p q

@@ -1,1 +1,2 @@
 // Theorems only, in specs/: this crate has no code.
+#![tactic(auto)]

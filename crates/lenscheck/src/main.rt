@@ -1,5 +1,7 @@
 // Reads a program table on standard input and prints one line: `ok`, the node count, and the root's source and sheet positions; or `refused`,
 // the number and the node.
+#![tactic(auto)]
+
 use libc::{STDIN_FILENO, STDOUT_FILENO};
 
 fn main() {

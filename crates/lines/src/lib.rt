@@ -1,4 +1,6 @@
 // Texts and numbers put into a buffer, and the lines that `lenscheck` and `sheet` print of a program and `tally` of a put, put there part by part. Each function answers the place behind what it put.
+#![tactic(auto)]
+
 ghost use Rattle.std.specs.Prelude.{◌≡◌, ◌+◌, ◌≤◌, length};
 ghost use Rattle.semantics.specs.Calls.{decimal, field};
 ghost use Rattle.semantics.specs.Tally.{counts_line};

@@ -1,4 +1,6 @@
 // The entries of an old source listed in order, into a book.
+#![tactic(auto)]
+
 ghost use Rattle.std.specs.Prelude.{◌+◌, ◌≤◌, ◌<◌, length};
 ghost use Rattle.semantics.specs.Lens.{repeat, match, source};
 ghost use Rattle.semantics.specs.Table.{node_count, lens, trees, tree_at};
@@ -13,7 +15,7 @@ use cuts::{border, ends_of, first_loop, goes_left};
 use table::{Kind, Table};
 
 // A book with more entries; or, where `over`, there are more than 256 and the book is of no account.
-#[derive(Drop)]
+#[derive(Clone, Copy)]
 pub struct Listing {
     pub over: bool,
     pub book: Book,

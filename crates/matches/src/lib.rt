@@ -1,4 +1,6 @@
 // Matches, with the book: the entry that the key of a sheet text finds, and a repeat of a match, whose child writes with no book.
+#![tactic(auto)]
+
 ghost use Rattle.std.specs.Prelude.{◌≡◌, length};
 ghost use Rattle.semantics.specs.Lens.{repeat, match};
 ghost use Rattle.semantics.specs.Table.{trees, lens};

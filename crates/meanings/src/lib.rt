@@ -1,4 +1,6 @@
 // What each refusal means and what to do, in a sentence. docs/GUIDE.md has an example of each.
+#![tactic(auto)]
+
 ghost use Rattle.std.specs.Prelude.{true, ◌≡◌};
 ghost use Rattle.meanings.specs.Sentences.{has_sentence};
 ghost use Rattle.meanings.specs.Texts.{text_refused};

@@ -1,2 +1,3 @@
 -- What other languages link.
+pub mod Exports
 pub mod Numbers

@@ -17,10 +17,10 @@ use Rattle.answers.specs.declared.ClashAnswer.{ClashAnswer}
 use Rattle.answers.specs.declared.ClashAnswer.TheVariants.{Accepted, Clash}
 use Rattle.answers.specs.declared.ClashAnswer.TheVariants as C
 use Rattle.answers.specs.Contracts.{answer_for, put_answer_for, clash_answer_for}
-use Rattle.numbers.specs.declared.Numbers.{Numbers}
-use Rattle.numbers.specs.declared.PutNumbers.{PutNumbers}
-use Rattle.numbers.specs.declared.ClashNumbers.{ClashNumbers}
-use Rattle.numbers.specs.Exports.{numbers_of, put_numbers_of, clash_numbers_of, ExportsText, ExportsSource, ExportsClash}
+use Rattle.noontrough.specs.declared.Numbers.{Numbers}
+use Rattle.noontrough.specs.declared.PutNumbers.{PutNumbers}
+use Rattle.noontrough.specs.declared.ClashNumbers.{ClashNumbers}
+use Rattle.noontrough.specs.Exports.{numbers_of, put_numbers_of, clash_numbers_of, ExportsText, ExportsSource, ExportsClash}
 
 -- ---- Number 0
 

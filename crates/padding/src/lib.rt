@@ -1,4 +1,6 @@
 // Trailing spaces, which don't count where keys are compared: document 02 (iv).
+#![tactic(auto)]
+
 ghost use Rattle.std.specs.Prelude.{◌≡◌, length};
 ghost use Rattle.semantics.specs.Text.{all_spaces, trimmed};
 

@@ -1,5 +1,7 @@
 // The pairs of positions of two automata that one text leads to, filled until no row is due, and which positions share a byte. Pairs stand in cells: a
 // row for each position of the first, with the set of the second's positions. Each is led on once by one byte: `led` has those that were.
+#![tactic(auto)]
+
 ghost use Rattle.std.specs.Prelude.{◌≡◌, ◌&&◌, ◌||◌, ℕ, ◌+◌, ◌*◌, ◌≤◌, ◌<◌, eqb, length, set, get_or};
 ghost use Rattle.std.specs.Int.Bits.{bit_or};
 ghost use Rattle.positions.specs.Positions.{holds};

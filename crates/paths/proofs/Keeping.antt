@@ -15,7 +15,7 @@ use Rattle.automaton.specs.declared.Automaton.{Automaton}
 use Rattle.automaton.specs.Rows.{Room}
 use Rattle.language.specs.Runs.{Behind, SteppedBack}
 use Rattle.language.proofs.Steps.{behind_begins}
-use Rattle.places.specs.Sets.{Stored}
+use Rattle.language.specs.Sets.{Stored}
 use Rattle.paths.specs.Finding.{Filled, BehindAt, block_end, Marked}
 
 module _ {prepared : List ℕ} {a : Automaton} {text : Text} where
@@ -45,12 +45,12 @@ module _ {prepared : List ℕ} {a : Automaton} {text : Text} where
             (bool_cases (eqb j i));
       }
 
-  -- all of them are kept, where there is room
+  -- all of them are kept
   pub filled_all :
-      {start i end : ℕ} {s : Set} {sets : List ℕ} {room : Type 0} → i ≡ start → BehindAt prepared a text i s → (room → Filled prepared a text start i end sets)
-      → BehindAt prepared a text start s × (room → Filled prepared a text start start end sets)
+      {start i end : ℕ} {s : Set} {sets : List ℕ} → i ≡ start → BehindAt prepared a text i s → Filled prepared a text start i end sets
+      → BehindAt prepared a text start s × Filled prepared a text start start end sets
   filled_all {start} {end = end} {s = s} {sets = sets} e behind filled =
-      (subst (λ (n : ℕ). BehindAt prepared a text n s) e behind, λ room. subst (λ (n : ℕ). Filled prepared a text start n end sets) e (filled room))
+      (subst (λ (n : ℕ). BehindAt prepared a text n s) e behind, subst (λ (n : ℕ). Filled prepared a text start n end sets) e filled)
 
   -- ---- The sets behind the blocks
 

@@ -7,17 +7,11 @@ use Rattle.laws.specs.Paths.{LeastPath}
 use Rattle.positions.specs.declared.Set.{Set}
 use Rattle.automaton.specs.declared.Automaton.{Automaton}
 use Rattle.automaton.specs.Rows.{set_at, Describes}
-use Rattle.places.specs.Sets.{Stored}
 use Rattle.language.specs.Runs.{Behind}
 use Rattle.walks.specs.declared.Walk.{Walk}
 use Rattle.walks.specs.Walking.{Walked}
 
 -- ---- Sets that are kept
-
--- A set was kept where there is room for those of a block.
-pub record KeptBehind (before : List ℕ) (i : ℕ) (set : Set) (after : List ℕ) : Type 0 where
-  pub same_length : length after ≡ length before
-  pub stored : 512 ≤ length before → Stored before i set after
 
 -- The slice has, for each byte from i to before `end`, the set behind it: that of byte `start` comes first.
 pub record Filled (prepared : List ℕ) (a : Automaton) (text : Text) (start i end : ℕ) (sets : List ℕ) : Type 0 where

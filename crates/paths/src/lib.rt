@@ -1,19 +1,17 @@
 // The least path of a text through an automaton: forward as long as there is one way to go, and from the first choice on by the sets behind the text's bytes.
+#![tactic(auto)]
+
 ghost use Rattle.std.specs.Prelude.{◌≡◌, ◌+◌, ◌-◌, ◌*◌, ◌/◌, ◌≤◌, ◌<◌, length, take};
 ghost use Rattle.automaton.specs.Rows.{Room};
-ghost use Rattle.places.specs.Places.{Places};
-ghost use Rattle.ways.specs.Ways.{NoWays};
-ghost use Rattle.language.specs.Sets.{Leading};
+ghost use Rattle.language.specs.Sets.{NoLeads, Leads};
 ghost use Rattle.walks.specs.Walking.{Walked};
-ghost use Rattle.paths.specs.Finding.{KeptBehind, Filled, BehindAt, block_end, Marked, MarksRoom, WalkedTo, PathFound};
+ghost use Rattle.paths.specs.Finding.{Filled, BehindAt, block_end, Marked, MarksRoom, WalkedTo, PathFound};
 
 use automaton::{Automaton, set_at};
-use language::{LONG, fill_leading, step_back};
-use places::{find_places, keep, no_places};
+use language::{fill_leads, keep, no_leads, step_back};
 use positions::Set;
 use table::Table;
-use walks::{Walk, lowest_by, past, walk_first};
-use ways::no_ways;
+use walks::{Walk, lowest, past, walk_first};
 
 // The sets behind a text are kept block by block.
 const BLOCK: usize = 256;
@@ -23,22 +21,10 @@ const LAST: usize = BLOCK - 1;
 
 // ---- Backward, block by block
 
-// A set is kept where room for those of a block is lent.
-fn keep_behind(sets: &mut [u64], i: usize, set: Set)
-    requires { i < 256 }
-    ensures { KeptBehind sets.old i set sets.new }
-{
-    if sets.len() < 2 * BLOCK {
-        return;
-    }
-    keep(sets, i, set);
-}
-
-// The set behind what stands in front of a block, and, where there is room for them, those behind its bytes.
+// The sets behind the bytes of a block are kept; the answer is the set behind what stands in front of it.
 fn fill_block(
     prepared: &[u64],
     a: Automaton,
-    places: &[u64],
     leads: &[u64],
     text: &[u8],
     start: usize,
@@ -47,17 +33,17 @@ fn fill_block(
     sets: &mut [u64],
 ) -> Set
     requires room { Room a prepared.now }
-    requires places { Places prepared.now a places.now × Leading prepared.now a leads.now }
-    requires start_le_end { (start ≤ end) × (end ≤ length text.now) × (end - start ≤ 256) }
+    requires leads { Leads prepared.now a leads.now }
+    requires start_le_end { (start ≤ end) × (end ≤ length text.now) × (2 * (end - start) ≤ length sets.old) }
     requires behind_at { BehindAt prepared.now a text.now end behind }
-    ensures { BehindAt prepared.now a text.now start result × (512 ≤ length sets.old → Filled prepared.now a text.now start start end sets.new) }
+    ensures { BehindAt prepared.now a text.now start result × Filled prepared.now a text.now start start end sets.new }
 {
     let mut set = behind;
     let mut i = end;
     while start < i {
         i -= 1;
-        keep_behind(sets, i - start, set);
-        set = step_back(prepared, a, places, leads, set, text[i]);
+        keep(sets, i - start, set);
+        set = step_back(prepared, a, leads, set, text[i]);
     }
     set
 }
@@ -76,35 +62,24 @@ fn block_end(length: usize, k: usize) -> usize
 fn mark_blocks(
     prepared: &[u64],
     a: Automaton,
-    places: &[u64],
     leads: &[u64],
     text: &[u8],
     first: usize,
+    sets: &mut [u64],
     marks: &mut [u64],
 )
     requires room { Room a prepared.now }
-    requires places { Places prepared.now a places.now × Leading prepared.now a leads.now }
-    requires text_in_bounds { (2 * ((length text.now + 255) / 256) ≤ length marks.old) × (length text.now < 1048576) }
+    requires leads { Leads prepared.now a leads.now }
+    requires in_bounds { (512 ≤ length sets.old) × (2 * ((length text.now + 255) / 256) ≤ length marks.old) × (length text.now < 1048576) }
     ensures { Marked prepared.now a text.now first marks.new }
 {
-    let mut none = [0u64; 1];
     let mut behind = a.last;
     let mut k = (text.len() + LAST) / BLOCK;
     while first < k {
         k -= 1;
         keep(marks, k, behind);
         let end = block_end(text.len(), k);
-        behind = fill_block(
-            prepared,
-            a,
-            places,
-            leads,
-            text,
-            BLOCK * k,
-            end,
-            behind,
-            &mut none,
-        );
+        behind = fill_block(prepared, a, leads, text, BLOCK * k, end, behind, sets);
     }
 }
 
@@ -114,7 +89,6 @@ fn mark_blocks(
 fn walk_block(
     prepared: &[u64],
     a: Automaton,
-    places: &[u64],
     text: &[u8],
     start: usize,
     end: usize,
@@ -123,7 +97,6 @@ fn walk_block(
     path: &mut [u8],
 ) -> Walk
     requires room { Room a prepared.now }
-    requires places { Places prepared.now a places.now }
     requires start_le_at { (start ≤ walk.at) × (walk.at ≤ end) × (end ≤ length text.now) × (2 * (end - start) ≤ length sets.now) }
     requires filled { Filled prepared.now a text.now start start end sets.now }
     requires path_len { length path.old ≡ length text.now }
@@ -135,7 +108,7 @@ fn walk_block(
         let i = walk.at;
         let due = walk.set;
         let may = due.intersect(set_at(sets, 2 * (i - start)));
-        let p = lowest_by(prepared, a, places, may, text[i]);
+        let p = lowest(prepared, a, may, text[i]);
         if Set::SIZE <= p {
             return walk;
         }
@@ -149,7 +122,6 @@ fn walk_block(
 fn walk_blocks(
     prepared: &[u64],
     a: Automaton,
-    places: &[u64],
     leads: &[u64],
     text: &[u8],
     walk: Walk,
@@ -158,7 +130,7 @@ fn walk_blocks(
     path: &mut [u8],
 ) -> bool
     requires room { Room a prepared.now }
-    requires places { Places prepared.now a places.now × Leading prepared.now a leads.now }
+    requires leads { Leads prepared.now a leads.now }
     requires in_bounds { (512 ≤ length sets.old) × (2 * ((length text.now + 255) / 256) ≤ length marks.now) × (length text.now < 1048576) }
     requires path_len { length path.old ≡ length text.now }
     requires walked { Walked prepared.now a text.now path.old walk }
@@ -170,18 +142,8 @@ fn walk_blocks(
         let k = walk.at / BLOCK;
         let end = block_end(text.len(), k);
         let behind = set_at(marks, 2 * k);
-        fill_block(
-            prepared,
-            a,
-            places,
-            leads,
-            text,
-            BLOCK * k,
-            end,
-            behind,
-            sets,
-        );
-        walk = walk_block(prepared, a, places, text, BLOCK * k, end, sets, walk, path);
+        fill_block(prepared, a, leads, text, BLOCK * k, end, behind, sets);
+        walk = walk_block(prepared, a, text, BLOCK * k, end, sets, walk, path);
         if walk.at < end {
             return false;
         }
@@ -210,13 +172,13 @@ fn no_marks() -> [u64; 32]
 // of the room hold them, none or all.
 fn find_leads(prepared: &[u64], a: Automaton, bytes: usize, leads: &mut [u64]) -> usize
     requires room { Room a prepared.now }
-    requires no_ways { NoWays leads.old }
-    ensures { (result ≤ length leads.new) × Leading prepared.now a (take result leads.new) }
+    requires no_leads { NoLeads leads.old }
+    ensures { (result ≤ length leads.new) × Leads prepared.now a (take result leads.new) }
 {
     if bytes < 2 * a.count {
         return 0;
     }
-    fill_leading(prepared, a, leads);
+    fill_leads(prepared, a, leads);
     leads.len()
 }
 
@@ -226,7 +188,6 @@ fn find_leads(prepared: &[u64], a: Automaton, bytes: usize, leads: &mut [u64]) -
 fn choose(
     prepared: &[u64],
     a: Automaton,
-    places: &[u64],
     leads: &[u64],
     text: &[u8],
     walk: Walk,
@@ -235,21 +196,20 @@ fn choose(
     path: &mut [u8],
 ) -> bool
     requires room { Room a prepared.now }
-    requires places { Places prepared.now a places.now × Leading prepared.now a leads.now }
+    requires leads { Leads prepared.now a leads.now }
     requires in_bounds { (512 ≤ length sets.old) × (2 * ((length text.now + 255) / 256) ≤ length marks.old) × (length text.now < 1048576) }
     requires path_len { length path.old ≡ length text.now }
     requires walked { Walked prepared.now a text.now path.old walk }
     ensures { PathFound prepared.now a text.now path.new result }
 {
-    mark_blocks(prepared, a, places, leads, text, walk.at / BLOCK, marks);
-    walk_blocks(prepared, a, places, leads, text, walk, sets, marks, path)
+    mark_blocks(prepared, a, leads, text, walk.at / BLOCK, sets, marks);
+    walk_blocks(prepared, a, leads, text, walk, sets, marks, path)
 }
 
 // The same for a text of at most 4,096 bytes, with marks of its own.
 fn choose_short(
     prepared: &[u64],
     a: Automaton,
-    places: &[u64],
     leads: &[u64],
     text: &[u8],
     walk: Walk,
@@ -257,22 +217,19 @@ fn choose_short(
     path: &mut [u8],
 ) -> bool
     requires room { Room a prepared.now }
-    requires places { Places prepared.now a places.now × Leading prepared.now a leads.now }
+    requires leads { Leads prepared.now a leads.now }
     requires in_bounds { (512 ≤ length sets.old) × (length text.now ≤ 4096) × (length path.old ≡ length text.now) }
     requires walked { Walked prepared.now a text.now path.old walk }
     ensures { PathFound prepared.now a text.now path.new result }
 {
     let mut marks = no_marks();
-    choose(
-        prepared, a, places, leads, text, walk, sets, &mut marks, path,
-    )
+    choose(prepared, a, leads, text, walk, sets, &mut marks, path)
 }
 
 // The same for a text of at most 256 bytes: what is left of it is one block, with no marks.
 fn choose_block(
     prepared: &[u64],
     a: Automaton,
-    places: &[u64],
     leads: &[u64],
     text: &[u8],
     walk: Walk,
@@ -280,7 +237,7 @@ fn choose_block(
     path: &mut [u8],
 ) -> bool
     requires room { Room a prepared.now }
-    requires places { Places prepared.now a places.now × Leading prepared.now a leads.now }
+    requires leads { Leads prepared.now a leads.now }
     requires in_bounds { (512 ≤ length sets.old) × (length text.now ≤ 256) × (length path.old ≡ length text.now) }
     requires walked { Walked prepared.now a text.now path.old walk }
     ensures { PathFound prepared.now a text.now path.new result }
@@ -288,8 +245,8 @@ fn choose_block(
     let start = walk.at;
     let end = text.len();
     let behind = a.last;
-    fill_block(prepared, a, places, leads, text, start, end, behind, sets);
-    let done = walk_block(prepared, a, places, text, start, end, sets, walk, path);
+    fill_block(prepared, a, leads, text, start, end, behind, sets);
+    let done = walk_block(prepared, a, text, start, end, sets, walk, path);
     if done.at < end {
         return false;
     }
@@ -300,53 +257,28 @@ fn choose_block(
 fn choose_way(
     prepared: &[u64],
     a: Automaton,
-    places: &[u64],
     text: &[u8],
     walk: Walk,
     marks: &mut [u64],
     path: &mut [u8],
 ) -> bool
     requires room { Room a prepared.now }
-    requires places { Places prepared.now a places.now }
     requires marks_room { MarksRoom text.now marks.old }
     requires path_len { length path.old ≡ length text.now }
     requires walked { Walked prepared.now a text.now path.old walk }
     ensures { PathFound prepared.now a text.now path.new result }
 {
     let mut sets = no_sets();
-    let mut room = no_ways();
+    let mut room = no_leads();
     let n = find_leads(prepared, a, text.len(), &mut room);
     let leads = &room[0..n];
     if text.len() <= BLOCK {
-        return choose_block(prepared, a, places, leads, text, walk, &mut sets, path);
+        return choose_block(prepared, a, leads, text, walk, &mut sets, path);
     }
     if text.len() <= Table::TEXT {
-        return choose_short(prepared, a, places, leads, text, walk, &mut sets, path);
+        return choose_short(prepared, a, leads, text, walk, &mut sets, path);
     }
-    choose(
-        prepared, a, places, leads, text, walk, &mut sets, marks, path,
-    )
-}
-
-// The same for a long text, with what is found before its sets are worked out.
-fn choose_long(
-    prepared: &[u64],
-    a: Automaton,
-    text: &[u8],
-    walk: Walk,
-    marks: &mut [u64],
-    path: &mut [u8],
-) -> bool
-    requires room { Room a prepared.now }
-    requires marks_room { MarksRoom text.now marks.old }
-    requires path_len { length path.old ≡ length text.now }
-    requires walked { Walked prepared.now a text.now path.old walk }
-    ensures { PathFound prepared.now a text.now path.new result }
-{
-    let mut room = no_places();
-    let n = find_places(prepared, a, &mut room);
-    let places = &room[0..n];
-    choose_way(prepared, a, places, text, walk, marks, path)
+    choose(prepared, a, leads, text, walk, &mut sets, marks, path)
 }
 
 // ---- The path of a text
@@ -368,9 +300,5 @@ pub fn find_path(
     if walk.at == text.len() {
         return walk.here;
     }
-    if LONG <= text.len() {
-        return choose_long(prepared, a, text, walk, marks, path);
-    }
-    let none = [0u64; 1];
-    choose_way(prepared, a, &none, text, walk, marks, path)
+    choose_way(prepared, a, text, walk, marks, path)
 }

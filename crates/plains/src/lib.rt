@@ -1,11 +1,13 @@
 // Put and create where a node asks for no entry: what they write without the book, and how many matches they meet.
+#![tactic(auto)]
+
 use books::Book;
 use texts::Wrote;
 
 pub mod plain;
 
 // What was written so far, the book that is left, and how many matches were met.
-#[derive(Drop)]
+#[derive(Clone, Copy)]
 pub struct Done {
     pub wrote: Wrote,
     pub book: Book,

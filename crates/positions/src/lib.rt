@@ -1,10 +1,12 @@
 // Sets of at most 128 positions, each step in constant time.
+#![tactic(auto)]
+
 ghost use Rattle.std.specs.Prelude.{◌≡◌, true, ◌&&◌, ◌↔◌, ℕ, ◌≤◌, ◌<◌, ltb, leb};
 ghost use Rattle.std.specs.Int.Count.{count_trailing_zeros};
 ghost use Rattle.positions.specs.Positions.{holds, Empty, Only, Added, Removed, Less, Joined, Met, Shared, Moved, FirstFrom};
 
 // Positions 0 to 63 are the bits of low, 64 to 127 those of high.
-#[derive(Drop)]
+#[derive(Clone, Copy)]
 pub struct Set {
     pub low: u64,
     pub high: u64,

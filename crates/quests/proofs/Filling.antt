@@ -19,8 +19,7 @@ use Rattle.positions.proofs.Bits.{bit_zero, holds_by}
 use Rattle.automaton.specs.declared.Automaton.{Automaton}
 use Rattle.automaton.specs.Rows.{set_at, share_in, Room}
 use Rattle.automaton.proofs.Standing.{share_iff, stands_byte}
-use Rattle.places.specs.Sets.{Stored}
-use Rattle.language.specs.Sets.{NoLeads, Leads}
+use Rattle.language.specs.Sets.{Stored, NoLeads, Leads}
 use Rattle.pairs.specs.Pairs.{Gathered, by_sharing}
 use Rattle.pairs.proofs.Cells.{sharing_iff}
 use Rattle.search.specs.declared.patches.Quest.{Quest}

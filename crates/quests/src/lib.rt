@@ -1,13 +1,14 @@
 // What is searched for to show that a rule is broken, and the search with its tables.
+#![tactic(auto)]
+
 ghost use Rattle.std.specs.Prelude.{◌≡◌, Bool, ◌+◌, ◌*◌, ◌≤◌, length};
 ghost use Rattle.semantics.specs.Text.{Text};
 ghost use Rattle.automaton.specs.Rows.{Room};
 ghost use Rattle.quests.specs.Quests.{cut_quest, arm_quest, QuestOf, Cleared, Opened, Tables, FreshIn, Asks, Answerable, Hunted};
 
 use automaton::Automaton;
-use language::fill_leads;
+use language::{fill_leads, keep};
 use pairs::sharing;
-use places::keep;
 use positions::Set;
 use search::layers::fill_layers;
 use search::patches::{Patch, Quest};

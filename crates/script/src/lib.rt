@@ -1,6 +1,8 @@
 // Scripts for the programs that run cases: the lines and words of a script, and texts put together from them. What is found in a text is
 // determined. The promises of `append`, `append_times` and `append_numbers` limit: they leave open which bytes are added, and the last also how
 // many. That is compared in the stored outputs of the programs.
+#![tactic(auto)]
+
 ghost use Rattle.std.specs.Prelude.{◌≡◌, ◌+◌, ◌*◌, ◌-◌, ◌≤◌, ◌<◌, min, max, length, drop, replicate};
 ghost use Rattle.script.specs.Scripts.{bytes_before, letters_of, is_digit, with_digit, number_from};
 

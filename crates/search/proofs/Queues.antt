@@ -16,7 +16,7 @@ use Rattle.positions.specs.declared.Set.{Set}
 use Rattle.positions.specs.Positions.{holds, Met, Removed, FirstFrom}
 use Rattle.positions.proofs.Bits.{same_test, holds_past}
 use Rattle.automaton.specs.Rows.{set_at}
-use Rattle.places.specs.Sets.{Stored}
+use Rattle.language.specs.Sets.{Stored}
 use Rattle.search.specs.declared.patches.Patch.{Patch}
 use Rattle.search.specs.declared.patches.Quest.{Quest}
 use Rattle.search.specs.Pairs.{

@@ -6,7 +6,7 @@ use automaton::set_at;
 use positions::Set;
 
 // The pairs with a row of `rows`, counted from `base`, and a column of `columns`.
-#[derive(Drop)]
+#[derive(Clone, Copy)]
 pub struct Patch {
     pub base: usize,
     pub rows: Set,
@@ -16,7 +16,7 @@ pub struct Patch {
 // What is searched for: where the rows of the part, the whole and the rest start in the prepared program, and how many positions they have; the pairs by
 // which a text begins, and those at which it ends; and how early pairs lead to late ones: the first reading has come to one of `last`, the second goes on
 // in the part, and the rest begins at one of `first`.
-#[derive(Drop)]
+#[derive(Clone, Copy)]
 pub struct Quest {
     pub part: usize,
     pub whole: usize,

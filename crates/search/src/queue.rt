@@ -5,7 +5,7 @@ ghost use Rattle.search.specs.Queue.{Queue, Found, OfRow, Before, BeforeOne};
 
 use crate::patches::{Patch, Quest, before, linked};
 use automaton::set_at;
-use places::keep;
+use language::keep;
 use positions::Set;
 
 // A fresh pair is found.

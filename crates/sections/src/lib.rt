@@ -1,1 +1,2 @@
 // Definitions and theorems only, in specs/: this crate has no code.
+#![tactic(auto)]

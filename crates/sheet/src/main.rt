@@ -1,4 +1,6 @@
 // The command line program: `sheet check TABLE`, `sheet get TABLE SOURCE`, `sheet put TABLE SHEET SOURCE`, `sheet create TABLE SHEET`.
+#![tactic(auto)]
+
 ghost use Rattle.io.specs.Counts.{IsPrefixLen};
 
 // A word of the command line. One that is too long for a path fills the buffer, and no file is opened by such a name.

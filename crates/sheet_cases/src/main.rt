@@ -1,6 +1,8 @@
 // Runs the command lines of a script on standard input as the program `sheet` would, each with what it writes to standard output, and then writes
 // the sentence of each refusal. The results and refusals that are expected are from the papers; the sentences are stored so that a change of one
 // is seen.
+#![tactic(auto)]
+
 ghost use Rattle.std.specs.Prelude.{◌≤◌};
 
 use commands::run::run;

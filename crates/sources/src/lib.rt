@@ -1,4 +1,6 @@
 // The source of a put, written from a small deck or, where the cards of its old entries ask for more room, from a large one.
+#![tactic(auto)]
+
 ghost use Rattle.std.specs.Prelude.{◌≡◌, ◌≤◌, length};
 ghost use Rattle.semantics.specs.Lens.{sheet};
 ghost use Rattle.answers.specs.Answers.{Ready};
@@ -23,7 +25,7 @@ use texts::Wrote;
 use writer::write::put;
 
 // The desks that a put is written from: one with a small deck, and one with a deck for the cards of any keys, which goes on from what the small one has.
-#[derive(Drop)]
+#[derive(Clone, Copy)]
 enum Desk {
     Small,
     Large(Dealing),

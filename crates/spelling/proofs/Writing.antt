@@ -16,7 +16,7 @@ use Rattle.clash.specs.Clash.{Lower, Given}
 use Rattle.positions.specs.declared.Set.{Set}
 use Rattle.positions.specs.Positions.{holds, Added, FirstFrom, Shared as Meet}
 use Rattle.automaton.specs.Rows.{set_at, stands_in, FirstShared}
-use Rattle.places.specs.Sets.{Stored}
+use Rattle.language.specs.Sets.{Stored}
 use Rattle.search.specs.declared.patches.Patch.{Patch}
 use Rattle.search.specs.declared.patches.Quest.{Quest}
 use Rattle.search.specs.Pairs.{held_in, pair_in, before_of, linked_of, inside_of, left_row, right_row, precedes_in, begins_in, graph_of, QuestFits}

@@ -1,4 +1,6 @@
 // The bytes of the text, from the front: each the lowest by which a pair of the next layer can be reached from those that the text so far leads to.
+#![tactic(auto)]
+
 ghost use Rattle.std.specs.Prelude.{◌≡◌, true, ◌↔◌, ℕ, ◌≤◌, ◌<◌, length, get_or};
 ghost use Rattle.clash.specs.Clash.{Given};
 ghost use Rattle.search.specs.Graph.{Accepts};
@@ -6,13 +8,13 @@ ghost use Rattle.search.specs.Pairs.{held_in, pair_in, left_row, right_row, grap
 ghost use Rattle.spelling.specs.Texts.{Comes, LowerByte, LowestByte, Among, Marked, NoneAlive, EntriesRoom, WrittenOut};
 
 use automaton::{first_shared, set_at, stands};
-use places::keep;
+use language::keep;
 use positions::Set;
 use search::layers::begins;
 use search::patches::{Patch, Quest, before, linked};
 
 // Where the positions of a pair have their rows in the prepared program.
-#[derive(Drop)]
+#[derive(Clone, Copy)]
 struct Rows {
     left: usize,
     right: usize,

@@ -1,5 +1,7 @@
 // The steps of a writer: where its texts are cut, the arm of a union, the parts of a repeat, and what is written behind what. All are read off the paths of the sheet and of
 // the old source.
+#![tactic(auto)]
+
 ghost use Rattle.std.specs.Prelude.{◌≡◌, ◌+◌, ◌*◌, ◌≤◌, length};
 ghost use Rattle.automaton.specs.declared.Side.TheVariants.{Source, Sheet};
 ghost use Rattle.lens.specs.Emitting.{Prepared};
@@ -13,14 +15,14 @@ use paths::find_path;
 use texts::Wrote;
 
 // A node, and where its positions begin on the sheet side.
-#[derive(Drop)]
+#[derive(Clone, Copy)]
 pub struct Spot {
     pub node: usize,
     pub base: usize,
 }
 
 // Where a sheet is cut in two, and the nodes of the halves.
-#[derive(Drop)]
+#[derive(Clone, Copy)]
 pub struct Cut {
     pub at: usize,
     pub left: Spot,
@@ -28,21 +30,21 @@ pub struct Cut {
 }
 
 // The old texts onto which the halves of a join are put.
-#[derive(Drop)]
+#[derive(Clone, Copy)]
 pub struct Halves {
     pub first: Place,
     pub second: Place,
 }
 
 // The arm of a union that writes, and the old text onto which it puts.
-#[derive(Drop)]
+#[derive(Clone, Copy)]
 pub struct Choice {
     pub arm: Spot,
     pub old: Old,
 }
 
 // The old part that is next, and what is left behind it.
-#[derive(Drop)]
+#[derive(Clone, Copy)]
 pub struct Next {
     pub part: Old,
     pub rest: Old,

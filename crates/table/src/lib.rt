@@ -1,4 +1,6 @@
 // The program table: from any bytes to a table, or the refusal of the first round with its number and node.
+#![tactic(auto)]
+
 ghost use Rattle.std.specs.Prelude.{◌≤◌, ◌<◌, length};
 ghost use Rattle.semantics.specs.Table.{node_count};
 ghost use Rattle.table.specs.Rules.{AllSized, NodeRead, ReadLeaves};
@@ -14,13 +16,13 @@ use rules::is_sort;
 use sizes::{kind_of, word};
 
 // What every layer needs to know of a table: its sizes. The limits belong to it.
-#[derive(Drop)]
+#[derive(Clone, Copy)]
 pub struct Table {
     pub nodes: usize,
     pub pool: usize,
 }
 
-#[derive(Drop)]
+#[derive(Clone, Copy)]
 pub enum TableAnswer {
     Ready(Table),
     Refused { number: usize, node: usize },
@@ -28,7 +30,7 @@ pub enum TableAnswer {
 
 // A node's kind with its own operands: a part of the pool, the place of its runs, or child numbers. A range and a set are one kind: the runs
 // of a set stand in the pool, and the one of a range is its operands a and b.
-#[derive(Drop)]
+#[derive(Clone, Copy)]
 pub enum Kind {
     Word {
         start: usize,
@@ -76,7 +78,7 @@ pub enum Kind {
     },
 }
 
-#[derive(Drop)]
+#[derive(Clone, Copy)]
 pub struct Node {
     pub size: usize,
     pub source: usize,
@@ -86,7 +88,7 @@ pub struct Node {
 }
 
 // The two sorts of node.
-#[derive(Drop)]
+#[derive(Clone, Copy)]
 pub enum Sort {
     Patterns,
     Lenses,

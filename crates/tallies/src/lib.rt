@@ -1,4 +1,6 @@
 // The line that the program `tally` prints, put into a buffer: the counts of a put, or its refusal.
+#![tactic(auto)]
+
 ghost use Rattle.std.specs.Prelude.{◌≡◌, ◌++◌, ◌≤◌, length, drop};
 ghost use Rattle.semantics.specs.Tally.{tally_line};
 

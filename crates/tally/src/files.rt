@@ -5,7 +5,7 @@ ghost use Rattle.tally.specs.Files.{Holds};
 use libc::STDERR_FILENO;
 
 // The length of what was read; or nothing, and standard error says why.
-#[derive(Drop)]
+#[derive(Clone, Copy)]
 pub enum Contents {
     Bytes(usize),
     Unreadable,

@@ -1,5 +1,7 @@
 // Reads the files `table`, `sheet` and `source` of the folder that it is run in, an absent one as an empty one, and prints one line: the entries that a put
 // of the sheet on the source keeps, makes and drops; or `refused`, the number and the node.
+#![tactic(auto)]
+
 mod files;
 
 use files::{Contents, read};

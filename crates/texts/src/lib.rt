@@ -1,4 +1,6 @@
 // Texts: written into a buffer, and compared.
+#![tactic(auto)]
+
 ghost use Rattle.std.specs.Prelude.{◌≡◌, true};
 ghost use Rattle.semantics.specs.Text.{same_text};
 ghost use Rattle.texts.specs.Overlay.{Lays, Writes};
@@ -6,7 +8,7 @@ ghost use Rattle.texts.specs.Overlay.{Lays, Writes};
 use padding::all_spaces;
 
 // What a writer did: it set that many bytes, which are the text, or a key but for trailing spaces; or the text did not fit, and every byte of the buffer is set.
-#[derive(Drop)]
+#[derive(Clone, Copy)]
 pub enum Wrote {
     Count(usize),
     Full,

@@ -9,7 +9,7 @@ use automaton::Automaton;
 use positions::Set;
 
 // States of an automaton: whether its start is among them, and which positions are.
-#[derive(Drop)]
+#[derive(Clone, Copy)]
 pub struct Marked {
     pub start: bool,
     pub at: Set,

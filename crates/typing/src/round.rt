@@ -15,7 +15,7 @@ use automaton::{Side, automaton_of};
 use table::parts::node_count;
 use table::{Kind, Table};
 
-#[derive(Drop)]
+#[derive(Clone, Copy)]
 pub enum TypingAnswer {
     Typed,
     Refused { number: usize, node: usize },

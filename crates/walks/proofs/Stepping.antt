@@ -4,30 +4,29 @@ use mathlib.Core.Bool.{Bool, true, false}
 use mathlib.Core.List.{List, [], ◌∷◌, ◌++◌, append_assoc}
 use mathlib.Core.Logic.Iff
 use mathlib.Core.Logic.{◌↔◌, ⊎_elim}
-use Prim.Native.Nat.{ℕ, suc, ◌+◌, ◌-◌, ◌*◌, ◌≤◌, ◌<◌}
+use Prim.Native.Nat.{ℕ, suc, ◌+◌, ◌≤◌, ◌<◌}
 use native.Mathlib.Numerals.{add-one}
 use native.Mathlib.Omega.{arith}
-use borrow.Author.Tests.{ltb-true, ltb-false, eqb-true, eqb-false, ne_eqb}
-use lib.Dec.{ltb, eqb}
+use borrow.Author.Tests.{ltb-true, ltb-false, eqb-true, eqb-false, le-leb, lt-leb}
+use lib.Dec.{ltb, eqb, leb}
 use lib.ListN.{length, get_or, take, drop, set}
 use lib.Seq.{take-suc, take-set-le, get_or-set_same, lt-length-set, drop-cons}
 use Rattle.semantics.specs.Text.{Text}
 use Rattle.semantics.specs.Pattern.{Pattern, In, nullable, matches}
 use Rattle.semantics.specs.Table.{positions}
-use Rattle.laws.specs.Basics.{not_both, false_of_not_true, and_both, and_of, bool_cases, cond_false}
+use Rattle.laws.specs.Basics.{not_both, false_of_not_true, and_both, and_of, bool_cases, cond_true, cond_false}
 use Rattle.laws.specs.Membership.{matches_in_lem, in_nullable, nullable_in}
 use Rattle.laws.specs.PositionAutomaton.{stands_at, first_at, last_at, follow_at, rest_at, ReadsAt, first_law, follow_law, last_law}
 use Rattle.laws.specs.Paths.{LeastStep}
 use Rattle.positions.specs.declared.Set.{Set}
 use Rattle.positions.specs.Positions.{holds, Removed, Met, FirstFrom}
 use Rattle.automaton.specs.declared.Automaton.{Automaton}
-use Rattle.automaton.specs.Rows.{set_at, stands_in, Room, Describes, follow_of}
-use Rattle.places.specs.Places.{Places}
+use Rattle.automaton.specs.Rows.{stands_in, Room, Describes, follow_of}
 use Rattle.language.specs.Runs.{Behind}
-use Rattle.places.proofs.Gathering.{LeftFrom, left_begins, left_first, left_next, left_on}
+use Rattle.language.proofs.Gathering.{LeftFrom, left_begins, left_first, left_next, left_on}
 use Rattle.language.proofs.Steps.{stands_is, counted}
 use Rattle.walks.specs.declared.Walk.{Walk}
-use Rattle.walks.specs.Walking.{Reads, Lowest, Alone, Past, ReadsOn, Walked, due_behind, ends_behind, walk_at, WalkedOn}
+use Rattle.walks.specs.Walking.{Reads, Lowest, Alone, Past, ReadsOn, Walked, walk_at}
 
 -- a text belongs exactly if it can be read on from the first positions
 whole_reads : (r : Pattern) (t : Text) → In r t ↔ ReadsOn r (nullable r) (first_at r) t
@@ -65,7 +64,7 @@ least_step {p = p} takes =
     record { place = p; place_is = omega arith; in_pattern = takes.in_pattern; allowed = takes.allowed; stands = takes.stands; lowest = takes.lowest }
 
 module _ {prepared : List ℕ} {a : Automaton} {text path : List ℕ} where
-  walked_begins : Walked prepared a text path (record { at = 0; here = a.nullable; set = a.first })
+  pub walked_begins : Walked prepared a text path (record { at = 0; here = a.nullable; set = a.first })
   walked_begins =
       record {
         within = omega arith;
@@ -120,26 +119,25 @@ module _ {prepared : List ℕ} {a : Automaton} {text path : List ℕ} where
     walked_stuck r d none =
         false_of_not_true (matches r text) (λ e. none ((rw left_is at (known.so_far r d).belongs_iff).0 (matches_in_lem r text e)))
 
--- ---- What is behind the path
+-- A walk that passed no position yet begins, and one that passed p last has come past it.
+pub walk_none : (a : Automaton) (at passed : ℕ) (set : Set) → 128 ≤ passed → ◌≡◌ {A = Walk} (record { at = at; here = a.nullable; set = set }) (walk_at a at passed set)
+walk_none a at passed set h =
+    λ k. record { at = at; here = sym (cond_true (leb 128 passed) a.nullable (holds a.last passed) (le-leb 128 passed h)) k; set = set }
 
--- Past position p come those that may follow it.
-pub due_past : (prepared : List ℕ) (a : Automaton) (p : ℕ) → follow_of prepared (a.start + p) ≡ due_behind prepared a (p + 1)
-due_past prepared a p =
-    let back : p + 1 - 1 ≡ p = omega arith in
-    sym (cond_false (eqb (p + 1) 0) a.first (follow_of prepared (a.start + (p + 1 - 1))) (ne_eqb (p + 1) 0 (omega arith)) ∙ ap (λ (k : ℕ). follow_of prepared (a.start + k)) back)
+pub walk_passed :
+    (a : Automaton) (at passed : ℕ) (set : Set) {here : Bool} → passed < 128 → here ≡ holds a.last passed
+    → ◌≡◌ {A = Walk} (record { at = at; here = here; set = set }) (walk_at a at passed set)
+walk_passed a at passed set h is =
+    λ k. record { at = at; here = (is ∙ sym (cond_false (leb 128 passed) a.nullable (holds a.last passed) (lt-leb 128 passed h))) k; set = set }
 
--- and the text may end there if it is a last one.
-ends_past : (a : Automaton) (p : ℕ) → ends_behind a (p + 1) ≡ holds a.last p
-ends_past a p =
-    let back : p + 1 - 1 ≡ p = omega arith in
-    cond_false (eqb (p + 1) 0) a.nullable (holds a.last (p + 1 - 1)) (ne_eqb (p + 1) 0 (omega arith)) ∙ ap (holds a.last) back
-
-past_at : {prepared : List ℕ} {a : Automaton} {p at : ℕ} → Room a prepared → p < a.count → Past prepared a p at (walk_at prepared a at (p + 1))
-past_at {prepared} {a} {p} room l =
+pub past_at :
+    {prepared : List ℕ} {a : Automaton} {p at : ℕ} {set : Set} → Room a prepared → p < a.count → set ≡ follow_of prepared (a.start + p)
+    → Past prepared a p at (walk_at a at p set)
+past_at {a = a} {p} {at} room l is =
     record {
       at_is = refl;
-      here_is = λ r d. ends_past a p ∙ d.last_is p;
-      set_is = λ r d q. ap (λ (s : Set). holds s q) (sym (due_past prepared a p)) ∙ (d.row_is p (counted room d p l)).follow_is q;
+      here_is = λ r d. cond_false (leb 128 p) a.nullable (holds a.last p) (lt-leb 128 p (omega (arith, room.few))) ∙ d.last_is p;
+      set_is = λ r d q. rw is ((d.row_is p (counted room d p l)).follow_is q);
     }
 
 -- ---- The positions of a set, one after the other
@@ -252,7 +250,7 @@ module _ {r : Pattern} {a : Automaton} {prepared : List ℕ} (room : Room a prep
 
   module _ (due : Set) {may : ℕ → Bool} (is : (p : ℕ) → holds due p ≡ may p) {c : ℕ} {t : Text} where
     -- Where one position alone can read the byte, the path goes by it.
-    takes_alone : {p : ℕ} → Reads prepared a due c p → ((q : ℕ) → Reads prepared a due c q → q ≡ p) → Takes r may c t p
+    pub takes_alone : {p : ℕ} → Reads prepared a due c p → ((q : ℕ) → Reads prepared a due c q → q ≡ p) → Takes r may c t p
     takes_alone {p} reads only =
         let (l, stands) = reads_stands reads in
         record {
@@ -285,51 +283,3 @@ module _ {r : Pattern} {a : Automaton} {prepared : List ℕ} (room : Room a prep
       takes_none none x =
           let q = x.position in
           none q (reads_at x.in_pattern (met q ∙ and_of (holds due q) (holds behind q) (is q ∙ x.allowed) ((known.behind_iff q x.in_pattern).1 x.rest_in)) x.stands)
-
--- ---- One step of the path
-
-module _ {prepared : List ℕ} {a : Automaton} {text path : List ℕ} where
-  -- Before the first byte nothing was passed.
-  pub walked_on_begins : WalkedOn prepared a text path (record { at = 0; state = 0 })
-  walked_on_begins = record { inside = omega arith; walked = walked_begins }
-
-  -- Where one position alone can read the next byte, the path goes by it and then stands past it.
-  pub walked_on :
-      {at state p : ℕ}
-      → Room a prepared
-      → length path ≡ length text
-      → at < length text
-      → WalkedOn prepared a text path (record { at = at; state = state })
-      → Alone prepared a (due_behind prepared a state) (get_or text at 0) p
-      → p < 128
-      → WalkedOn prepared a text (set path at p) (record { at = at + 1; state = p + 1 })
-  walked_on {state = state} room same h known found l =
-      let reads = found.reads l in
-      record {
-        inside = omega (arith, reads.inside);
-        walked = walked_more known.walked h same (past_at room reads.inside)
-            (λ r d. takes_alone room d (due_behind prepared a state) (known.walked.so_far r d).set_is reads (found.no_other l));
-      }
-
--- ---- By what was found for each byte
-
--- The first of the positions that are due and stand for the byte is the lowest that reads it.
-pub lowest_placed :
-    {prepared : List ℕ} {a : Automaton} {places : List ℕ} {due here : Set} {byte p : ℕ}
-    → Places prepared a places
-    → 512 ≤ length places
-    → byte < 256
-    → Met due (set_at places (2 * byte)) here
-    → FirstFrom here 0 p
-    → Lowest prepared a due byte p
-lowest_placed {places = places} {due} {byte = byte} {p} known long small met first =
-    record {
-      reads = λ l.
-          let (held, placed) = and_both (holds due p) (holds (set_at places (2 * byte)) p) (sym (met p) ∙ first.held l) in
-          let (inside, stands) = (known.stands_iff long byte small p).0 placed in
-          record { inside = inside; held = held; stands = stands };
-      none_lower = λ q h reads.
-          not_both
-          (met q ∙ and_of (holds due q) (holds (set_at places (2 * byte)) q) reads.held ((known.stands_iff long byte small q).1 (reads.inside, reads.stands)))
-          (first.skipped q (omega arith) h);
-    }

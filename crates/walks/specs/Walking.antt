@@ -1,5 +1,5 @@
 -- A path is found byte by byte: which positions a step chooses from, which steps are kept, and what is known of the text so far.
-use Rattle.std.specs.Prelude.{◌≡◌, Bool, true, cond, List, [], ◌∷◌, ◌++◌, ◌↔◌, ℕ, ◌+◌, ◌-◌, ◌*◌, ◌≤◌, ◌<◌, eqb, length, get_or, take, drop}
+use Rattle.std.specs.Prelude.{◌≡◌, Bool, true, cond, List, [], ◌∷◌, ◌++◌, ◌↔◌, ℕ, ◌+◌, ◌*◌, ◌≤◌, ◌<◌, leb, length, get_or, take, drop}
 use Rattle.semantics.specs.Text.{Text}
 use Rattle.semantics.specs.Pattern.{Pattern, In}
 use Rattle.laws.specs.PositionAutomaton.{last_at, follow_at, ReadsAt}
@@ -9,7 +9,6 @@ use Rattle.positions.specs.Positions.{holds}
 use Rattle.automaton.specs.declared.Automaton.{Automaton}
 use Rattle.automaton.specs.Rows.{stands_in, follow_of, Describes}
 use Rattle.walks.specs.declared.Walk.{Walk}
-use Rattle.walks.specs.declared.Spot.{Spot}
 
 -- ---- One step
 
@@ -35,32 +34,27 @@ pub record Past (prepared : List ℕ) (a : Automaton) (p at : ℕ) (walk : Walk)
   pub here_is : (r : Pattern) → Describes r a prepared → walk.here ≡ last_at r p
   pub set_is : (r : Pattern) → Describes r a prepared → (q : ℕ) → holds walk.set q ≡ follow_at r p q
 
--- ---- What is behind the path
-
--- Where a path stands is told by one number: 0 before its first byte, and then the position passed last and one more. The positions that may come next,
-abbrev pub due_behind : List ℕ → Automaton → ℕ → Set
-due_behind prepared a state = cond (eqb state 0) a.first (follow_of prepared (a.start + (state - 1)))
-
--- and whether the text may end there.
-abbrev pub ends_behind : Automaton → ℕ → Bool
-ends_behind a state = cond (eqb state 0) a.nullable (holds a.last (state - 1))
-
--- the walk that has come so far
-abbrev pub walk_at : List ℕ → Automaton → ℕ → ℕ → Walk
-walk_at prepared a at state = record { at = at; here = ends_behind a state; set = due_behind prepared a state }
+-- the walk that has passed a position last, or none yet if it is 128 or more
+abbrev pub walk_at : Automaton → ℕ → ℕ → Set → Walk
+walk_at a at passed set = record { at = at; here = cond (leb 128 passed) a.nullable (holds a.last passed); set = set }
 
 -- ---- Steps that are kept
 
--- From each of the first 33 places and by each byte, the slice may have the step, as a number that is one more than the position, so that it tells where the path then stands. 0 says that none is kept.
+-- The set has the positions that may follow the one passed last; where none was passed yet, that is 128.
+pub record DueBehind (prepared : List ℕ) (a : Automaton) (passed : ℕ) (due : Set) : Type 0 where
+  pub bounded : passed ≤ 128
+  pub due_is : passed < 128 → due ≡ follow_of prepared (a.start + passed)
+
+-- Of the first 32 positions and each byte, the slice may have the step from that position by that byte, as a number that is one more. 0 says that none is kept.
 pub record StepsKept (prepared : List ℕ) (a : Automaton) (steps : List ℕ) : Type 0 where
-  pub size : length steps ≡ 8448
+  pub few : length steps ≤ 8192
   pub kept_is :
-      (state byte step : ℕ) → state < 33 → byte < 256 → get_or steps (33 * byte + state) 0 ≡ step + 1
-      → (step < 128) × Alone prepared a (due_behind prepared a state) byte step
+      (passed byte step : ℕ) → byte < 256 → 256 * passed + byte < length steps → get_or steps (256 * passed + byte) 0 ≡ step + 1
+      → (step < 128) × Alone prepared a (follow_of prepared (a.start + passed)) byte step
 
 -- No step is kept.
 pub record NoSteps (steps : List ℕ) : Type 0 where
-  pub size : length steps ≡ 8448
+  pub few : length steps ≤ 8192
   pub none_kept : (i : ℕ) → i < length steps → get_or steps i 0 ≡ 0
 
 -- ---- The path so far
@@ -82,8 +76,3 @@ pub record WalkedBy (r : Pattern) (text : Text) (path : List ℕ) (walk : Walk) 
 pub record Walked (prepared : List ℕ) (a : Automaton) (text : Text) (path : List ℕ) (walk : Walk) : Type 0 where
   pub within : walk.at ≤ length text
   pub so_far : (r : Pattern) → Describes r a prepared → WalkedBy r text path walk
-
--- The path has come to a place of the text, and stands there.
-pub record WalkedOn (prepared : List ℕ) (a : Automaton) (text : Text) (path : List ℕ) (spot : Spot) : Type 0 where
-  pub inside : spot.state ≤ a.count
-  pub walked : Walked prepared a text path (walk_at prepared a spot.at spot.state)

@@ -1,6 +1,5 @@
 -- `ends::retreat` meets its contract. Assumes nothing.
 use Rattle.ends.proofs.Backward.{retreated}
-use Rattle.language.proofs.Steps.{stepped_back}
 use borrow.Author.Rules.{rules}
 use Rattle.ends.proofs.retreat.Statement.{statement}
 use Rattle.ends.proofs.retreat.Tie as tie
@@ -11,11 +10,11 @@ standing-requires c κs = search rules
 meets-requires : tie.Need-meets-requires
 meets-requires c κs = search rules
 
-many-ways-requires : tie.Need-many-ways-requires
-many-ways-requires c κs = c.before.before.before.before.before.requires.1.1.shaded c.before.before.before.before.before.requires.1.0
+step-back-requires : tie.Need-step-back-requires
+step-back-requires c κs = search rules
 
 returns : tie.Need-returns
-returns c = retreated c.before.before.before.before.before.before.requires.0 c.before.before.standing.ensures c.before.meets.ensures (stepped_back c.before.before.before.before.before.before.requires.0 c.before.before.before.before.before.before.requires.1.1 c.before.before.before.before.before.before.requires.1.0 c.before.before.standing.ensures c.many-ways.ensures)
+returns c = retreated c.before.before.before.before.before.before.requires.0 c.before.before.standing.ensures c.before.meets.ensures c.step_back.ensures
 
 pub retreat-spec : {M : Type 1} → statement M
-retreat-spec = tie.close (tie.spec standing-requires meets-requires many-ways-requires returns)
+retreat-spec = tie.close (tie.spec standing-requires meets-requires step-back-requires returns)

@@ -3,7 +3,7 @@ use mathlib.Core.Path.{refl, sym, ◌∙◌}
 use borrow.Author.Tests.{not-true, not-false}
 use Rattle.laws.specs.Basics.{not_both}
 use Rattle.positions.specs.Positions.{holds}
-use Rattle.places.proofs.Gathering.{grown_not, grown_by}
+use Rattle.language.proofs.Gathering.{grown_not, grown_by}
 use borrow.Author.Rules.{rules}
 use Rattle.language.proofs.lead_at.Statement.{statement}
 use Rattle.language.proofs.lead_at.Tie as tie

@@ -4,7 +4,7 @@ use Prim.Native.Nat.{◌-◌}
 use native.Mathlib.Omega.{arith}
 use borrow.Author.Rules.{rules}
 use Rattle.language.specs.Runs.{Stepped}
-use Rattle.places.proofs.Gathering.{Going, going_begins, going_on, gathered_first, gathered_next, gathered_all}
+use Rattle.language.proofs.Gathering.{Going, going_begins, going_on, gathered_first, gathered_next, gathered_all}
 use Rattle.language.proofs.read.Statement.{statement}
 use Rattle.language.proofs.read.Tie as tie
 

@@ -4,7 +4,7 @@ use borrow.Author.Tests.{not-true, not-false}
 use Rattle.laws.specs.Basics.{not_both}
 use Rattle.positions.specs.Positions.{holds}
 use Rattle.language.specs.Sets.{Standing}
-use Rattle.places.proofs.Gathering.{grown_not, grown_by, grown_with}
+use Rattle.language.proofs.Gathering.{grown_not, grown_by, grown_with}
 use borrow.Author.Rules.{rules}
 use Rattle.language.proofs.read_at.Statement.{statement}
 use Rattle.language.proofs.read_at.Tie as tie

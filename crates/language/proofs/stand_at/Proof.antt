@@ -2,7 +2,7 @@
 use mathlib.Core.Path.{refl, sym, ◌∙◌}
 use borrow.Author.Tests.{not-true, not-false}
 use Rattle.laws.specs.Basics.{not_both}
-use Rattle.places.proofs.Gathering.{grown_not, grown_with}
+use Rattle.language.proofs.Gathering.{grown_not, grown_with}
 use borrow.Author.Rules.{rules}
 use Rattle.language.proofs.stand_at.Statement.{statement}
 use Rattle.language.proofs.stand_at.Tie as tie

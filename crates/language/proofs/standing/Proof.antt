@@ -1,10 +1,10 @@
 -- `language::standing` meets its contract. The loop's invariant: the set has what the positions below p give. Assumes nothing.
+use mathlib.Core.Path.{◌≡◌}
 use Prim.Native.Nat.{◌-◌}
 use native.Mathlib.Omega.{arith}
 use borrow.Author.Rules.{rules}
-use Rattle.places.specs.Sets.{Gathered}
-use Rattle.language.specs.Sets.{Standing}
-use Rattle.places.proofs.Gathering.{Going, going_begins, going_on, gathered_first, gathered_next, gathered_all}
+use Rattle.language.specs.Sets.{Gathered, Standing}
+use Rattle.language.proofs.Gathering.{Going, going_begins, going_on, gathered_first, gathered_next, gathered_all}
 use Rattle.language.proofs.standing.Statement.{statement}
 use Rattle.language.proofs.standing.Tie as tie
 

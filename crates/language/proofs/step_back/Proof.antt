@@ -1,48 +1,83 @@
--- `language::step_back` meets its contract, by the law of a step backward. Assumes nothing.
-use borrow.Author.Rules.{rules}
+-- `language::step_back` meets its contract, by the law of a step backward. The loop's invariant: the set has what the positions below p
+-- give, and what is left are those from p on. Assumes nothing.
+use mathlib.Core.Path.{◌≡◌}
+use Prim.Native.Nat.{◌-◌, ◌<◌}
 use native.Mathlib.Omega.{arith}
-use Rattle.language.proofs.Leading.{placed_standing}
-use Rattle.language.proofs.Steps.{stepped_back}
+use borrow.Author.Rules.{rules}
+use Rattle.language.specs.Sets.{Gathered, Back}
+use Rattle.language.proofs.Gathering.{Going, LeftFrom, going_begins, going_on, left_begins, left_first, left_next, left_on, gathered_first, gathered_next, gathered_all}
+use Rattle.language.proofs.Steps.{behind_steps}
 use Rattle.language.proofs.step_back.Statement.{statement}
 use Rattle.language.proofs.step_back.Tie as tie
 
-step-back-asking-requires : tie.Need-step-back-asking-requires
+abbrev invariant-loop : tie.invariant-loop
+invariant-loop prepared a leads behind byte count set₀ left₀ p₀ set left p = Going behind a.count p × Gathered (Back prepared a behind byte) p set × LeftFrom behind p left
+
+abbrev decreases-loop : tie.decreases-loop
+decreases-loop prepared a leads behind byte count set₀ left₀ p₀ set left p = count - p
+
+step-back-asking-requires : tie.Need-step-back-asking-requires invariant-loop decreases-loop
 step-back-asking-requires c κs = search rules
 
-returns : tie.Need-returns
+returns : tie.Need-returns invariant-loop decreases-loop
 returns c = search rules
 
-step-back-leading-requires : tie.Need-step-back-leading-requires
-step-back-leading-requires c κs = (c.before.before.before.before.before.requires.0, (c.before.if1.false, c.before.before.before.before.before.requires.1.1))
+empty-requires : tie.Need-empty-requires invariant-loop decreases-loop
+empty-requires c κs = search rules
 
-returns-2 : tie.Need-returns-2
-returns-2 c = search rules
+first-from-requires : tie.Need-first-from-requires invariant-loop decreases-loop
+first-from-requires c κs = search rules
 
-mul-set-at : tie.Need-overflow-mul-set-at
-mul-set-at c = search rules
+loop-holds : tie.Need-loop-init invariant-loop decreases-loop
+loop-holds c =
+    let first = c.first-from.ensures in
+    (going_begins first, gathered_first (λ p q g. g.stood.held) c.before.empty.ensures first, left_begins first)
 
-set-at-requires : tie.Need-set-at-requires
-set-at-requires c κs = search rules
+lead-at-requires : tie.Need-lead-at-requires invariant-loop decreases-loop
+lead-at-requires c κs = (c.before.before.before.before.before.before.before.requires.0, ((c.before.before.before.before.if1.false, c.before.before.before.before.before.before.before.requires.1), (c.loop-test.true, c.before.loop.invariant.0.at_one (omega (arith, c.before.before.before.before.before.before.before.requires.0.few)))))
 
-intersect-requires : tie.Need-intersect-requires
-intersect-requires c κs = search rules
+rest-requires : tie.Need-rest-requires invariant-loop decreases-loop
+rest-requires c κs = search rules
 
-two-ways-requires : tie.Need-two-ways-requires
-two-ways-requires c κs = c.before.before.before.before.before.before.before.requires.1.1.shaded c.before.before.before.if1.false
+first-from-requires-2 : tie.Need-first-from-requires-2 invariant-loop decreases-loop
+first-from-requires-2 c κs = search rules
 
-returns-3 : tie.Need-returns-3
-returns-3 c = stepped_back c.before.before.before.before.before.before.before.before.requires.0 c.before.before.before.before.before.before.before.before.requires.1.1 c.before.before.before.before.if1.false (placed_standing c.before.before.before.before.before.before.before.before.args.behind c.before.intersect.result c.before.before.before.before.before.before.before.before.requires.1.0 c.before.before.before.if2.false (omega (arith, c.before.before.before.before.before.before.before.before.ranges.byte)) (rw c.before.before.set_at.ensures at c.before.intersect.ensures)) c.two_ways.ensures
+loop-less : tie.Need-loop-smaller invariant-loop decreases-loop
+loop-less c =
+    let below : c.before.before.before.before.loop.p < 128 = omega (arith, c.before.before.before.loop-test.true, c.before.before.before.before.before.before.before.before.before.before.requires.0.few) in
+    let there = c.before.before.before.before.loop.invariant.0.at_one below in
+    let removed = c.before.rest.ensures c.before.before.before.before.loop.p (left_first c.before.before.before.before.loop.invariant.2 below there) in
+    let first = c.first-from2.ensures in
+    omega (arith, (left_next c.before.before.before.before.loop.invariant.2 below there removed first).from)
+
+loop-again : tie.Need-loop-preserved invariant-loop decreases-loop
+loop-again c =
+    let below : c.before.before.before.before.loop.p < 128 = omega (arith, c.before.before.before.loop-test.true, c.before.before.before.before.before.before.before.before.before.before.requires.0.few) in
+    let there = c.before.before.before.before.loop.invariant.0.at_one below in
+    let removed = c.before.rest.ensures c.before.before.before.before.loop.p (left_first c.before.before.before.before.loop.invariant.2 below there) in
+    let first = c.first-from2.ensures in
+    let next = left_next c.before.before.before.before.loop.invariant.2 below there removed first in
+    (going_on c.before.before.before.loop-test.true next, gathered_next (λ p q g. g.stood.held) c.before.before.before.before.loop.invariant.1 c.before.before.lead-at.ensures next, left_on c.before.before.before.before.loop.invariant.2 below there removed first)
+
+returns-2 : tie.Need-returns-2 invariant-loop decreases-loop
+returns-2 c =
+    let back = gathered_all (λ p q g. g.stood.held) c.before.loop.invariant.0 c.loop-test.false c.before.loop.invariant.1 in
+    record { stepped = λ r d t known. behind_steps c.before.before.before.before.before.before.before.requires.0 d known back }
 
 pub step-back-spec : {M : Type 1} → statement M
 step-back-spec =
     tie.close
     (tie.spec
+    invariant-loop
+    decreases-loop
     step-back-asking-requires
     returns
-    step-back-leading-requires
-    returns-2
-    mul-set-at
-    set-at-requires
-    intersect-requires
-    two-ways-requires
-    returns-3)
+    empty-requires
+    first-from-requires
+    loop-holds
+    lead-at-requires
+    rest-requires
+    first-from-requires-2
+    loop-less
+    loop-again
+    returns-2)

@@ -1,6 +1,6 @@
 use borrow.Author.Rules.{rules}
 use mathlib.Core.Path.{◌∙◌, ap}
-use Rattle.numbers.specs.Exports.{numbers_of}
+use Rattle.noontrough.specs.Exports.{numbers_of}
 use Rattle.noontrough.proofs.noontrough_afm_export.Statement.{statement}
 use Rattle.noontrough.proofs.noontrough_afm_export.Tie as tie
 

@@ -1,6 +1,6 @@
 use borrow.Author.Rules.{rules}
 use mathlib.Core.Path.{◌∙◌, ap}
-use Rattle.numbers.specs.Exports.{clash_numbers_of}
+use Rattle.noontrough.specs.Exports.{clash_numbers_of}
 use Rattle.noontrough.proofs.noontrough_clash.Statement.{statement}
 use Rattle.noontrough.proofs.noontrough_clash.Tie as tie
 

@@ -1,6 +1,6 @@
 use borrow.Author.Rules.{rules}
 use mathlib.Core.Path.{◌∙◌, ap}
-use Rattle.numbers.specs.Exports.{numbers_of}
+use Rattle.noontrough.specs.Exports.{numbers_of}
 use Rattle.noontrough.proofs.noontrough_get.Statement.{statement}
 use Rattle.noontrough.proofs.noontrough_get.Tie as tie
 

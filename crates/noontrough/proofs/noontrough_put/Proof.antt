@@ -1,6 +1,6 @@
 use borrow.Author.Rules.{rules}
 use mathlib.Core.Path.{◌∙◌, ap}
-use Rattle.numbers.specs.Exports.{put_numbers_of}
+use Rattle.noontrough.specs.Exports.{put_numbers_of}
 use Rattle.noontrough.proofs.noontrough_put.Statement.{statement}
 use Rattle.noontrough.proofs.noontrough_put.Tie as tie
 

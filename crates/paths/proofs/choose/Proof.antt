@@ -8,7 +8,7 @@ mark-blocks-requires : tie.Need-mark-blocks-requires
 mark-blocks-requires c κs = search rules
 
 walk-blocks-requires : tie.Need-walk-blocks-requires
-walk-blocks-requires c κs = (c.before.before.before.before.before.before.before.before.before.before.before.before.before.before.before.requires.0, (c.before.before.before.before.before.before.before.before.before.before.before.before.before.before.before.requires.1.0, ((omega (arith, c.before.before.before.before.before.before.before.before.before.before.before.before.before.before.before.requires.1.1.0.0), omega (arith, c.before.before.before.before.before.before.before.before.before.before.before.before.before.before.before.requires.1.1.0.1, c.before.before.before.before.before.mark-blocks.auto.1.1.1.1.1.1.0), c.before.before.before.before.before.before.before.before.before.before.before.before.before.before.before.requires.1.1.0.2), (c.before.before.before.before.before.before.before.before.before.before.before.before.before.before.before.requires.1.1.1.0, (c.before.before.before.before.before.before.before.before.before.before.before.before.before.before.before.requires.1.1.1.1, c.before.before.before.before.before.mark-blocks.ensures)))))
+walk-blocks-requires c κs = (c.before.before.before.before.before.before.before.before.before.before.before.before.before.before.before.before.before.requires.0, (c.before.before.before.before.before.before.before.before.before.before.before.before.before.before.before.before.before.requires.1.0, ((omega (arith, c.before.before.before.before.before.before.before.before.before.before.before.before.before.before.before.before.before.requires.1.1.0.0, c.before.before.before.before.before.before.before.mark-blocks.auto.1.1.1.1.1.0), omega (arith, c.before.before.before.before.before.before.before.before.before.before.before.before.before.before.before.before.before.requires.1.1.0.1, c.before.before.before.before.before.before.before.mark-blocks.auto.1.1.1.1.1.1.0), c.before.before.before.before.before.before.before.before.before.before.before.before.before.before.before.before.before.requires.1.1.0.2), (c.before.before.before.before.before.before.before.before.before.before.before.before.before.before.before.before.before.requires.1.1.1.0, (c.before.before.before.before.before.before.before.before.before.before.before.before.before.before.before.before.before.requires.1.1.1.1, c.before.before.before.before.before.before.before.mark-blocks.ensures)))))
 
 same_length : tie.Need-same-length
 same_length c = search rules

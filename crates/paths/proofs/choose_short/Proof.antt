@@ -11,7 +11,7 @@ slice-aggregate-choose : tie.Need-slice-aggregate-choose
 slice-aggregate-choose c = search rules
 
 choose-requires : tie.Need-choose-requires
-choose-requires c κs = (c.before.before.before.before.before.before.before.before.before.before.requires.0, (c.before.before.before.before.before.before.before.before.before.before.requires.1.0, ((c.before.before.before.before.before.before.before.before.before.before.requires.1.1.0.0, omega (arith, c.before.before.before.before.before.before.before.before.before.before.requires.1.1.0.1, c.before.before.before.no-marks.ensures), omega (arith, c.before.before.before.before.before.before.before.before.before.before.requires.1.1.0.1)), (c.before.before.before.before.before.before.before.before.before.before.requires.1.1.0.2, c.before.before.before.before.before.before.before.before.before.before.requires.1.1.1))))
+choose-requires c κs = (c.before.before.before.before.before.before.before.before.before.requires.0, (c.before.before.before.before.before.before.before.before.before.requires.1.0, ((c.before.before.before.before.before.before.before.before.before.requires.1.1.0.0, omega (arith, c.before.before.before.before.before.before.before.before.before.requires.1.1.0.1, c.before.before.before.no-marks.ensures), omega (arith, c.before.before.before.before.before.before.before.before.before.requires.1.1.0.1)), (c.before.before.before.before.before.before.before.before.before.requires.1.1.0.2, c.before.before.before.before.before.before.before.before.before.requires.1.1.1))))
 
 same_length : tie.Need-same-length
 same_length c = search rules

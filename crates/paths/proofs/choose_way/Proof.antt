@@ -8,8 +8,8 @@ use Rattle.paths.proofs.choose_way.Tie as tie
 no-sets-requires : tie.Need-no-sets-requires
 no-sets-requires c κs = search rules
 
-no-ways-requires : tie.Need-no-ways-requires
-no-ways-requires c κs = search rules
+no-leads-requires : tie.Need-no-leads-requires
+no-leads-requires c κs = search rules
 
 slice-aggregate-find-leads : tie.Need-slice-aggregate-find-leads
 slice-aggregate-find-leads c = search rules
@@ -30,7 +30,7 @@ slice-aggregate-choose-block : tie.Need-slice-aggregate-choose-block
 slice-aggregate-choose-block c = search rules
 
 choose-block-requires : tie.Need-choose-block-requires
-choose-block-requires c κs = (c.before.before.before.before.before.before.before.before.before.before.before.before.before.before.before.requires.0, ((c.before.before.before.before.before.before.before.before.before.before.before.before.before.before.before.requires.1.0, rw sub-zero c.before.before.before.before.before.before.find-leads.ensures.1), ((omega (arith, c.before.before.before.before.before.before.before.before.before.no-sets.ensures), c.before.before.if1.true, c.before.before.before.before.before.before.before.before.before.before.before.before.before.before.before.requires.1.1.1.0), c.before.before.before.before.before.before.before.before.before.before.before.before.before.before.before.requires.1.1.1.1)))
+choose-block-requires c κs = (c.before.before.before.before.before.before.before.before.before.before.before.before.before.before.requires.0, (rw sub-zero c.before.before.before.before.before.before.find-leads.ensures.1, ((omega (arith, c.before.before.before.before.before.before.before.before.before.no-sets.ensures), c.before.before.if1.true, c.before.before.before.before.before.before.before.before.before.before.before.before.before.before.requires.1.1.0), c.before.before.before.before.before.before.before.before.before.before.before.before.before.before.requires.1.1.1)))
 
 same_length : tie.Need-same-length
 same_length c = search rules
@@ -42,7 +42,7 @@ slice-aggregate-choose-short : tie.Need-slice-aggregate-choose-short
 slice-aggregate-choose-short c = search rules
 
 choose-short-requires : tie.Need-choose-short-requires
-choose-short-requires c κs = (c.before.before.before.before.before.before.before.before.before.before.before.before.before.before.before.before.requires.0, ((c.before.before.before.before.before.before.before.before.before.before.before.before.before.before.before.before.requires.1.0, rw sub-zero c.before.before.before.before.before.before.before.find-leads.ensures.1), ((omega (arith, c.before.before.before.before.before.before.before.before.before.before.no-sets.ensures), c.before.before.if2.true, c.before.before.before.before.before.before.before.before.before.before.before.before.before.before.before.before.requires.1.1.1.0), c.before.before.before.before.before.before.before.before.before.before.before.before.before.before.before.before.requires.1.1.1.1)))
+choose-short-requires c κs = (c.before.before.before.before.before.before.before.before.before.before.before.before.before.before.before.requires.0, (rw sub-zero c.before.before.before.before.before.before.before.find-leads.ensures.1, ((omega (arith, c.before.before.before.before.before.before.before.before.before.before.no-sets.ensures), c.before.before.if2.true, c.before.before.before.before.before.before.before.before.before.before.before.before.before.before.before.requires.1.1.0), c.before.before.before.before.before.before.before.before.before.before.before.before.before.before.before.requires.1.1.1)))
 
 same-length-2 : tie.Need-same-length-2
 same-length-2 c = search rules
@@ -54,7 +54,7 @@ slice-aggregate-choose : tie.Need-slice-aggregate-choose
 slice-aggregate-choose c = search rules
 
 choose-requires : tie.Need-choose-requires
-choose-requires c κs = (c.before.before.before.before.before.before.before.before.before.before.before.before.before.before.before.before.before.requires.0, ((c.before.before.before.before.before.before.before.before.before.before.before.before.before.before.before.before.before.requires.1.0, rw sub-zero c.before.before.before.before.before.before.before.before.find-leads.ensures.1), ((omega (arith, c.before.before.before.before.before.before.before.before.before.before.before.no-sets.ensures), c.before.before.before.before.before.before.before.before.before.before.before.before.before.before.before.before.before.requires.1.1.0.long_room c.before.before.before.if2.false, c.before.before.before.before.before.before.before.before.before.before.before.before.before.before.before.before.before.requires.1.1.0.bounded), (c.before.before.before.before.before.before.before.before.before.before.before.before.before.before.before.before.before.requires.1.1.1.0, c.before.before.before.before.before.before.before.before.before.before.before.before.before.before.before.before.before.requires.1.1.1.1))))
+choose-requires c κs = (c.before.before.before.before.before.before.before.before.before.before.before.before.before.before.before.before.requires.0, (rw sub-zero c.before.before.before.before.before.before.before.before.find-leads.ensures.1, ((omega (arith, c.before.before.before.before.before.before.before.before.before.before.before.no-sets.ensures), c.before.before.before.before.before.before.before.before.before.before.before.before.before.before.before.before.requires.1.0.long_room c.before.before.before.if2.false, c.before.before.before.before.before.before.before.before.before.before.before.before.before.before.before.before.requires.1.0.bounded), (c.before.before.before.before.before.before.before.before.before.before.before.before.before.before.before.before.requires.1.1.0, c.before.before.before.before.before.before.before.before.before.before.before.before.before.before.before.before.requires.1.1.1))))
 
 same-length-3 : tie.Need-same-length-3
 same-length-3 c = search rules
@@ -70,7 +70,7 @@ choose-way-spec =
     tie.close
     (tie.spec
     no-sets-requires
-    no-ways-requires
+    no-leads-requires
     slice-aggregate-find-leads
     find-leads-requires
     sub-leads

@@ -11,22 +11,22 @@ use Rattle.paths.proofs.fill_block.Statement.{statement}
 use Rattle.paths.proofs.fill_block.Tie as tie
 
 abbrev invariant-loop : tie.invariant-loop
-invariant-loop prepared a places leads text start end sets₀ set₀ i₀ sets set i = (length sets ≡ length sets₀) × (start ≤ i) × (i ≤ end) × BehindAt prepared a text i set × (512 ≤ length sets₀ → Filled prepared a text start i end sets)
+invariant-loop prepared a leads text start end sets₀ set₀ i₀ sets set i = (length sets ≡ length sets₀) × (start ≤ i) × (i ≤ end) × BehindAt prepared a text i set × Filled prepared a text start i end sets
 
 abbrev decreases-loop : tie.decreases-loop
-decreases-loop prepared a places leads text start end sets₀ set₀ i₀ sets set i = i
+decreases-loop prepared a leads text start end sets₀ set₀ i₀ sets set i = i
 
 loop-holds : tie.Need-loop-init invariant-loop decreases-loop
-loop-holds c = (search rules, search rules, search rules, c.before.before.before.before.before.requires.1.1.1, λ room. filled_none)
+loop-holds c = (search rules, search rules, search rules, c.before.before.before.before.requires.1.1.1, filled_none)
 
 sub-i : tie.Need-overflow-sub-i invariant-loop decreases-loop
 sub-i c = search rules
 
-sub-keep-behind : tie.Need-overflow-sub-keep-behind invariant-loop decreases-loop
-sub-keep-behind c = search rules
+sub-keep : tie.Need-overflow-sub-keep invariant-loop decreases-loop
+sub-keep c = search rules
 
-keep-behind-requires : tie.Need-keep-behind-requires invariant-loop decreases-loop
-keep-behind-requires c κs = search rules
+keep-requires : tie.Need-keep-requires invariant-loop decreases-loop
+keep-requires c κs = search rules
 
 shared-slice-read-step-back : tie.Need-shared-slice-read-step-back invariant-loop decreases-loop
 shared-slice-read-step-back c = search rules
@@ -38,7 +38,7 @@ loop-less : tie.Need-loop-smaller invariant-loop decreases-loop
 loop-less c = search rules
 
 loop-again : tie.Need-loop-preserved invariant-loop decreases-loop
-loop-again c = (c.before.before.before.before.keep-behind.ensures.same_length ∙ c.before.before.before.before.before.before.before.loop.invariant.0, omega arith, omega arith, behind_more (omega arith) (omega (arith, c.before.before.before.before.before.before.before.before.before.before.before.before.before.requires.1.1.0.1)) c.before.before.before.before.before.before.before.loop.invariant.3 c.step_back.ensures, λ room. filled_more (omega arith) (omega arith) (c.before.before.before.before.before.before.before.loop.invariant.4 room) c.before.before.before.before.before.before.before.loop.invariant.3 (c.before.before.before.before.keep-behind.ensures.stored (omega (arith, c.before.before.before.before.before.before.before.loop.invariant.0))))
+loop-again c = (c.before.before.before.before.keep.ensures.same_length ∙ c.before.before.before.before.before.before.before.loop.invariant.0, omega arith, omega arith, behind_more (omega arith) (omega (arith, c.before.before.before.before.before.before.before.before.before.before.before.before.requires.1.1.0.1)) c.before.before.before.before.before.before.before.loop.invariant.3 c.step_back.ensures, filled_more (omega arith) (omega arith) c.before.before.before.before.before.before.before.loop.invariant.4 c.before.before.before.before.before.before.before.loop.invariant.3 c.before.before.before.before.keep.ensures)
 
 same_length : tie.Need-same-length invariant-loop decreases-loop
 same_length c = search rules
@@ -54,8 +54,8 @@ fill-block-spec =
     decreases-loop
     loop-holds
     sub-i
-    sub-keep-behind
-    keep-behind-requires
+    sub-keep
+    keep-requires
     shared-slice-read-step-back
     step-back-requires
     loop-less

@@ -1,7 +1,5 @@
 -- `paths::find_path` meets its contract. Assumes nothing.
 use mathlib.Core.Path.{◌∙◌}
-use native.Mathlib.Omega.{arith}
-use Rattle.places.specs.Places.{short_places}
 use Rattle.paths.proofs.Ending.{walked_all}
 use borrow.Author.Rules.{rules}
 use Rattle.paths.proofs.find_path.Statement.{statement}
@@ -16,8 +14,8 @@ same_length c = search rules
 returns : tie.Need-returns
 returns c = walked_all c.before.before.before.before.walk_first.ensures c.if1.true (c.before.before.before.before.walk_first.auto.1.1.1.0 ∙ c.before.before.before.before.before.before.before.before.before.before.requires.1.1)
 
-choose-long-requires : tie.Need-choose-long-requires
-choose-long-requires c κs = (c.before.before.before.before.before.before.before.before.before.before.before.before.before.requires.0, (c.before.before.before.before.before.before.before.before.before.before.before.before.before.requires.1.0, (c.before.before.before.before.before.before.before.walk_first.auto.1.1.1.0 ∙ c.before.before.before.before.before.before.before.before.before.before.before.before.before.requires.1.1, c.before.before.before.before.before.before.before.walk_first.ensures)))
+choose-way-requires : tie.Need-choose-way-requires
+choose-way-requires c κs = (c.before.before.before.before.before.before.before.before.before.before.before.before.requires.0, (c.before.before.before.before.before.before.before.before.before.before.before.before.requires.1.0, (c.before.before.before.before.before.before.walk_first.auto.1.1.1.0 ∙ c.before.before.before.before.before.before.before.before.before.before.before.before.requires.1.1, c.before.before.before.before.before.before.walk_first.ensures)))
 
 same-length-2 : tie.Need-same-length-2
 same-length-2 c = search rules
@@ -28,21 +26,6 @@ same-length-3 c = search rules
 returns-2 : tie.Need-returns-2
 returns-2 c = search rules
 
-slice-aggregate-choose-way : tie.Need-slice-aggregate-choose-way
-slice-aggregate-choose-way c = search rules
-
-choose-way-requires : tie.Need-choose-way-requires
-choose-way-requires c κs = (c.before.before.before.before.before.before.before.before.before.before.before.before.before.before.requires.0, (short_places (omega arith), (c.before.before.before.before.before.before.before.before.before.before.before.before.before.before.requires.1.0, (c.before.before.before.before.before.before.before.before.walk_first.auto.1.1.1.0 ∙ c.before.before.before.before.before.before.before.before.before.before.before.before.before.before.requires.1.1, c.before.before.before.before.before.before.before.before.walk_first.ensures))))
-
-same-length-4 : tie.Need-same-length-4
-same-length-4 c = search rules
-
-same-length-5 : tie.Need-same-length-5
-same-length-5 c = search rules
-
-returns-3 : tie.Need-returns-3
-returns-3 c = search rules
-
 pub find-path-spec : {M : Type 1} → statement M
 find-path-spec =
     tie.close
@@ -50,12 +33,7 @@ find-path-spec =
     walk-first-requires
     same_length
     returns
-    choose-long-requires
+    choose-way-requires
     same-length-2
     same-length-3
-    returns-2
-    slice-aggregate-choose-way
-    choose-way-requires
-    same-length-4
-    same-length-5
-    returns-3)
+    returns-2)

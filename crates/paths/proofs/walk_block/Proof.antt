@@ -10,13 +10,13 @@ use Rattle.paths.proofs.walk_block.Statement.{statement}
 use Rattle.paths.proofs.walk_block.Tie as tie
 
 abbrev invariant-loop : tie.invariant-loop
-invariant-loop prepared a places text start end sets path₀ walk₀ path walk = (length path ≡ length path₀) × (start ≤ walk.at) × (walk.at ≤ end) × Walked prepared a text path walk
+invariant-loop prepared a text start end sets path₀ walk₀ path walk = (length path ≡ length path₀) × (start ≤ walk.at) × (walk.at ≤ end) × Walked prepared a text path walk
 
 abbrev decreases-loop : tie.decreases-loop
-decreases-loop prepared a places text start end sets path₀ walk₀ path walk = end - walk.at
+decreases-loop prepared a text start end sets path₀ walk₀ path walk = end - walk.at
 
 loop-holds : tie.Need-loop-init invariant-loop decreases-loop
-loop-holds c = (search rules, c.before.before.before.before.before.requires.1.1.0.0, c.before.before.before.before.before.requires.1.1.0.1, c.before.before.before.before.before.requires.1.1.1.1.1)
+loop-holds c = (search rules, c.before.before.before.before.requires.1.0.0, c.before.before.before.before.requires.1.0.1, c.before.before.before.before.requires.1.1.1.1)
 
 sub-set-at : tie.Need-overflow-sub-set-at invariant-loop decreases-loop
 sub-set-at c = search rules
@@ -30,17 +30,17 @@ set-at-requires c κs = search rules
 intersect-requires : tie.Need-intersect-requires invariant-loop decreases-loop
 intersect-requires c κs = search rules
 
-shared-slice-read-lowest-by : tie.Need-shared-slice-read-lowest-by invariant-loop decreases-loop
-shared-slice-read-lowest-by c = search rules
+shared-slice-read-lowest : tie.Need-shared-slice-read-lowest invariant-loop decreases-loop
+shared-slice-read-lowest c = search rules
 
-lowest-by-requires : tie.Need-lowest-by-requires invariant-loop decreases-loop
-lowest-by-requires c κs = search rules
+lowest-requires : tie.Need-lowest-requires invariant-loop decreases-loop
+lowest-requires c κs = search rules
 
 same_length : tie.Need-same-length invariant-loop decreases-loop
 same_length c = search rules
 
 returns : tie.Need-returns invariant-loop decreases-loop
-returns c = record { to_end = c.before.before.before.before.before.before.before.before.loop.invariant.2; walked = λ e. absurd (omega (arith, c.before.before.before.before.before.before.if1.true)); stuck = λ ne r d. walked_stuck c.before.before.before.before.before.before.before.before.loop.invariant.3 (omega (arith, c.before.before.before.before.before.before.if1.true, c.before.before.before.before.before.before.before.before.before.before.before.before.before.before.requires.1.1.0.2)) r d (takes_none c.before.before.before.before.before.before.before.before.before.before.before.before.before.before.requires.0 d _ (c.before.before.before.before.before.before.before.before.loop.invariant.3.so_far r d).set_is (rw c.before.before.before.before.set_at.ensures (c.before.before.before.before.before.before.before.before.before.before.before.before.before.before.requires.1.1.1.0.behind r d _ c.before.before.before.before.before.before.before.before.loop.invariant.1 c.before.before.before.before.before.before.if1.true)) c.before.before.before.intersect.ensures (λ q reads. c.before.lowest_by.ensures.none_lower q (omega (arith, reads.inside, c.before.before.before.before.before.before.before.before.before.before.before.before.before.before.requires.0.few, c.if2.true)) reads)) }
+returns c = record { to_end = c.before.before.before.before.before.before.before.before.loop.invariant.2; walked = λ e. absurd (omega (arith, c.before.before.before.before.before.before.if1.true)); stuck = λ ne r d. walked_stuck c.before.before.before.before.before.before.before.before.loop.invariant.3 (omega (arith, c.before.before.before.before.before.before.if1.true, c.before.before.before.before.before.before.before.before.before.before.before.before.before.requires.1.0.2)) r d (takes_none c.before.before.before.before.before.before.before.before.before.before.before.before.before.requires.0 d _ (c.before.before.before.before.before.before.before.before.loop.invariant.3.so_far r d).set_is (rw c.before.before.before.before.set_at.ensures (c.before.before.before.before.before.before.before.before.before.before.before.before.before.requires.1.1.0.behind r d _ c.before.before.before.before.before.before.before.before.loop.invariant.1 c.before.before.before.before.before.before.if1.true)) c.before.before.before.intersect.ensures (λ q reads. c.before.lowest.ensures.none_lower q (omega (arith, reads.inside, c.before.before.before.before.before.before.before.before.before.before.before.before.before.requires.0.few, c.if2.true)) reads)) }
 
 cast-path : tie.Need-overflow-cast-path invariant-loop decreases-loop
 cast-path c = search rules
@@ -52,13 +52,13 @@ add-past : tie.Need-overflow-add-past invariant-loop decreases-loop
 add-past c = search rules
 
 past-requires : tie.Need-past-requires invariant-loop decreases-loop
-past-requires c κs = (c.before.before.before.before.before.before.before.before.before.before.before.before.before.before.requires.0, (c.before.lowest_by.ensures.reads c.if2.false).inside)
+past-requires c κs = (c.before.before.before.before.before.before.before.before.before.before.before.before.before.requires.0, (c.before.lowest.ensures.reads c.if2.false).inside)
 
 loop-less : tie.Need-loop-smaller invariant-loop decreases-loop
 loop-less c = omega (arith, c.past.ensures.at_is)
 
 loop-again : tie.Need-loop-preserved invariant-loop decreases-loop
-loop-again c = (simp length-set (omega (arith, c.before.before.before.before.before.before.before.before.before.loop.invariant.0)), omega (arith, c.past.ensures.at_is, c.before.before.before.before.before.before.before.before.before.loop.invariant.1), omega (arith, c.past.ensures.at_is, c.before.before.before.before.before.before.before.if1.true), walked_more c.before.before.before.before.before.before.before.before.before.loop.invariant.3 (omega (arith, c.before.before.before.before.before.before.before.if1.true, c.before.before.before.before.before.before.before.before.before.before.before.before.before.before.before.requires.1.1.0.2)) (c.before.before.before.before.before.before.before.before.before.loop.invariant.0 ∙ c.before.before.before.before.before.before.before.before.before.before.before.before.before.before.before.requires.1.1.1.1.0) c.past.ensures (λ r d. takes_lowest c.before.before.before.before.before.before.before.before.before.before.before.before.before.before.before.requires.0 d _ (c.before.before.before.before.before.before.before.before.before.loop.invariant.3.so_far r d).set_is (rw c.before.before.before.before.before.set_at.ensures (c.before.before.before.before.before.before.before.before.before.before.before.before.before.before.before.requires.1.1.1.0.behind r d _ c.before.before.before.before.before.before.before.before.before.loop.invariant.1 c.before.before.before.before.before.before.before.if1.true)) c.before.before.before.before.intersect.ensures (c.before.before.lowest_by.ensures.reads c.before.if2.false) (λ q l. c.before.before.lowest_by.ensures.none_lower q l)))
+loop-again c = (simp length-set (omega (arith, c.before.before.before.before.before.before.before.before.before.loop.invariant.0)), omega (arith, c.past.ensures.at_is, c.before.before.before.before.before.before.before.before.before.loop.invariant.1), omega (arith, c.past.ensures.at_is, c.before.before.before.before.before.before.before.if1.true), walked_more c.before.before.before.before.before.before.before.before.before.loop.invariant.3 (omega (arith, c.before.before.before.before.before.before.before.if1.true, c.before.before.before.before.before.before.before.before.before.before.before.before.before.before.requires.1.0.2)) (c.before.before.before.before.before.before.before.before.before.loop.invariant.0 ∙ c.before.before.before.before.before.before.before.before.before.before.before.before.before.before.requires.1.1.1.0) c.past.ensures (λ r d. takes_lowest c.before.before.before.before.before.before.before.before.before.before.before.before.before.before.requires.0 d _ (c.before.before.before.before.before.before.before.before.before.loop.invariant.3.so_far r d).set_is (rw c.before.before.before.before.before.set_at.ensures (c.before.before.before.before.before.before.before.before.before.before.before.before.before.before.requires.1.1.0.behind r d _ c.before.before.before.before.before.before.before.before.before.loop.invariant.1 c.before.before.before.before.before.before.before.if1.true)) c.before.before.before.before.intersect.ensures (c.before.before.lowest.ensures.reads c.before.if2.false) (λ q l. c.before.before.lowest.ensures.none_lower q l)))
 
 same-length-2 : tie.Need-same-length-2 invariant-loop decreases-loop
 same-length-2 c = search rules
@@ -77,8 +77,8 @@ walk-block-spec =
     mul-set-at
     set-at-requires
     intersect-requires
-    shared-slice-read-lowest-by
-    lowest-by-requires
+    shared-slice-read-lowest
+    lowest-requires
     same_length
     returns
     cast-path

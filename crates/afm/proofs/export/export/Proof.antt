@@ -4,7 +4,7 @@ use mathlib.Core.Path.{sym, ◌∙◌}
 use native.Mathlib.Omega.{arith}
 use lib.ListN.{length}
 use Rattle.lines.proofs.Texts.{decimal_short}
-use Rattle.metrics.specs.Section.{section_text}
+use Rattle.afm.specs.Section.{section_text}
 use Rattle.afm.proofs.Answering.{export_long, export_bad, export_good, section_long, output_over, output_room, output_put}
 use Rattle.afm.proofs.export.export.Statement.{statement}
 use Rattle.afm.proofs.export.export.Tie as tie

@@ -2,7 +2,7 @@
 use borrow.Author.Rules.{rules}
 use native.Mathlib.Omega.{arith}
 use Rattle.lines.proofs.Texts.{puts_then, puts_as}
-use Rattle.metrics.proofs.Putting.{puts_length}
+use Rattle.afm.proofs.Putting.{puts_length}
 use Rattle.afm.proofs.Answering.{section_parts, section_parts_length}
 use Rattle.afm.proofs.export.put_section.Statement.{statement}
 use Rattle.afm.proofs.export.put_section.Tie as tie

@@ -5,7 +5,7 @@ use native.Mathlib.Omega.{arith}
 use lib.ListN.{length}
 use Rattle.texts.specs.Cutting.{rest_lent}
 use Rattle.fields.specs.declared.Form.TheVariants.{Kpx}
-use Rattle.metrics.specs.Pairs.{lines_for}
+use Rattle.afm.specs.Pairs.{lines_for}
 use Rattle.afm.proofs.Answering.{import_bad, import_count, import_good, sheet_long, output_over, output_room, output_put}
 use Rattle.afm.proofs.import.import_pairs.Statement.{statement}
 use Rattle.afm.proofs.import.import_pairs.Tie as tie

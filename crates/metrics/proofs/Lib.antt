@@ -1,4 +1,0 @@
--- What the functions of this crate know as they go, and what those of `afm` cite.
-mod Measuring
-pub mod Putting
-pub mod Sections

@@ -1,2 +1,0 @@
--- The answers as numbers.
-pub mod Exports

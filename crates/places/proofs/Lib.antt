@@ -1,4 +1,0 @@
--- What the proofs share, and the crates above cite.
-pub mod Gathering
-pub mod Keeping
-pub mod Placing

@@ -1,2 +1,0 @@
--- Where sets of positions lead.
-pub mod Ways
