@@ -15,7 +15,7 @@ use Rattle.lines.specs.Line.{Puts}
 use Rattle.lines.proofs.Texts.{puts_start}
 use Rattle.answers.specs.declared.Answer.{Answer}
 use Rattle.answers.specs.declared.Answer.TheVariants.{Result, Refusal}
-use Rattle.answers.specs.Contracts.{answer_for, GivesText}
+use Rattle.answers.specs.Outcomes.{answer_for, GivesText}
 use Rattle.answers.proofs.Giving.{refused, passed, given}
 use Rattle.fields.specs.declared.Form.TheVariants.{Kpx, Sheet}
 use Rattle.fields.specs.Shapes.{form_of}

@@ -1,7 +1,7 @@
 // Export: the kerning section of sheet lines.
 ghost use Rattle.std.specs.Prelude.{◌≤◌, length};
 ghost use Rattle.sections.specs.Afm.{export_call};
-ghost use Rattle.answers.specs.Contracts.{GivesText};
+ghost use Rattle.answers.specs.Outcomes.{GivesText};
 ghost use Rattle.lines.specs.Line.{Puts};
 ghost use Rattle.afm.specs.Section.{section_text};
 

@@ -1,7 +1,7 @@
 // Import: the sheet lines of a kerning section.
 ghost use Rattle.std.specs.Prelude.{◌≤◌, length};
 ghost use Rattle.sections.specs.Afm.{import_call, imported};
-ghost use Rattle.answers.specs.Contracts.{GivesText};
+ghost use Rattle.answers.specs.Outcomes.{GivesText};
 ghost use Rattle.afm.specs.Section.{section_behind};
 
 use crate::pairs::{measure, put_lines};

@@ -11,7 +11,7 @@ use Rattle.semantics.specs.Tally.{Tally, put_tally}
 use Rattle.laws.specs.Refusals.{get_named, put_named}
 use Rattle.laws.specs.Demand3.{put_then_get}
 use Rattle.laws.specs.Tally.{tally_old, tally_new}
-use Rattle.answers.specs.Contracts.{put_answer_for}
+use Rattle.answers.specs.Outcomes.{put_answer_for}
 use Rattle.noontrough.specs.declared.PutNumbers.{PutNumbers}
 use Rattle.noontrough.specs.Exports.{put_numbers_of, ExportsSource}
 use Rattle.noontrough.specs.Numbers.{result_iff, source_result_iff}

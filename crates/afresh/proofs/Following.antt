@@ -8,7 +8,7 @@ use Rattle.semantics.specs.Calls.{gives, refuses, buffer_after}
 use Rattle.semantics.specs.Calls.{Answer as Outcome}
 use Rattle.semantics.specs.Tally.{Tally}
 use Rattle.laws.specs.Refusals.{Named}
-use Rattle.answers.specs.Contracts.{answer_for, put_answer_for}
+use Rattle.answers.specs.Outcomes.{answer_for, put_answer_for}
 use Rattle.noontrough.specs.declared.Numbers.{Numbers}
 use Rattle.noontrough.specs.declared.PutNumbers.{PutNumbers}
 use Rattle.noontrough.specs.Exports.{numbers_of, put_numbers_of, ExportsText, ExportsSource}

@@ -25,7 +25,7 @@ use Rattle.texts.specs.Overlay.{Writes, overlay, overlay_length, overlay_fits, c
 use Rattle.lens.specs.Emitting.{LensNode}
 use Rattle.answers.specs.declared.Answer.{Answer}
 use Rattle.answers.specs.declared.Answer.TheVariants.{Result, Refusal}
-use Rattle.answers.specs.Contracts.{answer_for, GivesText}
+use Rattle.answers.specs.Outcomes.{answer_for, GivesText}
 use Rattle.answers.specs.Answers.{IsAccepted, Ready}
 use Rattle.answers.specs.Results.{Counted, Finishes, RootPath, Makes, GivesMade}
 use Rattle.answers.proofs.Verdicts.{accepted_sizes, root_tree}

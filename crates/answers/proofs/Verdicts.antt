@@ -17,7 +17,7 @@ use Rattle.laws.specs.RightSizes.{Right, right_of}
 use Rattle.typing.specs.Round.{typing_answer, answer_of}
 use Rattle.typing.specs.declared.round.TypingAnswer.TheVariants as R
 use Rattle.answers.specs.Answers.{IsAccepted, Ready, TooSmall, CheckedIs}
-use Rattle.answers.specs.Contracts as A
+use Rattle.answers.specs.Outcomes as A
 use Rattle.answers.specs.declared.Answer.TheVariants.{Result, Refusal}
 use Rattle.answers.specs.declared.Checked.{Checked}
 

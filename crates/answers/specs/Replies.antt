@@ -11,7 +11,7 @@ use Rattle.answers.specs.declared.PutAnswer.{PutAnswer}
 use Rattle.answers.specs.declared.PutAnswer.TheVariants as P
 use Rattle.answers.specs.declared.Tally.{Tally as Counts}
 use Rattle.answers.specs.declared.Reply.{Reply}
-use Rattle.answers.specs.Contracts.{answer_for, put_answer_for, GivesText, GivesSource, RepliesSource, untallied}
+use Rattle.answers.specs.Outcomes.{answer_for, put_answer_for, GivesText, GivesSource, RepliesSource, untallied}
 
 -- the counts of a result go into the answer, and those beside a refusal are left out
 unfoldable pub with_tally : Answer → Counts → PutAnswer

@@ -14,7 +14,7 @@ use Rattle.texts.specs.Overlay.{Writes}
 use Rattle.lens.specs.Parsed.{Parsed}
 use Rattle.answers.specs.declared.Answer.{Answer}
 use Rattle.answers.specs.declared.Answer.TheVariants.{Result}
-use Rattle.answers.specs.Contracts.{GivesText}
+use Rattle.answers.specs.Outcomes.{GivesText}
 
 -- The bytes that were counted are in the slice.
 pub record Counted (wrote : Wrote) (result : Text) : Type 0 where

@@ -4,7 +4,7 @@ ghost use Rattle.semantics.specs.Table.{node_count};
 ghost use Rattle.semantics.specs.Calls.{output};
 ghost use Rattle.answers.specs.declared.Answer.TheVariants.{Refusal};
 ghost use Rattle.answers.specs.Answers.{IsAccepted, Ready};
-ghost use Rattle.answers.specs.Contracts.{GivesText, untallied};
+ghost use Rattle.answers.specs.Outcomes.{GivesText, untallied};
 ghost use Rattle.answers.specs.Replies.{with_tally};
 ghost use Rattle.answers.specs.Results.{Counted, Finishes, RootPath};
 

@@ -21,7 +21,7 @@ use Rattle.answers.specs.declared.Answer.TheVariants.{Result, Refusal}
 use Rattle.answers.specs.declared.Tally.{Tally}
 use Rattle.answers.specs.declared.Reply.{Reply}
 use Rattle.answers.specs.Answers.{IsAccepted}
-use Rattle.answers.specs.Contracts.{answer_for, GivesText, RepliesSource}
+use Rattle.answers.specs.Outcomes.{answer_for, GivesText, RepliesSource}
 use Rattle.answers.proofs.Giving.{too_long_lem, not_too_long}
 use Rattle.counts.specs.declared.Made.{Made}
 use Rattle.counts.specs.Counts.{CountsFit, TalliesFrom}

@@ -8,7 +8,7 @@ use Rattle.semantics.specs.Tally.{Tally as Counts}
 use Rattle.answers.specs.declared.Answer.TheVariants.{Result}
 use Rattle.answers.specs.declared.Tally.{Tally}
 use Rattle.answers.specs.declared.Reply.{Reply}
-use Rattle.answers.specs.Contracts.{GivesText}
+use Rattle.answers.specs.Outcomes.{GivesText}
 use Rattle.listing.specs.declared.Listing.{Listing}
 use Rattle.dealing.specs.Books.{BookReady}
 

@@ -5,7 +5,7 @@ ghost use Rattle.semantics.specs.Calls.{put_call};
 ghost use Rattle.semantics.specs.Tally.{put_tally};
 ghost use Rattle.answers.specs.Answers.{Ready};
 ghost use Rattle.answers.specs.declared.Answer.TheVariants.{Refusal};
-ghost use Rattle.answers.specs.Contracts.{RepliesSource};
+ghost use Rattle.answers.specs.Outcomes.{RepliesSource};
 ghost use Rattle.answers.specs.Results.{TextReady};
 ghost use Rattle.calls.specs.Puts.{ListsSource, PutsInto};
 

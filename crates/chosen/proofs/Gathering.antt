@@ -23,7 +23,7 @@ use Rattle.laws.specs.Shuffle.{selected, PartNumbers}
 use Rattle.laws.specs.Demand3.{OneRepeatedEntry, passing, source_parts}
 use Rattle.answers.specs.declared.Answer.{Answer}
 use Rattle.answers.specs.declared.Answer.TheVariants.{Result, Refusal}
-use Rattle.answers.specs.Contracts.{answer_for, GivesText, GivesSource}
+use Rattle.answers.specs.Outcomes.{answer_for, GivesText, GivesSource}
 use Rattle.engine.specs.Demand3.{reordered_call}
 use Rattle.demands.specs.declared.Chosen.{Chosen}
 use Rattle.demands.specs.Demands.{blank, PutMade, SetsInOrder}

@@ -21,7 +21,7 @@ use Rattle.laws.specs.Accepted.{accepted}
 use Rattle.laws.specs.Demand3.{passing, with_program_lem, short}
 use Rattle.answers.specs.declared.Answer.{Answer}
 use Rattle.answers.specs.declared.Answer.TheVariants.{Result, Refusal}
-use Rattle.answers.specs.Contracts.{answer_for, GivesText}
+use Rattle.answers.specs.Outcomes.{answer_for, GivesText}
 use Rattle.chosen.specs.Parting.{Parted, start_of, TellsSource, TellsCut, EndsPart, StartsPart}
 
 -- ---- Lists of parts

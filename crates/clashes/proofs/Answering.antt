@@ -18,7 +18,7 @@ use Rattle.laws.specs.Refusals.{program_refusal}
 use Rattle.clash.specs.Clash.{rule_at, clash_text, ends_of, clash, refused, side_of, shown, clash_at, clash_of, clash_call, buffer_after}
 use Rattle.clash.specs.Calls.{rule_broken}
 use Rattle.answers.specs.declared.ClashAnswer.TheVariants.{Clash, Refusal}
-use Rattle.answers.specs.Contracts.{clash_answer_for, GivesClash}
+use Rattle.answers.specs.Outcomes.{clash_answer_for, GivesClash}
 use Rattle.clashes.specs.declared.texts.Shown.{Shown}
 use Rattle.clashes.specs.Shows.{Shows, BrokenAt}
 

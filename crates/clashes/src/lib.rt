@@ -8,7 +8,7 @@ ghost use Rattle.clash.specs.Clash as S;
 ghost use Rattle.automaton.specs.Rows.{side_of};
 ghost use Rattle.automaton.specs.Built.{Built};
 ghost use Rattle.answers.specs.Answers.{IsRefused};
-ghost use Rattle.answers.specs.Contracts.{GivesClash};
+ghost use Rattle.answers.specs.Outcomes.{GivesClash};
 ghost use Rattle.clashes.specs.Shows.{Shows, BrokenAt};
 
 use answers::ClashAnswer;

@@ -11,7 +11,7 @@ use Rattle.semantics.specs.Calls.{gives, refuses, program, with_program, check_c
 use Rattle.semantics.specs.Calls.{Answer as Outcome}
 use Rattle.answers.specs.declared.Answer.{Answer}
 use Rattle.answers.specs.declared.Answer.TheVariants.{Result, Refusal}
-use Rattle.answers.specs.Contracts.{answer_for, GivesText}
+use Rattle.answers.specs.Outcomes.{answer_for, GivesText}
 use Rattle.lines.specs.Line.{refused_line}
 use Rattle.readings.proofs.Lines.{refused_line_lem}
 use Rattle.commands.specs.Replies.{check_outcome, printed, number_of, answer_number, Replies, Finishes}

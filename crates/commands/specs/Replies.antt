@@ -7,7 +7,7 @@ use Rattle.semantics.specs.Calls.{Answer as Outcome}
 use Rattle.answers.specs.declared.Answer.{Answer}
 use Rattle.answers.specs.declared.Answer.TheVariants.{Result, Refusal}
 use Rattle.lines.specs.Line.{refused_line}
-use Rattle.answers.specs.Contracts.{GivesText}
+use Rattle.answers.specs.Outcomes.{GivesText}
 use Rattle.commands.specs.declared.command.Command.{Command}
 use Rattle.commands.specs.declared.command.Command.TheVariants.{Check, Get, Put, Create, Unknown}
 use Rattle.commands.specs.declared.replies.Reply.{Reply}

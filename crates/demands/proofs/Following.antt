@@ -12,7 +12,7 @@ use Rattle.laws.specs.Basics.{never}
 use Rattle.answers.specs.declared.Answer.{Answer}
 use Rattle.answers.specs.declared.Answer.TheVariants.{Result, Refusal}
 use Rattle.answers.specs.declared.PutAnswer.{PutAnswer}
-use Rattle.answers.specs.Contracts.{answer_for, GivesText, GivesSource, untallied}
+use Rattle.answers.specs.Outcomes.{answer_for, GivesText, GivesSource, untallied}
 use Rattle.answers.specs.Replies.{gives_text}
 use Rattle.engine.specs.Demand3.{Gave, gave_of, of_gave}
 use Rattle.demands.specs.declared.trips.TwoCalls.{TwoCalls}

@@ -8,7 +8,7 @@ use Rattle.semantics.specs.Calls.{Answer as Outcome}
 use Rattle.semantics.specs.Tally.{Tally, put_tally}
 use Rattle.laws.specs.Demand3.{OneRepeatedEntry}
 use Rattle.laws.specs.Shuffle.{selected, PartNumbers}
-use Rattle.answers.specs.Contracts.{GivesText, GivesSource, untallied}
+use Rattle.answers.specs.Outcomes.{GivesText, GivesSource, untallied}
 use Rattle.engine.specs.Demand3.{Gave}
 use Rattle.noontrough.specs.Exports.{ExportsText, ExportsSource}
 use Rattle.demands.specs.declared.trips.TwoCalls.{TwoCalls}

@@ -4,7 +4,7 @@ use Rattle.semantics.specs.Text.{Text}
 use Rattle.semantics.specs.Calls.{Answer as Outcome}
 use Rattle.answers.specs.declared.Answer.{Answer}
 use Rattle.answers.specs.declared.Answer.TheVariants.{Result}
-use Rattle.answers.specs.Contracts.{GivesText}
+use Rattle.answers.specs.Outcomes.{GivesText}
 use Rattle.demands.specs.Demands.{then_call}
 
 -- The text that was answered is in the buffer.

@@ -8,7 +8,7 @@ use Rattle.clash.specs.Clash.{no_clash, clash_of, clash_call, buffer_after}
 use Rattle.answers.specs.declared.Answer.TheVariants.{Refusal}
 use Rattle.answers.specs.declared.ClashAnswer.TheVariants.{Accepted}
 use Rattle.answers.specs.Answers.{IsAccepted}
-use Rattle.answers.specs.Contracts.{clash_answer_for}
+use Rattle.answers.specs.Outcomes.{clash_answer_for}
 use Rattle.answers.specs.declared.Reply.{Reply}
 use Rattle.laws.specs.Basics.{never}
 use Rattle.answers.proofs.Verdicts.{never_small, check_refuses}

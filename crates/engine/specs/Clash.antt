@@ -44,7 +44,7 @@ use Rattle.clash.specs.Given.{given_broken}
 use Rattle.clash.specs.Calls.{no_clash_iff, clash_checks, clash_shows, check_clashes, other_refusals, refused_is, long_iff, text_given, ends_smallest}
 use Rattle.answers.specs.declared.ClashAnswer.{ClashAnswer}
 use Rattle.answers.specs.declared.ClashAnswer.TheVariants.{Accepted, Clash, Refusal}
-use Rattle.answers.specs.Contracts.{clash_answer_for, GivesClash}
+use Rattle.answers.specs.Outcomes.{clash_answer_for, GivesClash}
 
 -- ---- What each answer says of the outcome
 

@@ -15,7 +15,7 @@ use Rattle.laws.specs.Shuffle.{selected, PartNumbers, SameKeys, put_each}
 use Rattle.answers.specs.declared.Answer.{Answer}
 use Rattle.answers.specs.declared.Answer.TheVariants.{Result, Refusal}
 use Rattle.answers.specs.declared.PutAnswer.{PutAnswer}
-use Rattle.answers.specs.Contracts.{answer_for, GivesText, GivesSource, untallied}
+use Rattle.answers.specs.Outcomes.{answer_for, GivesText, GivesSource, untallied}
 use Rattle.answers.specs.Replies.{gives_text}
 
 -- The call answered a result, whose text is that.

@@ -6,7 +6,7 @@ use Rattle.semantics.specs.Tally.{put_tally}
 use Rattle.answers.specs.declared.Answer.{Answer}
 use Rattle.answers.specs.declared.Reply.{Reply}
 use Rattle.clash.specs.Clash.{clash_call}
-use Rattle.answers.specs.Contracts.{answer_for, GivesText, RepliesSource, GivesClash}
+use Rattle.answers.specs.Outcomes.{answer_for, GivesText, RepliesSource, GivesClash}
 use Rattle.answers.specs.Answers.{TooSmall}
 use Rattle.engine.specs.declared.rooms.Call.{Call}
 use Rattle.engine.specs.declared.rooms.Call.TheVariants.{Check, Get, Put, Create, Line, Clash}

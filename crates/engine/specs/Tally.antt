@@ -15,7 +15,7 @@ use Rattle.laws.specs.Tally.{new_entries, tally_old, tally_new, tally_unedited}
 use Rattle.answers.specs.declared.Answer.{Answer}
 use Rattle.answers.specs.declared.PutAnswer.{PutAnswer}
 use Rattle.answers.specs.declared.PutAnswer.TheVariants.{Result, Refusal}
-use Rattle.answers.specs.Contracts.{put_answer_for, GivesText, GivesSource}
+use Rattle.answers.specs.Outcomes.{put_answer_for, GivesText, GivesSource}
 use Rattle.engine.specs.Demand3.{Gave, of_gave}
 
 -- The source that put gave stands at the start of its buffer, and the numbers are its length and its counts.

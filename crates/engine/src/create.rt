@@ -1,7 +1,7 @@
 // The call Create: a source from a sheet only.
 ghost use Rattle.std.specs.Prelude.{length};
 ghost use Rattle.semantics.specs.Calls.{create_call};
-ghost use Rattle.answers.specs.Contracts.{GivesText};
+ghost use Rattle.answers.specs.Outcomes.{GivesText};
 
 use crate::rooms::{Call, Room, answer_in};
 use answers::Answer;

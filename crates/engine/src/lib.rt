@@ -3,7 +3,7 @@
 
 ghost use Rattle.std.specs.Prelude.{◌≡◌, ◌++◌, ℕ, ◌≤◌, length, drop};
 ghost use Rattle.semantics.specs.Calls.{check_call, lenscheck_line};
-ghost use Rattle.answers.specs.Contracts.{answer_for};
+ghost use Rattle.answers.specs.Outcomes.{answer_for};
 
 use answers::Answer;
 use lines::put_refused;

@@ -2,7 +2,7 @@
 ghost use Rattle.std.specs.Prelude.{length};
 ghost use Rattle.semantics.specs.Calls.{put_call};
 ghost use Rattle.semantics.specs.Tally.{put_tally};
-ghost use Rattle.answers.specs.Contracts.{GivesSource};
+ghost use Rattle.answers.specs.Outcomes.{GivesSource};
 
 use crate::rooms::{Call, Room, answer_in};
 use answers::PutAnswer;

@@ -1,7 +1,7 @@
 // The call Clash: why a program is refused with 7 to 11.
 ghost use Rattle.std.specs.Prelude.{length};
 ghost use Rattle.clash.specs.Clash.{clash_call};
-ghost use Rattle.answers.specs.Contracts.{GivesClash};
+ghost use Rattle.answers.specs.Outcomes.{GivesClash};
 
 use crate::rooms::{Call, Room, answer_in};
 use answers::ClashAnswer;

@@ -5,7 +5,7 @@ use lib.ListN.{length, length-replicate}
 use Rattle.semantics.specs.Text.{Text}
 use Rattle.semantics.specs.Calls.{gives}
 use Rattle.semantics.specs.Calls.{Answer as Outcome}
-use Rattle.answers.specs.Contracts.{GivesText}
+use Rattle.answers.specs.Outcomes.{GivesText}
 use Rattle.engine.specs.Demand3.{Gave, gave_of, of_gave}
 use Rattle.demands.specs.Demands.{then_call}
 use Rattle.demands.specs.Following.{Follows}

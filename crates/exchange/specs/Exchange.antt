@@ -4,7 +4,7 @@ use Rattle.std.specs.Prelude.{◌≡◌, replicate}
 use Rattle.semantics.specs.Text.{Text}
 use Rattle.semantics.specs.Calls.{Answer as Outcome}
 use Rattle.sections.specs.Afm.{squeezed, good, sheet_of, Section, section_of}
-use Rattle.answers.specs.Contracts.{GivesText}
+use Rattle.answers.specs.Outcomes.{GivesText}
 use Rattle.engine.specs.Demand3.{Gave}
 use Rattle.demands.specs.Demands.{then_call}
 use Rattle.exchange.specs.declared.Exchange.{Exchange}

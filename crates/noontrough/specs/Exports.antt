@@ -15,7 +15,7 @@ use Rattle.answers.specs.declared.ClashAnswer.TheVariants as C
 use Rattle.noontrough.specs.declared.Numbers.{Numbers}
 use Rattle.noontrough.specs.declared.PutNumbers.{PutNumbers}
 use Rattle.noontrough.specs.declared.ClashNumbers.{ClashNumbers}
-use Rattle.answers.specs.Contracts.{answer_for, put_answer_for, clash_answer_for}
+use Rattle.answers.specs.Outcomes.{answer_for, put_answer_for, clash_answer_for}
 
 abbrev pub numbers_of : Answer → Numbers
 numbers_of (Result length) = record { number = 0; node = 0; length = length }

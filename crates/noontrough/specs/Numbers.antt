@@ -16,7 +16,7 @@ use Rattle.answers.specs.declared.PutAnswer.TheVariants as P
 use Rattle.answers.specs.declared.ClashAnswer.{ClashAnswer}
 use Rattle.answers.specs.declared.ClashAnswer.TheVariants.{Accepted, Clash}
 use Rattle.answers.specs.declared.ClashAnswer.TheVariants as C
-use Rattle.answers.specs.Contracts.{answer_for, put_answer_for, clash_answer_for}
+use Rattle.answers.specs.Outcomes.{answer_for, put_answer_for, clash_answer_for}
 use Rattle.noontrough.specs.declared.Numbers.{Numbers}
 use Rattle.noontrough.specs.declared.PutNumbers.{PutNumbers}
 use Rattle.noontrough.specs.declared.ClashNumbers.{ClashNumbers}

@@ -3,7 +3,7 @@
 
 ghost use Rattle.std.specs.Prelude.{◌≡◌, ℕ, length};
 ghost use Rattle.semantics.specs.Calls.{check_call, get_call, put_call, create_call};
-ghost use Rattle.answers.specs.Contracts.{answer_for};
+ghost use Rattle.answers.specs.Outcomes.{answer_for};
 ghost use Rattle.semantics.specs.Tally.{put_tally};
 ghost use Rattle.clash.specs.Clash.{clash_call};
 ghost use Rattle.sections.specs.Afm.{import_call, export_call};

@@ -15,7 +15,7 @@ use Rattle.semantics.specs.Calls.{Answer as Outcome}
 use Rattle.laws.specs.Accepted.{accepted_iff}
 use Rattle.table.specs.Rules.{NodeRead}
 use Rattle.table.specs.declared.Node.{Node as NodeOf}
-use Rattle.answers.specs.Contracts.{answer_for, GivesText}
+use Rattle.answers.specs.Outcomes.{answer_for, GivesText}
 use Rattle.answers.specs.Answers.{IsAccepted}
 use Rattle.answers.specs.declared.Answer.{Answer}
 use Rattle.answers.specs.declared.Answer.TheVariants.{Result, Refusal}

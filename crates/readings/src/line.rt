@@ -1,7 +1,7 @@
 // What the line of `lenscheck` takes of an accepted and prepared program.
 ghost use Rattle.std.specs.Prelude.{◌≡◌, length};
 ghost use Rattle.answers.specs.Answers.{Ready};
-ghost use Rattle.answers.specs.Contracts.{GivesText};
+ghost use Rattle.answers.specs.Outcomes.{GivesText};
 ghost use Rattle.readings.specs.Line.{line_call};
 
 use answers::Answer;

@@ -9,7 +9,7 @@ use Rattle.semantics.specs.Tally.{Tally, put_tally, counts_line, put_line, tally
 use Rattle.laws.specs.Basics.{never}
 use Rattle.answers.specs.declared.PutAnswer.{PutAnswer}
 use Rattle.answers.specs.declared.PutAnswer.TheVariants.{Result, Refusal}
-use Rattle.answers.specs.Contracts.{put_answer_for, GivesSource}
+use Rattle.answers.specs.Outcomes.{put_answer_for, GivesSource}
 use Rattle.lines.specs.Line.{refused_line, counts}
 
 counts_are :

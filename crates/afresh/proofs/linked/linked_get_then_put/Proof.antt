@@ -5,7 +5,7 @@ use Rattle.laws.specs.Refusals.{get_named}
 use Rattle.semantics.specs.Tally.{put_tally}
 use Rattle.laws.specs.Demand3.{unedited}
 use Rattle.laws.specs.Tally.{tally_unedited}
-use Rattle.answers.specs.Contracts.{put_answer_for}
+use Rattle.answers.specs.Outcomes.{put_answer_for}
 use Rattle.afresh.proofs.Following.{linked_held, linked_made, linked_gave}
 use Rattle.afresh.proofs.linked.linked_get_then_put.Statement.{statement}
 use Rattle.afresh.proofs.linked.linked_get_then_put.Tie as tie

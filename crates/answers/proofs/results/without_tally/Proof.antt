@@ -1,7 +1,7 @@
 -- `answers::results::without_tally` meets its contract, case by case. Assumes nothing.
 use borrow.Author.Rules.{rules}
 use mathlib.Core.Path.{refl}
-use Rattle.answers.specs.Contracts.{untallied}
+use Rattle.answers.specs.Outcomes.{untallied}
 use Rattle.answers.proofs.results.without_tally.Statement.{statement}
 use Rattle.answers.proofs.results.without_tally.Tie as tie
 
