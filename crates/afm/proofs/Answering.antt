@@ -2,7 +2,7 @@
 use mathlib.Core.Path.{◌≡◌, refl, sym, ap, ◌∙◌}
 use mathlib.Core.Bool.{Bool, true, false, not, cond}
 use mathlib.Core.List.{List, [], ◌∷◌, ◌++◌, map, append_assoc}
-use Prim.Native.Nat.{ℕ, zero, suc, ◌+◌, ◌*◌, ◌-◌, ◌≤◌, ◌<◌, min}
+use Prim.Native.Nat.{ℕ, zero, suc, ◌+◌, ◌*◌, ◌≤◌, ◌<◌, min}
 use native.Mathlib.Omega.{arith}
 use lib.Dec.{ltb}
 use lib.ListN.{length, drop, length-drop, drop_of_length-le, length-append}
@@ -10,7 +10,7 @@ use borrow.Author.Tests.{lt-ltb, le-ltb, ltb-false, eq-eqb, ne_eqb}
 use Rattle.semantics.specs.Text.{Text, joined}
 use Rattle.semantics.specs.Calls.{gives, buffer_after, decimal}
 use Rattle.sections.specs.Afm.{newline, space, lines_of, nothing_left, good, bad, sheet_from, sheet_of, Section, section_end, section_from, section_of, kpx_line, write_sheet, write_section, start_word, end_word, max_text, output, imported, import_call, exported, export_call}
-use Rattle.sections.specs.RoundTrips.{section_length}
+use Rattle.sections.proofs.RoundTrips.{section_length}
 use Rattle.lines.specs.Line.{Puts}
 use Rattle.lines.proofs.Texts.{puts_start}
 use Rattle.answers.specs.declared.Answer.{Answer}
@@ -20,7 +20,7 @@ use Rattle.answers.proofs.Giving.{refused, passed, given}
 use Rattle.fields.specs.declared.Form.TheVariants.{Kpx, Sheet}
 use Rattle.fields.specs.Shapes.{form_of}
 use Rattle.fields.specs.Lines.{pairs_in}
-use Rattle.afm.specs.declared.pairs.Measured.{Measured}
+use Rattle.afm.specs.declared.pair_lines.Measured.{Measured}
 use Rattle.afm.specs.declared.section.Start.{Start}
 use Rattle.afm.specs.Pairs.{Measures, line_for, lines_for}
 use Rattle.afm.specs.Section.{section_behind, StartsAt, faulty, EndFault, section_text}

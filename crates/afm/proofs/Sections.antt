@@ -3,7 +3,7 @@ use mathlib.Core.Path.{◌≡◌, refl, sym, ap, ◌∙◌}
 use mathlib.Core.Bool.{Bool, true, false, cond}
 use mathlib.Core.List.{List, [], ◌∷◌, ◌++◌, append_assoc, append-nil}
 use mathlib.Core.Option.{Option, none, some}
-use Prim.Native.Nat.{ℕ, ◌+◌, ◌-◌, ◌≤◌, ◌<◌}
+use Prim.Native.Nat.{ℕ, ◌+◌, ◌≤◌, ◌<◌}
 use native.Mathlib.Omega.{arith}
 use lib.Dec.{eqb, ltb}
 use lib.ListN.{length, take, drop, length-drop, take-append-drop, drop_of_length-le}
@@ -13,9 +13,9 @@ use Rattle.semantics.specs.Text.{Text, same_text}
 use Rattle.semantics.specs.Calls.{decimal}
 use Rattle.laws.specs.Basics.{not_both, and_both, and_of, cond_true, cond_false, false_of_not_true, same_text_eq, same_text_refl}
 use Rattle.sections.specs.Afm.{newline, space, begins_with, squeezed, split, each, is_digit, number_of, is_number, fields_of, max_count, count_from, count_of, Lines, lines_of, with_byte, Pairs, pairs_of, kpx_of, nothing_left, good, bad, Section, section_end, section_from, section_in, section_of, start_word, end_word}
-use Rattle.sections.specs.Splitting.{is_not, each_join, number_of_lem, number_clean, number_some, number_begins, newline_no_name, space_no_name, lines_ended, lines_first}
-use Rattle.sections.specs.Numbers.{decimal_of_number}
-use Rattle.sections.specs.Writing.{start_clean, count_form, count_from_lem, count_word}
+use Rattle.sections.proofs.Splitting.{is_not, each_join, number_of_lem, number_clean, number_some, number_begins, newline_no_name, space_no_name, lines_ended, lines_first}
+use Rattle.sections.proofs.Numbers.{decimal_of_number}
+use Rattle.sections.proofs.Writing.{start_clean, count_form, count_from_lem, count_word}
 use Rattle.fields.specs.declared.Form.TheVariants.{Kpx}
 use Rattle.fields.specs.declared.Digits.{Digits}
 use Rattle.fields.specs.Scan.{front, run, word_length, number_in, ends_at}
@@ -298,12 +298,12 @@ module _ (t : Text) (at : ℕ) (found : Digits) (at_is : at ≡ word_length star
     faulted = go (lines_of t).ended refl
       where
         one : (line : Text) (lines : List Text) (found-count : Option ℕ) → (lines_of t).ended ≡ line ∷ lines → count_of line ≡ found-count → section_from found-count (pairs_of kpx_of lines) (lines_of t).rest ≡ bad 1
-        one line lines none e f = from_none (pairs_of kpx_of lines) (lines_of t).rest
-        one line lines (some n) e f = absurd (no_count line lines n e (count_shape line n f))
+        one l ls none e f = from_none (pairs_of kpx_of ls) (lines_of t).rest
+        one l ls (some n) e f = absurd (no_count l ls n e (count_shape l n f))
 
         go : (lines : List Text) → (lines_of t).ended ≡ lines → section_in lines (lines_of t).rest ≡ bad 1
         go [] e = refl
-        go (line ∷ lines) e = one line lines (count_of line) e refl
+        go (l ∷ ls) e = one l ls (count_of l) e refl
 
     pub no_start : StartsAt t (record { next = 0; count = 0 })
     no_start = record { refused = λ e. faulted; read = λ h. absurd (omega arith); within = omega arith }

@@ -6,7 +6,7 @@ use Rattle.fields.specs.declared.Form.{Form}
 use Rattle.fields.specs.declared.Form.TheVariants.{Kpx, Sheet}
 use Rattle.fields.specs.declared.Line.{Line}
 use Rattle.fields.specs.Lines.{pairs_in, Rises}
-use Rattle.afm.specs.declared.pairs.Measured.{Measured}
+use Rattle.afm.specs.declared.pair_lines.Measured.{Measured}
 
 -- How many pairs stand first, how many bytes their lines have in a sheet, and where they end: what is read from there on is what is read behind them.
 pub record Measures (form : Form) (t : Text) (m : Measured) : Type 0 where

@@ -5,7 +5,7 @@ ghost use Rattle.answers.specs.Outcomes.{GivesText};
 ghost use Rattle.lines.specs.Line.{Puts};
 ghost use Rattle.afm.specs.Section.{section_text};
 
-use crate::pairs::{measure, put_lines};
+use crate::pair_lines::{measure, put_lines};
 use crate::{TEXT, refuse_line, too_long};
 use answers::Answer;
 use answers::results::refuse;

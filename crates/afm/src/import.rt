@@ -4,7 +4,7 @@ ghost use Rattle.sections.specs.Afm.{import_call, imported};
 ghost use Rattle.answers.specs.Outcomes.{GivesText};
 ghost use Rattle.afm.specs.Section.{section_behind};
 
-use crate::pairs::{measure, put_lines};
+use crate::pair_lines::{measure, put_lines};
 use crate::section::{end_fault, start_line};
 use crate::{TEXT, refuse_line, too_long};
 use answers::Answer;

@@ -10,7 +10,7 @@ use answers::Answer;
 
 pub mod export;
 pub mod import;
-mod pairs;
+mod pair_lines;
 mod section;
 
 // The longest text that is read or given.

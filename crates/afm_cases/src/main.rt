@@ -5,12 +5,13 @@
 mod run;
 mod show;
 
-use libc::STDIN_FILENO;
+use inputs::read_full;
+use std::io;
 
-fn main() {
-    let mut script = io::large_buffer();
-    let n = io::read_full(STDIN_FILENO, &mut script);
-    let mut text = io::large_buffer();
-    let mut out = io::large_buffer();
-    run::run(&script[..n], &mut text, &mut out);
+fn main(rt: HostRuntime) -> io::Result<()> {
+    let mut script = [0u8; 65536];
+    let n = read_full(&mut rt.stdin(), &mut script)?;
+    let mut text = [0u8; 65536];
+    let mut out = [0u8; 65536];
+    run::run(&rt, &script[..n], &mut text, &mut out)
 }

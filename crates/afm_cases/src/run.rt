@@ -1,6 +1,7 @@
 // The lines of a script, one after the other.
 use crate::show;
 use script::{append, append_numbers, append_times, argument, find, letters, number, within};
+use std::io;
 use texts::write_text;
 
 // How many bytes the text has, how many are lent for an answer, and how many the last result has.
@@ -34,7 +35,7 @@ const IMPORT: u64 = 256 * (b'i' as u64) + b'm' as u64;
 
 const EXPORT: u64 = 256 * (b'e' as u64) + b'x' as u64;
 
-pub fn run(script: &[u8], text: &mut [u8], out: &mut [u8]) {
+pub fn run(rt: &impl Print, script: &[u8], text: &mut [u8], out: &mut [u8]) -> io::Result<()> {
     let mut state = State {
         text: 0,
         room: out.len(),
@@ -43,15 +44,22 @@ pub fn run(script: &[u8], text: &mut [u8], out: &mut [u8]) {
     let mut at = 0;
     while at < script.len() {
         let end = find(script, at, b'\n');
-        state = step(&script[at..end], state, text, out);
+        state = step(rt, &script[at..end], state, text, out)?;
         at = end + 1;
     }
+    Ok(())
 }
 
-fn step(line: &[u8], state: State, text: &mut [u8], out: &mut [u8]) -> State {
+fn step(
+    rt: &impl Print,
+    line: &[u8],
+    state: State,
+    text: &mut [u8],
+    out: &mut [u8],
+) -> io::Result<State> {
     let with_text = set_text(line, state, text);
     let with_room = set_room(line, with_text, text, out);
-    call(line, with_room, text, out)
+    call(rt, line, with_room, text, out)
 }
 
 // A line that sets the text, or makes it longer.
@@ -96,15 +104,21 @@ fn take(count: usize, text: &mut [u8], out: &[u8]) -> usize {
 }
 
 // A line that makes a call, or shows the text. It is written with the answer, as the case's name.
-fn call(line: &[u8], state: State, text: &[u8], out: &mut [u8]) -> State {
+fn call(
+    rt: &impl Print,
+    line: &[u8],
+    state: State,
+    text: &[u8],
+    out: &mut [u8],
+) -> io::Result<State> {
     let t = within(state.text, text);
     let o = within(state.room, out);
     let mut next = state;
     match letters(line) {
-        SHOW => show::text(line, &text[0..t]),
-        IMPORT => next.result = show::import(line, &text[0..t], &mut out[0..o]),
-        EXPORT => next.result = show::export(line, &text[0..t], &mut out[0..o]),
+        SHOW => show::text(rt, line, &text[0..t])?,
+        IMPORT => next.result = show::import(rt, line, &text[0..t], &mut out[0..o])?,
+        EXPORT => next.result = show::export(rt, line, &text[0..t], &mut out[0..o])?,
         _ => {}
     }
-    next
+    Ok(next)
 }

@@ -1,8 +1,8 @@
 // A case's answer: its name, and `result` with the length and what it holds, or `refused` with number and node; then whether the rest of the buffer,
 // of a refusal all of it, is `untouched` or `changed`.
 use answers::Answer;
-use libc::STDOUT_FILENO;
 use script::{fill, within};
+use std::io;
 
 // Above this, a sum over a text's bytes stands for it.
 const LONGEST_SHOWN: usize = 200;
@@ -13,25 +13,20 @@ const MARK: u8 = b'.';
 // What sums are taken modulo: the largest prime below 2 to the 32.
 const PRIME: u64 = 4294967291;
 
-fn write(text: &[u8]) {
-    io::write_all(STDOUT_FILENO, text);
-}
-
 // A number, with a space in front.
-fn write_number(number: usize) {
-    write(b" ");
-    io::print_decimal(STDOUT_FILENO, number as u64);
+fn write_number(rt: &impl Print, number: usize) -> io::Result<()> {
+    print!(rt; " {number}")
 }
 
 // A text in quotes, or the sum of a longer one.
-fn write_content(text: &[u8]) {
+fn write_content(rt: &impl Print, text: &[u8]) -> io::Result<()> {
     if text.len() <= LONGEST_SHOWN {
-        write(b" \"");
-        write(text);
-        write(b"\"");
+        rt.write_all(b" \"")?;
+        rt.write_all(text)?;
+        rt.write_all(b"\"")
     } else {
-        write(b" sum ");
-        io::print_decimal(STDOUT_FILENO, sum(text));
+        let so_far = sum(text);
+        print!(rt; " sum {so_far}")
     }
 }
 
@@ -63,57 +58,57 @@ fn untouched(part: &[u8]) -> bool {
 }
 
 // The end of a line: how the part of the buffer is that is no result.
-fn end(part: &[u8]) {
+fn end(rt: &impl Print, part: &[u8]) -> io::Result<()> {
     if untouched(part) {
-        write(b" untouched\n");
+        rt.write_all(b" untouched\n")
     } else {
-        write(b" changed\n");
+        rt.write_all(b" changed\n")
     }
 }
 
 // The text that a call would be made with.
-pub fn text(name: &[u8], text: &[u8]) {
-    write(name);
-    write(b": length");
-    write_number(text.len());
-    write_content(text);
-    write(b"\n");
+pub fn text(rt: &impl Print, name: &[u8], text: &[u8]) -> io::Result<()> {
+    rt.write_all(name)?;
+    rt.write_all(b": length")?;
+    write_number(rt, text.len())?;
+    write_content(rt, text)?;
+    rt.write_all(b"\n")
 }
 
 // What a call answered, whose result is at the start of its buffer. Returns the result's length, and 0 where there is none.
-fn answer(name: &[u8], answer: Answer, out: &[u8]) -> usize {
-    write(name);
+fn answer(rt: &impl Print, name: &[u8], answer: Answer, out: &[u8]) -> io::Result<usize> {
+    rt.write_all(name)?;
     match answer {
-        Answer::Result { length } => result(length, out),
-        Answer::Refusal { number, node } => refused(number, node, out),
+        Answer::Result { length } => result(rt, length, out),
+        Answer::Refusal { number, node } => refused(rt, number, node, out),
     }
 }
 
-fn result(length: usize, out: &[u8]) -> usize {
+fn result(rt: &impl Print, length: usize, out: &[u8]) -> io::Result<usize> {
     let n = within(length, out);
-    write(b": result");
-    write_number(length);
-    write_content(&out[0..n]);
-    end(&out[n..]);
-    n
+    rt.write_all(b": result")?;
+    write_number(rt, length)?;
+    write_content(rt, &out[0..n])?;
+    end(rt, &out[n..])?;
+    Ok(n)
 }
 
-fn refused(number: usize, node: usize, out: &[u8]) -> usize {
-    write(b": refused");
-    write_number(number);
-    write_number(node);
-    end(out);
-    0
+fn refused(rt: &impl Print, number: usize, node: usize, out: &[u8]) -> io::Result<usize> {
+    rt.write_all(b": refused")?;
+    write_number(rt, number)?;
+    write_number(rt, node)?;
+    end(rt, out)?;
+    Ok(0)
 }
 
-pub fn import(name: &[u8], section: &[u8], out: &mut [u8]) -> usize {
+pub fn import(rt: &impl Print, name: &[u8], section: &[u8], out: &mut [u8]) -> io::Result<usize> {
     fill(out, MARK);
     let made = afm::import::import(section, out);
-    answer(name, made, out)
+    answer(rt, name, made, out)
 }
 
-pub fn export(name: &[u8], sheet: &[u8], out: &mut [u8]) -> usize {
+pub fn export(rt: &impl Print, name: &[u8], sheet: &[u8], out: &mut [u8]) -> io::Result<usize> {
     fill(out, MARK);
     let made = afm::export::export(sheet, out);
-    answer(name, made, out)
+    answer(rt, name, made, out)
 }

@@ -1,11 +1,9 @@
 -- What stands at and below a node, from what stands below it, and how it is stored. Assumes nothing.
 use mathlib.Core.Path.{◌≡◌, refl, sym, ap, subst, ◌∙◌}
 use mathlib.Core.Bool.{Bool, true, false, ◌||◌, cond}
-use mathlib.Core.List.{List, [], ◌∷◌}
+use mathlib.Core.List.{List}
 use Prim.Native.Nat.{ℕ, ◌+◌, ◌*◌, ◌≤◌, ◌<◌}
 use native.Mathlib.Omega.{arith}
-use types.Run.{OneOf, miss}
-use denote.Enum.Declared.{tag_of}
 use lib.Dec.{eqb}
 use lib.ListN.{length, get_or, set, length-set}
 use lib.Seq.{get_or-set_same, get_or-set_other}
@@ -20,7 +18,6 @@ use Rattle.table.specs.declared.Kind.TheVariants.{Word, OneOf as ByteOf, Pattern
 use Rattle.table.specs.declared.Node.{Node}
 use Rattle.table.specs.Prepared.{OneLens, TwoLenses, Shows}
 use Rattle.table.specs.Rules.{AllSized, NodeRead}
-use Rattle.table.specs.contracts.Kind.{the_type}
 use Rattle.positions.specs.declared.Set.{Set}
 use Rattle.positions.specs.Positions.{Empty, Joined}
 use Rattle.lens.specs.SourceKeys.{has_union}
@@ -53,10 +50,6 @@ over_two a-is b_is joined inner outer counted =
 no_lens : {A : Type 0} (r : Pattern) (l : Lens) → pattern r ≡ lens l → A
 no_lens r l e = absurd (let z : ◌≡◌ {A = ℕ} 0 1 = cc e in omega arith)
 
--- the patterns, copy, const and key, by their places among the kinds
-abbrev pub leaf_kinds : List ℕ
-leaf_kinds = 0 ∷ 1 ∷ 2 ∷ 3 ∷ 4 ∷ 5 ∷ 6 ∷ 7 ∷ []
-
 -- a node's lens is the one that it was seen to be
 stands_as : {bytes : Text} {k : ℕ} {s : Standing} (m : Lens) → tree_at (trees bytes) k ≡ lens m → Stands s m → NodeStands bytes k s
 stands_as {s = s} m is stands = record { stands = λ l e. subst (Stands s) (same_lens m l (sym is ∙ e)) stands }
@@ -69,13 +62,16 @@ module _ {bytes : Text} {k : ℕ} {n : Node} (read : NodeRead bytes k n) where
   -- patterns, and lenses that hold no other
   pub leaf_stands :
       {s : Standing}
-      → OneOf leaf_kinds (tag_of the_type n.kind)
+      → ((a b : ℕ) → n.kind ≡ LensJoin a b → ⊥)
+      → ((a b : ℕ) → n.kind ≡ LensUnion a b → ⊥)
+      → ((a : ℕ) → n.kind ≡ LensRepeat a → ⊥)
+      → ((a : ℕ) → n.kind ≡ Match a → ⊥)
       → Empty s.asked
       → s.union ≡ false
       → s.count ≡ 0
       → NodeStands bytes k s
   unfolding Shows asks has_union
-  leaf_stands {s} tag none free zero-met = go n.kind tag read.shows
+  leaf_stands {s} no_join no_union no_repeat no_match none free zero-met = go n.kind refl read.shows
     where
       leaf :
           (l : Lens)
@@ -94,19 +90,19 @@ module _ {bytes : Text} {k : ℕ} {n : Node} (read : NodeRead bytes k n) where
             count_is = rw zero-met even;
           })
 
-      go : (κ : Kind) → OneOf leaf_kinds (tag_of the_type κ) → Shows bytes k κ → NodeStands bytes k s
-      go (Word start len) tag s = stands_none _ s.tree_is
-      go (ByteOf at runs) tag s = stands_none _ s.tree_is
-      go (PatternJoin a b) tag s = stands_none _ s.tree_is
-      go (PatternUnion a b) tag s = stands_none _ s.tree_is
-      go (PatternRepeat a) tag s = stands_none _ s.tree_is
-      go (Copy a) tag s = leaf _ s.tree_is (λ m. refl) refl (even_copy _)
-      go (Const a b c) tag s = leaf _ s.tree_is (λ m. refl) refl (even_const _ _ _)
-      go (Key a) tag s = leaf _ s.tree_is (λ m. refl) refl (even_key _)
-      go (LensJoin a b) tag s = absurd (miss leaf_kinds 8 tt tag)
-      go (LensUnion a b) tag s = absurd (miss leaf_kinds 9 tt tag)
-      go (LensRepeat a) tag s = absurd (miss leaf_kinds 10 tt tag)
-      go (Match a) tag s = absurd (miss leaf_kinds 11 tt tag)
+      go : (κ : Kind) → n.kind ≡ κ → Shows bytes k κ → NodeStands bytes k s
+      go (Word start len) e s = stands_none _ s.tree_is
+      go (ByteOf at runs) e s = stands_none _ s.tree_is
+      go (PatternJoin a b) e s = stands_none _ s.tree_is
+      go (PatternUnion a b) e s = stands_none _ s.tree_is
+      go (PatternRepeat a) e s = stands_none _ s.tree_is
+      go (Copy a) e s = leaf _ s.tree_is (λ m. refl) refl (even_copy _)
+      go (Const a b c) e s = leaf _ s.tree_is (λ m. refl) refl (even_const _ _ _)
+      go (Key a) e s = leaf _ s.tree_is (λ m. refl) refl (even_key _)
+      go (LensJoin a b) e s = absurd (no_join a b e)
+      go (LensUnion a b) e s = absurd (no_union a b e)
+      go (LensRepeat a) e s = absurd (no_repeat a e)
+      go (Match a) e s = absurd (no_match a e)
 
   module _ {below : List ℕ} (to : BelowTo bytes below k) where
     -- what is stored of the nodes below

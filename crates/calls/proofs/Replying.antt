@@ -69,8 +69,8 @@ module _ {bytes new old trail before after : Text} {r : Made} {b : Book} (book :
       → SameCounts taken (tally l new old)
   tally_same from l e n counted =
       let (dropped_is, olds, news) = counts_are l e n counted in
-      let (kept, Met-all, dropped) = from.counts n counted in
-      (omega (arith, kept, olds), omega (arith, kept, olds, Met-all, news), dropped ∙ sym dropped_is)
+      let (kept, met_all, dropped) = from.counts n counted in
+      (omega (arith, kept, olds), omega (arith, kept, olds, met_all, news), dropped ∙ sym dropped_is)
 
 -- ---- What is replied
 

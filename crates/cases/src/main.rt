@@ -5,14 +5,22 @@
 mod run;
 mod show;
 
-use libc::STDIN_FILENO;
+use inputs::read_full;
+use std::io;
 
-fn main() {
-    let mut script = io::large_buffer();
-    let n = io::read_full(STDIN_FILENO, &mut script);
-    let mut table = io::buffer();
-    let mut sheet = io::large_buffer();
-    let mut source = io::large_buffer();
-    let mut out = io::large_buffer();
-    run::run(&script[..n], &mut table, &mut sheet, &mut source, &mut out);
+fn main(rt: HostRuntime) -> io::Result<()> {
+    let mut script = [0u8; 65536];
+    let n = read_full(&mut rt.stdin(), &mut script)?;
+    let mut table = [0u8; 4096];
+    let mut sheet = [0u8; 65536];
+    let mut source = [0u8; 65536];
+    let mut out = [0u8; 65536];
+    run::run(
+        &rt,
+        &script[..n],
+        &mut table,
+        &mut sheet,
+        &mut source,
+        &mut out,
+    )
 }

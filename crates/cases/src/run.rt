@@ -1,6 +1,7 @@
 // The lines of a script, one after the other.
 use crate::show;
 use script::{append, append_numbers, append_times, argument, find, letters, number, within};
+use std::io;
 
 // How much of each buffer is in use, the length that is lent for an answer, and which text was set last.
 #[derive(Clone, Copy)]
@@ -43,7 +44,14 @@ const CLASH: u64 = 256 * (b'c' as u64) + b'l' as u64;
 
 const BUFFER: u64 = 256 * (b'b' as u64) + b'u' as u64;
 
-pub fn run(script: &[u8], table: &mut [u8], sheet: &mut [u8], source: &mut [u8], out: &mut [u8]) {
+pub fn run(
+    rt: &impl Print,
+    script: &[u8],
+    table: &mut [u8],
+    sheet: &mut [u8],
+    source: &mut [u8],
+    out: &mut [u8],
+) -> io::Result<()> {
     let mut state = State {
         table: 0,
         sheet: 0,
@@ -54,23 +62,25 @@ pub fn run(script: &[u8], table: &mut [u8], sheet: &mut [u8], source: &mut [u8],
     let mut at = 0;
     while at < script.len() {
         let end = find(script, at, b'\n');
-        state = step(&script[at..end], state, table, sheet, source, out);
+        state = step(rt, &script[at..end], state, table, sheet, source, out)?;
         at = end + 1;
     }
+    Ok(())
 }
 
 fn step(
+    rt: &impl Print,
     line: &[u8],
     state: State,
     table: &mut [u8],
     sheet: &mut [u8],
     source: &mut [u8],
     out: &mut [u8],
-) -> State {
+) -> io::Result<State> {
     let with_program = set_program(line, state, table);
     let with_texts = set_texts(line, with_program, sheet, source);
-    call(line, with_texts, table, sheet, source, out);
-    with_texts
+    call(rt, line, with_texts, table, sheet, source, out)?;
+    Ok(with_texts)
 }
 
 // A line that sets the table, or the length that is lent for an answer.
@@ -122,32 +132,49 @@ fn lengthen(rest: &[u8], state: State, sheet: &mut [u8], source: &mut [u8]) -> S
 }
 
 // A line that makes a call, or shows the buffer of the last one.
-fn call(line: &[u8], state: State, table: &[u8], sheet: &[u8], source: &[u8], out: &mut [u8]) {
+fn call(
+    rt: &impl Print,
+    line: &[u8],
+    state: State,
+    table: &[u8],
+    sheet: &[u8],
+    source: &[u8],
+    out: &mut [u8],
+) -> io::Result<()> {
     let name = argument(line);
     let t = within(state.table, table);
     let v = within(state.sheet, sheet);
     let s = within(state.source, source);
     let o = within(state.room, out);
     answer(
+        rt,
         letters(line),
         &line[name..],
         &table[0..t],
         &sheet[0..v],
         &source[0..s],
         &mut out[0..o],
-    );
+    )
 }
 
-fn answer(word: u64, name: &[u8], table: &[u8], sheet: &[u8], source: &[u8], out: &mut [u8]) {
+fn answer(
+    rt: &impl Print,
+    word: u64,
+    name: &[u8],
+    table: &[u8],
+    sheet: &[u8],
+    source: &[u8],
+    out: &mut [u8],
+) -> io::Result<()> {
     match word {
-        CHECK => show::check(name, table),
-        LINE => show::line(name, table),
-        GET => show::get(name, table, source, out),
-        PUT => show::put(name, table, sheet, source, out),
-        COUNTS => show::counts(name, table, sheet, source, out),
-        CREATE => show::create(name, table, sheet, out),
-        CLASH => show::clash(name, table, out),
-        BUFFER => show::text(name, out),
-        _ => {}
+        CHECK => show::check(rt, name, table),
+        LINE => show::line(rt, name, table),
+        GET => show::get(rt, name, table, source, out),
+        PUT => show::put(rt, name, table, sheet, source, out),
+        COUNTS => show::counts(rt, name, table, sheet, source, out),
+        CREATE => show::create(rt, name, table, sheet, out),
+        CLASH => show::clash(rt, name, table, out),
+        BUFFER => show::text(rt, name, out),
+        _ => Ok(()),
     }
 }

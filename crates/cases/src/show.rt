@@ -2,8 +2,8 @@
 // `no clash`, or `clash` with number, node and the two ends (of a union its children), and then the text as above.
 use answers::results::without_tally;
 use answers::{Answer, ClashAnswer, PutAnswer};
-use libc::STDOUT_FILENO;
 use script::fill;
+use std::io;
 
 // Above this, a text's length stands for it.
 const LONGEST_SHOWN: usize = 200;
@@ -12,87 +12,101 @@ const LONGEST_SHOWN: usize = 200;
 const MARK: u8 = b'-';
 
 // A name and what goes between it and the answer.
-fn begin(name: &[u8]) {
-    io::write_all(STDOUT_FILENO, name);
-    io::write_all(STDOUT_FILENO, b": ");
+fn begin(rt: &impl Print, name: &[u8]) -> io::Result<()> {
+    rt.write_all(name)?;
+    rt.write_all(b": ")
 }
 
 // A text in quotes, and the end of its line.
-fn quoted(text: &[u8]) {
-    io::write_all(STDOUT_FILENO, b"\"");
-    io::write_all(STDOUT_FILENO, text);
-    io::write_all(STDOUT_FILENO, b"\"\n");
+fn quoted(rt: &impl Print, text: &[u8]) -> io::Result<()> {
+    rt.write_all(b"\"")?;
+    rt.write_all(text)?;
+    rt.write_all(b"\"\n")
 }
 
 // A result that is not shown, by its length.
-fn result(length: usize) {
-    io::write_all(STDOUT_FILENO, b"result ");
-    io::print_decimal(STDOUT_FILENO, length as u64);
-    io::write_all(STDOUT_FILENO, b"\n");
+fn result(rt: &impl Print, length: usize) -> io::Result<()> {
+    println!(rt; "result {length}")
 }
 
-fn refused(number: usize, node: usize) {
-    io::write_all(STDOUT_FILENO, b"refused ");
-    io::print_decimal(STDOUT_FILENO, number as u64);
-    io::write_all(STDOUT_FILENO, b" ");
-    io::print_decimal(STDOUT_FILENO, node as u64);
-    io::write_all(STDOUT_FILENO, b"\n");
+fn refused(rt: &impl Print, number: usize, node: usize) -> io::Result<()> {
+    println!(rt; "refused {number} {node}")
 }
 
 // What a call answered, whose result is at the start of its buffer.
-fn answer(answer: Answer, out: &[u8]) {
+fn answer(rt: &impl Print, answer: Answer, out: &[u8]) -> io::Result<()> {
     match answer {
         Answer::Result { length } => {
             if length <= LONGEST_SHOWN && length <= out.len() {
-                quoted(&out[0..length]);
+                quoted(rt, &out[0..length])
             } else {
-                result(length);
+                result(rt, length)
             }
         }
-        Answer::Refusal { number, node } => refused(number, node),
+        Answer::Refusal { number, node } => refused(rt, number, node),
     }
 }
 
 // A text that is no answer.
-pub fn text(name: &[u8], text: &[u8]) {
-    begin(name);
-    quoted(text);
+pub fn text(rt: &impl Print, name: &[u8], text: &[u8]) -> io::Result<()> {
+    begin(rt, name)?;
+    quoted(rt, text)
 }
 
-pub fn check(name: &[u8], table: &[u8]) {
-    begin(name);
+pub fn check(rt: &impl Print, name: &[u8], table: &[u8]) -> io::Result<()> {
+    begin(rt, name)?;
     let checked = engine::check(table);
     match checked {
-        Answer::Result { length } => result(length),
-        Answer::Refusal { number, node } => refused(number, node),
+        Answer::Result { length } => result(rt, length),
+        Answer::Refusal { number, node } => refused(rt, number, node),
     }
 }
 
 // The line that `lenscheck` prints of a table.
-pub fn line(name: &[u8], table: &[u8]) {
-    begin(name);
+pub fn line(rt: &impl Print, name: &[u8], table: &[u8]) -> io::Result<()> {
+    begin(rt, name)?;
     let mut line = [0u8; 64];
     let length = engine::lenscheck_line(table, &mut line);
-    io::write_all(STDOUT_FILENO, &line[0..length]);
+    rt.write_all(&line[0..length])
 }
 
-pub fn get(name: &[u8], table: &[u8], source: &[u8], out: &mut [u8]) {
-    begin(name);
+pub fn get(
+    rt: &impl Print,
+    name: &[u8],
+    table: &[u8],
+    source: &[u8],
+    out: &mut [u8],
+) -> io::Result<()> {
+    begin(rt, name)?;
     fill(out, MARK);
     let got = engine::get::get(table, source, out);
-    answer(got, out);
+    answer(rt, got, out)
 }
 
-pub fn put(name: &[u8], table: &[u8], sheet: &[u8], source: &[u8], out: &mut [u8]) {
-    begin(name);
+pub fn put(
+    rt: &impl Print,
+    name: &[u8],
+    table: &[u8],
+    sheet: &[u8],
+    source: &[u8],
+    out: &mut [u8],
+) -> io::Result<()> {
+    begin(rt, name)?;
     fill(out, MARK);
     let made = without_tally(engine::put::put(table, sheet, source, out));
-    answer(made, out);
+    answer(rt, made, out)
 }
 
 // The counts of a put.
-pub fn counts(name: &[u8], table: &[u8], sheet: &[u8], source: &[u8], out: &mut [u8]) {
-    begin(name);
+pub fn counts(
+    rt: &impl Print,
+    name: &[u8],
+    table: &[u8],
+    sheet: &[u8],
+    source: &[u8],
+    out: &mut [u8],
+) -> io::Result<()> {
+    begin(rt, name)?;
     fill(out, MARK);
     let counted = engine::put::put(table, sheet, source, out);
     match counted {
@@ -101,36 +115,34 @@ pub fn counts(name: &[u8], table: &[u8], sheet: &[u8], source: &[u8], out: &mut 
             kept,
             made,
             dropped,
-        } => tally(kept, made, dropped),
-        PutAnswer::Refusal { number, node } => refused(number, node),
+        } => tally(rt, kept, made, dropped),
+        PutAnswer::Refusal { number, node } => refused(rt, number, node),
     }
 }
 
-fn tally(kept: usize, made: usize, dropped: usize) {
-    io::write_all(STDOUT_FILENO, b"kept ");
-    io::print_decimal(STDOUT_FILENO, kept as u64);
-    io::write_all(STDOUT_FILENO, b" made ");
-    io::print_decimal(STDOUT_FILENO, made as u64);
-    io::write_all(STDOUT_FILENO, b" dropped ");
-    io::print_decimal(STDOUT_FILENO, dropped as u64);
-    io::write_all(STDOUT_FILENO, b"\n");
+fn tally(rt: &impl Print, kept: usize, made: usize, dropped: usize) -> io::Result<()> {
+    println!(rt; "kept {kept} made {made} dropped {dropped}")
 }
 
-pub fn create(name: &[u8], table: &[u8], sheet: &[u8], out: &mut [u8]) {
-    begin(name);
+pub fn create(
+    rt: &impl Print,
+    name: &[u8],
+    table: &[u8],
+    sheet: &[u8],
+    out: &mut [u8],
+) -> io::Result<()> {
+    begin(rt, name)?;
     fill(out, MARK);
     let made = engine::create::create(table, sheet, out);
-    answer(made, out);
+    answer(rt, made, out)
 }
 
-pub fn clash(name: &[u8], table: &[u8], out: &mut [u8]) {
-    begin(name);
+pub fn clash(rt: &impl Print, name: &[u8], table: &[u8], out: &mut [u8]) -> io::Result<()> {
+    begin(rt, name)?;
     fill(out, MARK);
     let found = engine::show::clash(table, out);
     match found {
-        ClashAnswer::Accepted => {
-            io::write_all(STDOUT_FILENO, b"no clash\n");
-        }
+        ClashAnswer::Accepted => println!(rt; "no clash"),
         ClashAnswer::Clash {
             number,
             node,
@@ -138,19 +150,16 @@ pub fn clash(name: &[u8], table: &[u8], out: &mut [u8]) {
             first,
             second,
         } => {
-            io::write_all(STDOUT_FILENO, b"clash ");
-            spaced(number, node);
-            spaced(first, second);
-            answer(Answer::Result { length }, out);
+            rt.write_all(b"clash ")?;
+            spaced(rt, number, node)?;
+            spaced(rt, first, second)?;
+            answer(rt, Answer::Result { length }, out)
         }
-        ClashAnswer::Refusal { number, node } => refused(number, node),
+        ClashAnswer::Refusal { number, node } => refused(rt, number, node),
     }
 }
 
 // Two numbers, with a space behind each.
-fn spaced(first: usize, second: usize) {
-    io::print_decimal(STDOUT_FILENO, first as u64);
-    io::write_all(STDOUT_FILENO, b" ");
-    io::print_decimal(STDOUT_FILENO, second as u64);
-    io::write_all(STDOUT_FILENO, b" ");
+fn spaced(rt: &impl Print, first: usize, second: usize) -> io::Result<()> {
+    print!(rt; "{first} {second} ")
 }

@@ -6,7 +6,7 @@ use Rattle.semantics.specs.Text.{Text, same_text, least, joined, some_passes}
 use Rattle.semantics.specs.Pattern.{Pattern, word, one_of, alt, star, range, in_run, in_class, nullable, before, heads, matches}
 use Rattle.semantics.specs.Ambiguity.{runs_meet, share_byte, same_run, same_class, same_pattern, same_pair}
 use Rattle.clash.specs.Clash.{Rule, one_cut, one_arm, one_list, is_end, first_end, second_end}
-use Rattle.clash.specs.Computed.{pairs, ways, ends, same_twofold, added, kept, after, next, some_left, lowest_left, lowest_read, clashed}
+use Rattle.clash.proofs.Computed.{pairs, ways, ends, same_twofold, added, kept, after, next, some_left, lowest_left, lowest_read, clashed}
 
 -- To unfold this is to unfold every definition that the cases compute with.
 unfoldable evaluates : Unit {0}

@@ -16,10 +16,10 @@ use Rattle.semantics.specs.Calls.{refuses, program, with_program, check_call}
 use Rattle.laws.specs.Basics.{cond_true, cond_false, or_left, or_right}
 use Rattle.laws.specs.Refusals.{program_refusal}
 use Rattle.clash.specs.Clash.{rule_at, clash_text, ends_of, clash, refused, side_of, shown, clash_at, clash_of, clash_call, buffer_after}
-use Rattle.clash.specs.Calls.{rule_broken}
+use Rattle.clash.proofs.Calls.{rule_broken}
 use Rattle.answers.specs.declared.ClashAnswer.TheVariants.{Clash, Refusal}
 use Rattle.answers.specs.Outcomes.{clash_answer_for, GivesClash}
-use Rattle.clashes.specs.declared.texts.Shown.{Shown}
+use Rattle.clashes.specs.declared.shown_texts.Shown.{Shown}
 use Rattle.clashes.specs.Shows.{Shows, BrokenAt}
 
 -- ---- The side

@@ -5,7 +5,7 @@ use Rattle.semantics.specs.Text.{Text}
 use Rattle.semantics.specs.Pattern.{Pattern, nullable}
 use Rattle.semantics.specs.Table.{Node}
 use Rattle.clash.specs.Clash.{one_list, ends_of}
-use Rattle.clashes.specs.declared.texts.Shown.{Shown}
+use Rattle.clashes.specs.declared.shown_texts.Shown.{Shown}
 use Rattle.clashes.specs.Shows.{Shows}
 use Rattle.clashes.proofs.Showing.{empty_clash, shows_empty}
 use Rattle.clashes.proofs.Rules.{empty_breaks, empty_ends}

@@ -14,7 +14,7 @@ use Rattle.automaton.specs.declared.Side.{Side}
 use Rattle.automaton.specs.Rows.{side_of, automaton_at, Describes}
 use Rattle.automaton.specs.Built.{Built}
 use Rattle.typing.proofs.Faults.{speaks_for}
-use Rattle.clashes.specs.declared.texts.Shown.{Shown}
+use Rattle.clashes.specs.declared.shown_texts.Shown.{Shown}
 use Rattle.clashes.specs.Shows.{ShowsText, Shows, CutRule, CutAsked, ArmRule, ArmAsked, ListRule, ListAsked, BrokenAt}
 use Rattle.clashes.proofs.Rules.{join_rule}
 use Rattle.clashes.proofs.Empty.{repeat_empty}

@@ -8,7 +8,7 @@ use Rattle.semantics.specs.Pattern.{Pattern, concat, star, nullable}
 use Rattle.semantics.specs.Table.{Node, positions}
 use Rattle.laws.specs.Basics.{not_both}
 use Rattle.clash.specs.Clash.{one_cut, one_list, cut_twice, first_end, second_end, breaks, ends_of}
-use Rattle.clash.specs.Twofold.{join_whole, repeat_whole, cut_end}
+use Rattle.clash.proofs.Twofold.{join_whole, repeat_whole, cut_end}
 use Rattle.automaton.specs.declared.Automaton.{Automaton}
 use Rattle.automaton.specs.Rows.{Describes}
 use Rattle.clashes.specs.Shows.{CutRule, CutAsked, ListRule, ListAsked}

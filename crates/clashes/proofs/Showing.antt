@@ -25,16 +25,16 @@ use Rattle.clash.specs.Clash.{
   shortest_text,
   clash_text,
 }
-use Rattle.clash.specs.Bound.{rule_positions, short_clash}
-use Rattle.clash.specs.Twofold.{arm_end}
-use Rattle.clash.specs.Ends.{least_first}
-use Rattle.clash.specs.Given.{given_is, clash_given}
+use Rattle.clash.proofs.Bound.{rule_positions, short_clash}
+use Rattle.clash.proofs.Twofold.{arm_end}
+use Rattle.clash.proofs.Ends.{least_first}
+use Rattle.clash.proofs.Given.{given_is, clash_given}
 use Rattle.automaton.specs.declared.Automaton.{Automaton}
 use Rattle.automaton.specs.Rows.{Room, Describes}
 use Rattle.search.specs.declared.patches.Quest.{Quest}
 use Rattle.quests.specs.Quests.{cut_quest, arm_quest, QuestOf, Asks, Answerable, Hunted}
 use Rattle.quests.proofs.Readings.{cut_asks, cut_quest_of, arm_asks, arm_quest_of}
-use Rattle.clashes.specs.declared.texts.Shown.{Shown}
+use Rattle.clashes.specs.declared.shown_texts.Shown.{Shown}
 use Rattle.clashes.specs.Shows.{ShowsText, Shows, CutRule, CutAsked, ArmRule, ArmAsked}
 
 -- ---- The text of the rule

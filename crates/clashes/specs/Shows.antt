@@ -5,11 +5,11 @@ use Rattle.semantics.specs.Pattern.{Pattern, star}
 use Rattle.semantics.specs.Lens.{Side as SideOf}
 use Rattle.semantics.specs.Table.{Node, positions, tree_at, trees}
 use Rattle.clash.specs.Clash.{Rule, one_arm, one_list, cut_twice, first_end, second_end, breaks, clash_text, ends_of, rule_at}
-use Rattle.clash.specs.Twofold.{Whole}
-use Rattle.clash.specs.Bound.{rule_positions}
+use Rattle.clash.proofs.Twofold.{Whole}
+use Rattle.clash.proofs.Bound.{rule_positions}
 use Rattle.automaton.specs.declared.Automaton.{Automaton}
 use Rattle.automaton.specs.Rows.{Describes}
-use Rattle.clashes.specs.declared.texts.Shown.{Shown}
+use Rattle.clashes.specs.declared.shown_texts.Shown.{Shown}
 
 -- ---- What is shown
 

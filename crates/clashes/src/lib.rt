@@ -14,13 +14,13 @@ ghost use Rattle.clashes.specs.Shows.{Shows, BrokenAt};
 use answers::ClashAnswer;
 use automaton::Side;
 use nodes::{show_join, show_repeat, show_union};
+use shown_texts::{Shown, nothing};
 use table::parts::operand;
 use table::{Kind, Table};
-use texts::{Shown, nothing};
 
 mod nodes;
 mod rooms;
-mod texts;
+mod shown_texts;
 
 // The side on which a rule is broken: 8 and 11 are about sheets.
 fn side_of(number: usize) -> Side

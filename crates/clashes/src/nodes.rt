@@ -6,7 +6,7 @@ ghost use Rattle.automaton.specs.Rows.{automaton_at};
 ghost use Rattle.typing.specs.Round.{Stands};
 ghost use Rattle.clashes.specs.Shows.{ShowsText, Shows, CutRule, CutAsked, ArmRule, ArmAsked, ListRule, ListAsked};
 
-use crate::texts::{Shown, nothing, show_cut, show_overlap};
+use crate::shown_texts::{Shown, nothing, show_cut, show_overlap};
 use automaton::{Side, automaton_of};
 
 // A text of a join with two cuts.

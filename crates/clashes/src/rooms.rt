@@ -39,6 +39,7 @@ fn full_starts() -> [u16; 32770]
     [0u16; 32770]
 }
 
+#[inline(never)]
 fn find_small(
     prepared: &[u64],
     quest: Quest,
@@ -66,6 +67,7 @@ fn find_small(
     )
 }
 
+#[inline(never)]
 fn find_full(
     prepared: &[u64],
     quest: Quest,

@@ -1,7 +1,10 @@
 // Files, read whole.
 ghost use Rattle.commands.specs.Files.{Holds};
 
-use libc::STDERR_FILENO;
+use inputs::{read_full, say, tell_failure};
+use std::fs;
+use std::io::{Error, ErrorKind, Read};
+use std::rt::Files;
 
 // The length of what was read; or nothing, and standard error says why.
 #[derive(Clone, Copy)]
@@ -11,63 +14,84 @@ pub enum Contents {
 }
 
 // The promise limits: the bytes that are counted lie within the buffer. It leaves open which they are, and whether there are any.
-pub fn read(path: &[u8], buffer: &mut [u8]) -> Contents
+pub fn read<R: Files + AllocGlobal, E: Print>(
+    rt: &R,
+    errors: &E,
+    path: &[u8],
+    buffer: &mut [u8],
+) -> Contents
     ensures { Holds result buffer.new }
 {
-    let fd = os::open_read(path);
-    if fd < 0 {
-        unreadable(path);
+    let Ok(name) = str::from_utf8(path) else {
+        let why = Error::new(ErrorKind::InvalidInput, "not UTF-8");
+        unreadable(rt, errors, path, &why);
         return Contents::Missing;
+    };
+    match fs::open(rt, name) {
+        Ok(file) => {
+            let mut file = file;
+            fill(rt, errors, &mut file, path, buffer)
+        }
+        Err(why) => {
+            unreadable(rt, errors, path, &why);
+            Contents::Missing
+        }
     }
-    let contents = fill(fd, path, buffer);
-    libc::close(fd);
-    contents
 }
 
 // The same of a file that the command line may not have; nothing is read then.
-pub fn read_given(given: bool, path: &[u8], buffer: &mut [u8]) -> Contents
+pub fn read_given<R: Files + AllocGlobal, E: Print>(
+    rt: &R,
+    errors: &E,
+    given: bool,
+    path: &[u8],
+    buffer: &mut [u8],
+) -> Contents
     ensures { Holds result buffer.new }
 {
     if !given {
         return Contents::Bytes(0);
     }
-    read(path, buffer)
+    read(rt, errors, path, buffer)
 }
 
 // Reads to the file's end, which has to come before the buffer's.
-fn fill(fd: i32, path: &[u8], buffer: &mut [u8]) -> Contents
+fn fill<R: AllocGlobal, E: Print, F: Read>(
+    rt: &R,
+    errors: &E,
+    file: &mut F,
+    path: &[u8],
+    buffer: &mut [u8],
+) -> Contents
     ensures { Holds result buffer.new }
 {
-    let mut n = 0;
-    while n < buffer.len() {
-        let got = libc::read(fd, &mut buffer[n..]);
-        if got < 0 {
-            unreadable(path);
-            return Contents::Missing;
+    match read_full(file, buffer) {
+        Ok(n) => {
+            if n < buffer.len() {
+                return Contents::Bytes(n);
+            }
+            too_long(errors, path);
+            Contents::Missing
         }
-        let more = io::count(got, &buffer[n..]);
-        if more == 0 {
-            return Contents::Bytes(n);
+        Err(why) => {
+            unreadable(rt, errors, path, &why);
+            Contents::Missing
         }
-        n += more;
     }
-    too_long(path);
-    Contents::Missing
 }
 
-// Called just after the call that failed, since `os::fail` tells that call's error.
-fn unreadable(path: &[u8]) {
-    os::fail(path);
-    io::write_all(
-        STDERR_FILENO,
+fn unreadable<R: AllocGlobal, E: Print>(rt: &R, errors: &E, path: &[u8], why: &Error) {
+    tell_failure(errors, rt.alloc(), path, why);
+    say(
+        errors,
         b"sheet: this file cannot be read, so nothing was done\n",
     );
 }
 
-fn too_long(path: &[u8]) {
-    io::write_all(STDERR_FILENO, path);
-    io::write_all(
-        STDERR_FILENO,
+fn too_long<E: Print>(errors: &E, path: &[u8]) {
+    say(errors, path);
+    say(
+        errors,
         b": too long\nsheet: a table has at most 899 bytes and a text 4,096, so nothing was done\n",
     );
 }

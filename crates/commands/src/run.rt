@@ -6,47 +6,64 @@ ghost use Rattle.commands.specs.Commands.{understood};
 use crate::command::{Command, command_of, words_of};
 use crate::files::{Contents, read, read_given};
 use crate::replies::{Reply, reply_to};
-use libc::{STDERR_FILENO, STDOUT_FILENO};
+use inputs::say;
 use meanings::explain_for;
+use std::rt::Files;
 
 // The command line: how many words it has, the command, and the names of its files. What is missing is empty. Says whether it is one of the four
 // command lines. What is read and written is left open, since no contract can say it.
-pub fn run(count: usize, word: &[u8], first: &[u8], second: &[u8], third: &[u8]) -> bool
+pub fn run<R: Files + Print + AllocGlobal, E: Print>(
+    rt: &R,
+    errors: &E,
+    count: usize,
+    word: &[u8],
+    first: &[u8],
+    second: &[u8],
+    third: &[u8],
+) -> bool
     ensures { result ≡ understood count word.now }
 {
     let command = command_of(word);
     if count == 0 || count != words_of(command) {
-        usage();
+        usage(errors);
         return false;
     }
-    answer(command, count, first, second, third);
+    answer(rt, errors, command, count, first, second, third);
     true
 }
 
-fn usage() {
-    io::write_all(
-        STDERR_FILENO,
+fn usage<E: Print>(errors: &E) {
+    say(
+        errors,
         b"usage: sheet check TABLE\n       sheet get TABLE SOURCE\n       sheet put TABLE SHEET SOURCE\n       sheet create TABLE SHEET\n",
     );
 }
 
-fn answer(command: Command, count: usize, first: &[u8], second: &[u8], third: &[u8]) {
-    let mut table = io::large_buffer();
-    let contents = read(first, &mut table);
+fn answer<R: Files + Print + AllocGlobal, E: Print>(
+    rt: &R,
+    errors: &E,
+    command: Command,
+    count: usize,
+    first: &[u8],
+    second: &[u8],
+    third: &[u8],
+) {
+    let mut table = [0u8; 65536];
+    let contents = read(rt, errors, first, &mut table);
     let Contents::Bytes(table_length) = contents else {
         return;
     };
-    let mut text = io::large_buffer();
-    let contents = read_given(2 < count, second, &mut text);
+    let mut text = [0u8; 65536];
+    let contents = read_given(rt, errors, 2 < count, second, &mut text);
     let Contents::Bytes(text_length) = contents else {
         return;
     };
-    let mut old_source = io::large_buffer();
-    let contents = read_given(3 < count, third, &mut old_source);
+    let mut old_source = [0u8; 65536];
+    let contents = read_given(rt, errors, 3 < count, third, &mut old_source);
     let Contents::Bytes(old_length) = contents else {
         return;
     };
-    let mut out = io::buffer();
+    let mut out = [0u8; 4096];
     let reply = reply_to(
         command,
         &table[0..table_length],
@@ -54,20 +71,17 @@ fn answer(command: Command, count: usize, first: &[u8], second: &[u8], third: &[
         &old_source[0..old_length],
         &mut out,
     );
-    show(reply, &out, &table[0..table_length]);
+    show(rt, errors, reply, &out, &table[0..table_length]);
 }
 
 // The reply to standard output, and to standard error what a refusal means, which depends on the table too.
-fn show(reply: Reply, out: &[u8], table: &[u8])
+fn show<R: Print, E: Print>(rt: &R, errors: &E, reply: Reply, out: &[u8], table: &[u8])
     requires { reply.length ≤ length out.now }
 {
     let length = reply.length;
     let number = reply.number;
-    if !io::write_all(STDOUT_FILENO, &out[0..length]) {
-        io::write_all(
-            STDERR_FILENO,
-            b"sheet: not all of the answer could be written\n",
-        );
+    if rt.write_all(&out[0..length]).is_err() {
+        say(errors, b"sheet: not all of the answer could be written\n");
     }
-    explain_for(STDERR_FILENO, number, table);
+    explain_for(errors, number, table);
 }

@@ -15,7 +15,7 @@ use Rattle.semantics.specs.Pattern.{Pattern, In, matches}
 use Rattle.laws.specs.Basics.{bool_cases}
 use Rattle.laws.specs.Membership.{matches_iff}
 use Rattle.laws.specs.PositionAutomaton.{first_law}
-use Rattle.clash.specs.Ends.{same_test}
+use Rattle.clash.proofs.Ends.{same_test}
 use Rattle.positions.specs.declared.Set.{Set}
 use Rattle.positions.specs.Positions.{Shared}
 use Rattle.automaton.specs.declared.Automaton.{Automaton}

@@ -12,7 +12,7 @@ use Rattle.semantics.specs.Text.{Text}
 use Rattle.semantics.specs.Pattern.{Pattern}
 use Rattle.laws.specs.Basics.{bool_cases, not_both}
 use Rattle.clash.specs.Clash.{EndAt, is_end, first_end, second_end, cut_twice}
-use Rattle.clash.specs.Ends.{is_end_iff, first_smallest, second_smallest, two_ends}
+use Rattle.clash.proofs.Ends.{is_end_iff, first_smallest, second_smallest, two_ends}
 use Rattle.automaton.specs.declared.Automaton.{Automaton}
 use Rattle.automaton.specs.Rows.{Describes}
 use Rattle.ends.specs.declared.Ends.{Ends}

@@ -40,8 +40,8 @@ use Rattle.clash.specs.Clash.{
   clash_call,
   buffer_after,
 }
-use Rattle.clash.specs.Given.{given_broken}
-use Rattle.clash.specs.Calls.{no_clash_iff, clash_checks, clash_shows, check_clashes, other_refusals, refused_is, long_iff, text_given, ends_smallest}
+use Rattle.clash.proofs.Given.{given_broken}
+use Rattle.clash.proofs.Calls.{no_clash_iff, clash_checks, clash_shows, check_clashes, other_refusals, refused_is, long_iff, text_given, ends_smallest}
 use Rattle.answers.specs.declared.ClashAnswer.{ClashAnswer}
 use Rattle.answers.specs.declared.ClashAnswer.TheVariants.{Accepted, Clash, Refusal}
 use Rattle.answers.specs.Outcomes.{clash_answer_for, GivesClash}

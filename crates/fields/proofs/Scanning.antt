@@ -13,7 +13,7 @@ use borrow.Author.Tests.{lt-ltb, le-ltb, le-leb, leb-true, leb-false, ne_eqb}
 use Rattle.semantics.specs.Text.{Text, same_text}
 use Rattle.laws.specs.Basics.{cond_true, cond_false, and_of, not_both, false_of_not_true}
 use Rattle.sections.specs.Afm.{semicolon, nought, begins_with, each, is_name_byte, is_name, is_digit, number_from, number_of, leading_zero, is_number, is_value}
-use Rattle.sections.specs.Splitting.{and_left, and_right, each_both, name_of, number_of_lem, is_number_lem, value_none, value_plain, value_minus, digit_range}
+use Rattle.sections.proofs.Splitting.{and_left, and_right, each_both, name_of, number_of_lem, is_number_lem, value_none, value_plain, value_minus, digit_range}
 use Rattle.fields.specs.declared.Digits.{Digits}
 use Rattle.fields.specs.declared.Line.{Line}
 use Rattle.fields.specs.declared.Form.TheVariants.{Sheet}

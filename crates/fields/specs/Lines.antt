@@ -10,7 +10,7 @@ use Rattle.std.proofs.Math.Seq.{take-append_seam, drop-append_seam}
 use Rattle.semantics.specs.Text.{Text, same_text}
 use Rattle.laws.specs.Basics.{not_both, and_both, and_of, cond_true, cond_false, same_text_eq, same_text_refl}
 use Rattle.sections.specs.Afm.{newline, space, semicolon, minus, begins_with, each, is_name_byte, is_name, is_digit, number_of, is_number, is_value, Pair, Pairs, Lines, lines_of, on_pairs, pairs_of, kpx_word}
-use Rattle.sections.specs.Splitting.{is_not, is_space, not_is, space_is, each_join, each_weaker, each_both, name_of, name_clean, value_clean, name_some, value_some, value_minus, value_plain, value_none, number_of_lem, name_begins, value_begins, begins_at, begins_none, newline_no_name, space_no_name, semicolon_no_name, lines_first, lines_ended}
+use Rattle.sections.proofs.Splitting.{is_not, is_space, not_is, space_is, each_join, each_weaker, each_both, name_of, name_clean, value_clean, name_some, value_some, value_minus, value_plain, value_none, number_of_lem, name_begins, value_begins, begins_at, begins_none, newline_no_name, space_no_name, semicolon_no_name, lines_first, lines_ended}
 use Rattle.fields.specs.declared.Form.{Form}
 use Rattle.fields.specs.declared.Form.TheVariants.{Kpx, Sheet}
 use Rattle.fields.specs.declared.Line.{Line}
@@ -468,13 +468,13 @@ module _ (form : Form) (t : Text) (at : Line) (places : LineAt form t at) where
   -- where the text begins with no such line, no pair is read
   pub no_pair : is_pair t at ≡ false → pairs_in form t ≡ record { pairs = []; behind = (lines_of t).ended }
   unfolding pairs_of on_pairs
-  no_pair None-found = go (lines_of t).ended refl
+  no_pair none_found = go (lines_of t).ended refl
     where
       first_none : (line : Text) (lines : List Text) (found : Option Pair) → (lines_of t).ended ≡ line ∷ lines → form_of form line ≡ found → on_pairs found line lines (pairs_of (form_of form) lines) ≡ record { pairs = []; behind = line ∷ lines }
-      first_none line lines none e f = refl
-      first_none line lines (some q) e f =
-          let first = lines_first t line lines e in
-          absurd (not_both (shape_found form t line first.behind q at first.text_is (read_shape form line q f) places) None-found)
+      first_none row lines none e f = refl
+      first_none row lines (some q) e f =
+          let first = lines_first t row lines e in
+          absurd (not_both (shape_found form t row first.behind q at first.text_is (read_shape form row q f) places) none_found)
 
       go : (lines : List Text) → (lines_of t).ended ≡ lines → pairs_of (form_of form) lines ≡ record { pairs = []; behind = lines }
       go [] e = refl

@@ -11,7 +11,7 @@ use Rattle.std.proofs.Math.Seq.{length-take-le}
 use Rattle.semantics.specs.Text.{Text, same_text}
 use Rattle.laws.specs.Basics.{and_both, and_of, cond_true, cond_false, same_text_eq}
 use Rattle.sections.specs.Afm.{semicolon, minus, begins_with, each, is_name_byte, is_name, is_digit, number_of, is_number, is_value}
-use Rattle.sections.specs.Splitting.{is_space, and_left, and_right, begins_none}
+use Rattle.sections.proofs.Splitting.{is_space, and_left, and_right, begins_none}
 use Rattle.fields.specs.declared.Part.{Part}
 use Rattle.fields.specs.declared.Part.TheVariants as P
 use Rattle.fields.specs.declared.Form.{Form}

@@ -2,7 +2,7 @@
 use Rattle.std.specs.Prelude.{◌≡◌, Bool, ◌&&◌, cond, [], ◌∷◌, ℕ, suc, ◌+◌, ◌*◌, ◌-◌, ◌≤◌, eqb, ltb, length, take, drop}
 use Rattle.semantics.specs.Text.{Text, same_text}
 use Rattle.sections.specs.Afm.{newline, semicolon, minus, nought, begins_with, is_name_byte, is_name, is_digit, number_of, is_number, is_value, kpx_word}
-use Rattle.sections.specs.Splitting.{is_space}
+use Rattle.sections.proofs.Splitting.{is_space}
 use Rattle.fields.specs.declared.Class.{Class}
 use Rattle.fields.specs.declared.Class.TheVariants.{Name, Space, Digit}
 use Rattle.fields.specs.declared.Part.{Part}

@@ -4,8 +4,8 @@ use Rattle.std.proofs.Common.{sym, ap, ◌∙◌, append_assoc, append-nil}
 use Rattle.std.proofs.Math.Option.{Option, some}
 use Rattle.semantics.specs.Text.{Text}
 use Rattle.sections.specs.Afm.{space, semicolon, begins_with, squeezed, split, each, is_name_byte, is_name, is_value, Pair, pair_from, pair_of, fields_of, kpx_word, kpx_from, kpx_of}
-use Rattle.sections.specs.Splitting.{is_not, is_space, split_field, split_last, split_more, split_one, squeezed_word, squeezed_spaces, squeezed_more, squeezed_one, space_no_name, semicolon_no_name, name_clean, value_clean, name_begins, value_begins}
-use Rattle.sections.specs.Writing.{LegalPair, pair_forth, pair_back, kpx_clean, kpx_from_lem, kpx_word_lem}
+use Rattle.sections.proofs.Splitting.{is_not, is_space, split_field, split_last, split_more, split_one, squeezed_word, squeezed_spaces, squeezed_more, squeezed_one, space_no_name, semicolon_no_name, name_clean, value_clean, name_begins, value_begins}
+use Rattle.sections.proofs.Writing.{LegalPair, pair_forth, pair_back, kpx_clean, kpx_from_lem, kpx_word_lem}
 use Rattle.fields.specs.declared.Form.{Form}
 use Rattle.fields.specs.declared.Form.TheVariants.{Kpx, Sheet}
 

@@ -94,8 +94,8 @@ reads_in (word (d ∷ w)) c t (h, inl p, e, i) =
     let q = only_byte d c (rw p at e) in
     let rest : t ≡ w = rw p at i in
     cc
-reads_in (word (d ∷ w)) c t (h , inr x8 , e , i) = elim x8 [ ]
-reads_in (one_of k) c t (h , inr x6 , e , i) = elim x6 [ ]
+reads_in (word (d ∷ w)) c t (h, inr x8, e, i) = elim x8 [ ]
+reads_in (one_of k) c t (h, inr x6, e, i) = elim x6 [ ]
 reads_in (one_of k) c t (h, inl p, e, i) =
     let rest : t ≡ [] = rw p at i in
     (c, cc, rw p at e)

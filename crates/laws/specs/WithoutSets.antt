@@ -13,7 +13,7 @@ use Rattle.semantics.specs.Text.{Text, All, least, joined, some_passes, or_else,
 use Rattle.semantics.specs.Pattern.{range, in_class, Pattern, word, one_of, concat, alt, star, nullable, Head, before, heads, matches}
 use Rattle.semantics.specs.Ambiguity.{Pair, runs_meet, share_byte, next_pairs, same_run, same_class, same_pattern, same_pair, visit, explore, word_rests, rests, states, reached, both_end, overlaps, onward, two_cuts, bad_repeat}
 use Rattle.semantics.specs.Lens.{Lens, copy, const, key, join, union, repeat, match, Side, source, sheet, const_language, language, cut_at, parts_within, parts, get, key_of, Book, and_then, arm_of, write_arm, write_parts, write_match, take_entry, entry_of, entries, write, put, create}
-use Rattle.semantics.specs.Table.{Kind, Word, Range, PatternJoin, PatternUnion, PatternRepeat, Set, Copy, Const, Key, LensJoin, LensUnion, LensRepeat, Match, kind_of, Node, nodes, pool, node_count, Tree, pattern, lens, broken, Trees, pattern_of, lens_of, word_of, tree_at, pattern_at, lens_at, word_at, provided, build, tree_of, trees_from, trees, pattern_size, lens_size, positions, tree_positions, tree_size, holds_match, line, Line, unknown_kind, is_broken, nested_match, nested, over_limit, first_round, root_of, root_line, typing_lines, tree_lines, second_round, lines, first_that_holds}
+use Rattle.semantics.specs.Table.{Kind, Word, Range, PatternJoin, PatternUnion, PatternRepeat, Set, Copy, Const, Key, LensJoin, LensUnion, LensRepeat, Match, kind_of, Node, nodes, pool, node_count, Tree, pattern, lens, broken, pattern_of, lens_of, word_of, tree_at, pattern_at, lens_at, word_at, provided, build, tree_of, trees_from, trees, pattern_size, lens_size, positions, tree_positions, tree_size, holds_match, line, Line, unknown_kind, is_broken, nested_match, nested, over_limit, first_round, root_of, root_line, typing_lines, tree_lines, second_round, lines, first_that_holds}
 use Rattle.semantics.specs.Calls.{Answer, gives, refuses, root_answer, verdict, program, with_program, not_of, check_call, get_call, put_call, create_call, program_line, lenscheck_line}
 use Rattle.semantics.specs.Tally.{meet_arm, meet_parts, met, tallied, tally, tally_of, put_tally}
 use Rattle.laws.specs.Classes.{range_test}

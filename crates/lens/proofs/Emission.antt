@@ -155,17 +155,17 @@ module _
   pub arm_few : base + a.count ≤ 128
   arm_few = rw begins (union_few parsed s)
 
-  module _ {Goes-left : Bool} (told : Goes-left ≡ goes_left (base + a.count) a.nullable path) where
+  module _ {by_left : Bool} (told : by_left ≡ goes_left (base + a.count) a.nullable path) where
     -- a text whose path goes left is parsed at the left arm, one whose path goes right at the right one
-    pub left_parsed : Goes-left ≡ true → Parsed bytes left (mode_side mode) base path text
+    pub left_parsed : by_left ≡ true → Parsed bytes left (mode_side mode) base path text
     left_parsed e = union_left parsed s begins described.nullable_is (sym told ∙ e)
 
-    pub right_parsed : Goes-left ≡ false → Parsed bytes right (mode_side mode) (base + a.count) path text
+    pub right_parsed : by_left ≡ false → Parsed bytes right (mode_side mode) (base + a.count) path text
     right_parsed e = union_right parsed s begins described.nullable_is (sym told ∙ e)
 
     module _ {before after : Text} {answer : Wrote} where
       -- and the union gives what that arm gives
-      pub emits_left : Goes-left ≡ true → Emits bytes left mode text before after answer → Emits bytes node mode text before after answer
+      pub emits_left : by_left ≡ true → Emits bytes left mode text before after answer → Emits bytes node mode text before after answer
       emits_left e w =
           its_lens
           (union s.left s.right)
@@ -174,7 +174,7 @@ module _
           (reading_left mode s.left s.right text (union_in_left parsed s begins described.nullable_is (sym told ∙ e)))
           (w.writes s.left s.at_left))
 
-      pub emits_right : Goes-left ≡ false → Emits bytes right mode text before after answer → Emits bytes node mode text before after answer
+      pub emits_right : by_left ≡ false → Emits bytes right mode text before after answer → Emits bytes node mode text before after answer
       emits_right e w =
           its_lens
           (union s.left s.right)

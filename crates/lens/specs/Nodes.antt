@@ -76,7 +76,7 @@ kind_sort bytes node (Match child) s = ap sort_of s.tree_is
 word_tag : (tag : ℕ) → 0 ≡ sort_by tag → tag ≡ 0
 word_tag tag e = go (eqb tag 0) (ltb tag 5) refl e
   where
-    go : (is_IsWord is-pattern : Bool) → eqb tag 0 ≡ is_IsWord → ◌≡◌ {A = ℕ} 0 (cond is_IsWord 0 (cond is-pattern 1 2)) → tag ≡ 0
+    go : (is_word is-pattern : Bool) → eqb tag 0 ≡ is_word → ◌≡◌ {A = ℕ} 0 (cond is_word 0 (cond is-pattern 1 2)) → tag ≡ 0
     go true p t f = eqb-true tag 0 t
     go false true t f = absurd (omega arith)
     go false false t f = absurd (omega arith)
@@ -95,6 +95,32 @@ pub word_read :
 word_read {bytes} {node} {r} known read other =
     let tag_is = word_tag (tag_of the_type r.kind) (sym (ap sort_of known.tree_is) ∙ kind_sort bytes node r.kind read.shows) in
     absurd (miss OtherTags 0 tt (subst (OneOf OtherTags) tag_is other))
+
+-- the kind that has a word's tag is a word
+word_kind : (κ : Kind) → tag_of the_type κ ≡ 0 → (a : ℕ) × (b : ℕ) × (κ ≡ Word a b)
+word_kind (Word a b) e = (a, b, refl)
+word_kind (ByteOf a b) e = absurd (omega (arith, e))
+word_kind (PatternJoin a b) e = absurd (omega (arith, e))
+word_kind (PatternUnion a b) e = absurd (omega (arith, e))
+word_kind (PatternRepeat a) e = absurd (omega (arith, e))
+word_kind (Copy a) e = absurd (omega (arith, e))
+word_kind (Const a b c) e = absurd (omega (arith, e))
+word_kind (Key a) e = absurd (omega (arith, e))
+word_kind (LensJoin a b) e = absurd (omega (arith, e))
+word_kind (LensUnion a b) e = absurd (omega (arith, e))
+word_kind (LensRepeat a) e = absurd (omega (arith, e))
+word_kind (Match a) e = absurd (omega (arith, e))
+
+-- so a node that is a word is read as one
+pub word_not_read :
+    {A : Type 0} {bytes : Text} {prepared : List ℕ} {node : ℕ} {r : Node}
+    → WordNode bytes prepared node
+    → NodeRead bytes node r
+    → ((a b : ℕ) → r.kind ≡ Word a b → ⊥)
+    → A
+word_not_read {bytes} {node} {r} known read other =
+    let (a, b, is) = word_kind r.kind (word_tag (tag_of the_type r.kind) (sym (ap sort_of known.tree_is) ∙ kind_sort bytes node r.kind read.shows)) in
+    absurd (other a b is)
 
 -- a node that is a lens is not read as a pattern
 pub lens_read :

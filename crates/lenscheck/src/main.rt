@@ -2,13 +2,14 @@
 // the number and the node.
 #![tactic(auto)]
 
-use libc::{STDIN_FILENO, STDOUT_FILENO};
+use inputs::read_full;
+use std::io;
 
-fn main() {
+fn main(rt: HostRuntime) -> io::Result<()> {
     // longer than any table, which has at most 899 bytes: of a longer input the part that is read is too long as well
-    let mut table = io::buffer();
-    let n = io::read_full(STDIN_FILENO, &mut table);
+    let mut table = [0u8; 4096];
+    let n = read_full(&mut rt.stdin(), &mut table)?;
     let mut line = [0u8; 64];
     let length = engine::lenscheck_line(&table[..n], &mut line);
-    io::write_all(STDOUT_FILENO, &line[0..length]);
+    rt.write_all(&line[0..length])
 }

@@ -1,11 +1,9 @@
 -- What a node's kind says of its entries, and what the built program gives of its automaton.
 use mathlib.Core.Path.{◌≡◌, refl, sym, ◌∙◌}
 use mathlib.Core.Bool.{false}
-use mathlib.Core.List.{List, [], ◌∷◌}
-use Prim.Native.Nat.{ℕ, ◌+◌, ◌*◌, ◌-◌, ◌≤◌, ◌<◌}
+use mathlib.Core.List.{List, []}
+use Prim.Native.Nat.{ℕ, ◌+◌, ◌*◌, ◌≤◌, ◌<◌}
 use native.Mathlib.Omega.{arith}
-use types.Run.{OneOf, miss}
-use denote.Enum.Declared.{tag_of}
 use lib.ListN.{length}
 use Rattle.semantics.specs.Text.{Text}
 use Rattle.semantics.specs.Lens.{Lens, match, source, language, entries}
@@ -16,7 +14,6 @@ use Rattle.table.specs.declared.Kind.{Kind}
 use Rattle.table.specs.declared.Node.{Node}
 use Rattle.table.specs.Prepared.{Shows, OneLens}
 use Rattle.table.specs.Rules.{tree_holds, NodeRead}
-use Rattle.table.specs.contracts.Kind.{the_type}
 use Rattle.automaton.specs.declared.Automaton.{Automaton}
 use Rattle.automaton.specs.declared.Side.TheVariants.{Source}
 use Rattle.automaton.specs.Rows.{side_of, automaton_at, Describes}
@@ -54,32 +51,31 @@ none_held (pattern r) t free = refl
 none_held (lens l) t free = no_entries l free t
 none_held broken t free = refl
 
--- the patterns, copy, const and key, by their places among the kinds
-abbrev pub leaf_kinds : List ℕ
-leaf_kinds = 0 ∷ 1 ∷ 2 ∷ 3 ∷ 4 ∷ 5 ∷ 6 ∷ 7 ∷ []
-
 module _ {bytes : Text} {k : ℕ} {n : Node} (read : NodeRead bytes k n) where
   -- the entries: patterns and the lenses that hold no other have none
   pub leaf_entries :
       (t : Text)
-      → OneOf leaf_kinds (tag_of the_type n.kind)
+      → ((a b : ℕ) → n.kind ≡ LensJoin a b → ⊥)
+      → ((a b : ℕ) → n.kind ≡ LensUnion a b → ⊥)
+      → ((a : ℕ) → n.kind ≡ LensRepeat a → ⊥)
+      → ((a : ℕ) → n.kind ≡ Match a → ⊥)
       → tree_entries (tree_at (trees bytes) k) t ≡ []
   unfolding Shows tree_entries entries
-  leaf_entries t tag = go n.kind tag read.shows
+  leaf_entries t no_join no_union no_repeat no_own = go n.kind refl read.shows
     where
-      go : (κ : Kind) → OneOf leaf_kinds (tag_of the_type κ) → Shows bytes k κ → tree_entries (tree_at (trees bytes) k) t ≡ []
-      go (Word start len) tag s = rw s.tree_is
-      go (ByteOf at runs) tag s = rw s.tree_is
-      go (PatternJoin a b) tag s = rw s.tree_is
-      go (PatternUnion a b) tag s = rw s.tree_is
-      go (PatternRepeat a) tag s = rw s.tree_is
-      go (Copy a) tag s = rw s.tree_is
-      go (Const a b c) tag s = rw s.tree_is
-      go (Key a) tag s = rw s.tree_is
-      go (LensJoin a b) tag s = absurd (miss leaf_kinds 8 tt tag)
-      go (LensUnion a b) tag s = absurd (miss leaf_kinds 9 tt tag)
-      go (LensRepeat a) tag s = absurd (miss leaf_kinds 10 tt tag)
-      go (Match a) tag s = absurd (miss leaf_kinds 11 tt tag)
+      go : (κ : Kind) → n.kind ≡ κ → Shows bytes k κ → tree_entries (tree_at (trees bytes) k) t ≡ []
+      go (Word start len) e s = rw s.tree_is
+      go (ByteOf at runs) e s = rw s.tree_is
+      go (PatternJoin a b) e s = rw s.tree_is
+      go (PatternUnion a b) e s = rw s.tree_is
+      go (PatternRepeat a) e s = rw s.tree_is
+      go (Copy a) e s = rw s.tree_is
+      go (Const a b c) e s = rw s.tree_is
+      go (Key a) e s = rw s.tree_is
+      go (LensJoin a b) e s = absurd (no_join a b e)
+      go (LensUnion a b) e s = absurd (no_union a b e)
+      go (LensRepeat a) e s = absurd (no_repeat a e)
+      go (Match a) e s = absurd (no_own a e)
 
   module _ (t : Text) where
     -- a node that holds no match has none

@@ -13,16 +13,20 @@ use Rattle.semantics.specs.Lens.{join, union, source, language, cut_at, entries}
 use Rattle.semantics.specs.Table.{node_count, positions, lens, tree_at, trees}
 use Rattle.laws.specs.Basics.{cond_true, cond_false}
 use Rattle.laws.specs.Paths.{border, goes_left}
+use Rattle.table.specs.declared.Kind.TheVariants.{LensJoin}
+use Rattle.table.specs.declared.Node.{Node}
 use Rattle.table.specs.Prepared.{TwoLenses}
+use Rattle.table.specs.Rules.{NodeRead}
 use Rattle.automaton.specs.declared.Automaton.{Automaton}
 use Rattle.automaton.specs.declared.Side.TheVariants.{Source}
 use Rattle.automaton.specs.Rows.{automaton_at, Describes}
 use Rattle.automaton.specs.Built.{Built}
 use Rattle.texts.specs.Cutting.{rest_lent}
-use Rattle.lens.specs.Nodes.{same_lens}
+use Rattle.lens.specs.Nodes.{same_lens, shown_join}
 use Rattle.lens.specs.Parsed.{
   Parsed,
   ParsedJoin,
+  parsed_join,
   join_length,
   border_few,
   border_inside,
@@ -148,6 +152,21 @@ module _
         parsed_right = border_right_lent parsed halves_border i_is;
         entries_are = halves_entries (border_is_cut parsed halves_border i_is);
       }
+
+-- so they do at a node that is read as a join
+pub join_halves :
+    {bytes : Text} {prepared : List ℕ} {node left right base i : ℕ} {path text : Text} {a : Automaton} {n : Node}
+    → Built bytes prepared
+    → node < node_count bytes
+    → Parsed bytes node source base path text
+    → NodeRead bytes node n
+    → n.kind ≡ LensJoin left right
+    → a ≡ automaton_at prepared left Source
+    → i ≡ border (base + a.count) path
+    → Halves bytes node left right base (base + a.count) path text i
+join_halves built inside parsed read is a-is i_is =
+    let shown = shown_join read is in
+    halves_at built inside (parsed_join parsed shown) shown a-is i_is
 
 -- the halves are listed, as they are lent
 module _

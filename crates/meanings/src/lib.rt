@@ -11,16 +11,16 @@ mod texts;
 
 // Writes the sentence of a refusal of a call with this table, and says whether the number has one. Whether the system could write it is left open,
 // since no contract can say what is read or written. A text in the table's place has a sentence of its own: its sizes are not what is to be mended.
-pub fn explain_for(fd: i32, number: usize, table: &[u8]) -> bool
+pub fn explain_for(to: &impl Print, number: usize, table: &[u8]) -> bool
     ensures { result ≡ has_sentence 1 number }
 {
     if text_refused(number, table) {
         return said(
-            fd,
+            to,
             b"This file is a text and no table: if it is a program's text, noontrough assemble makes its table, and noontrough takes both.\n",
         );
     }
-    explain(fd, number)
+    explain(to, number)
 }
 
 // Every text is refused with number 1 (`text_program` of specs/Texts.antt). The number comes first, so that only a refused table is read again.
@@ -34,109 +34,109 @@ fn text_refused(number: usize, table: &[u8]) -> bool
 }
 
 // First the sentences of the table's sizes and of the first round; the others follow.
-fn explain(fd: i32, number: usize) -> bool
+fn explain(to: &impl Print, number: usize) -> bool
     ensures { result ≡ has_sentence 1 number }
 {
     match number {
         1 => said(
-            fd,
+            to,
             b"The sizes of the table are wrong, so it is no whole program: make it again with noontrough assemble, and copy it as binary.\n",
         ),
         2 => said(
-            fd,
+            to,
             b"This node is of a kind that the engine does not know: the table was damaged or made for another engine, so make it again.\n",
         ),
         3 => said(
-            fd,
+            to,
             b"An operand of this node breaks a rule, or the last node is no lens: see what each kind takes, and put the whole program last.\n",
         ),
         4 => said(
-            fd,
+            to,
             b"This node is a match that holds another match: decide which of the two is the entry, and take the other match away.\n",
         ),
         5 => said(
-            fd,
+            to,
             b"This node passes size 512 or 128 positions a side: use ranges and repeats for long words, and say once what arms share.\n",
         ),
-        _ => explain_typing(fd, number),
+        _ => explain_typing(to, number),
     }
 }
 
-fn explain_typing(fd: i32, number: usize) -> bool
+fn explain_typing(to: &impl Print, number: usize) -> bool
     ensures { result ≡ has_sentence 6 number }
 {
     match number {
         6 => said(
-            fd,
+            to,
             b"The default of this const is no text of its pattern: give a default that fits, or let the pattern take this one.\n",
         ),
         7 => said(
-            fd,
+            to,
             b"A source of this join can be cut in two ways: put a mark between the halves, or make one lens of both.\n",
         ),
         8 => said(
-            fd,
+            to,
             b"A sheet of this join can be cut in two ways: show a mark between the halves, or make one lens of both.\n",
         ),
         9 => said(
-            fd,
+            to,
             b"A text is a source of both arms of this union: write arms that share no source, or make one lens of both.\n",
         ),
         10 => said(
-            fd,
+            to,
             b"A source of this repeat can be cut into parts in two ways, or a part can be empty: give each part an end of its own.\n",
         ),
         11 => said(
-            fd,
+            to,
             b"A sheet of this repeat can be cut into parts in two ways, or a part can be empty: end each part with a mark that the sheet shows.\n",
         ),
-        _ => explain_texts(fd, number),
+        _ => explain_texts(to, number),
     }
 }
 
-fn explain_texts(fd: i32, number: usize) -> bool
+fn explain_texts(to: &impl Print, number: usize) -> bool
     ensures { result ≡ has_sentence 12 number }
 {
     match number {
         12 => said(
-            fd,
+            to,
             b"The source or the sheet is longer than 4,096 bytes: divide it at the ends of entries.\n",
         ),
         13 => said(
-            fd,
+            to,
             b"The source is none of this program: correct what the program does not foresee, often a newline at the end of the file.\n",
         ),
         14 => said(
-            fd,
+            to,
             b"The sheet is none of this program: correct what the program does not foresee, often a newline at the end of the file.\n",
         ),
         15 => said(
-            fd,
+            to,
             b"The old source has more than 256 entries: divide it, or let match mark larger pieces.\n",
         ),
         16 => said(
-            fd,
+            to,
             b"The result would be longer than 4,096 bytes: divide the sheet or the source.\n",
         ),
         17 => said(
-            fd,
+            to,
             b"The text that shows the clash is longer than the buffer: lend 16,512 bytes, which are always enough.\n",
         ),
-        _ => explain_lines(fd, number),
+        _ => explain_lines(to, number),
     }
 }
 
 // Those of Adobe's metrics, which are read by lines.
-fn explain_lines(fd: i32, number: usize) -> bool
+fn explain_lines(to: &impl Print, number: usize) -> bool
     ensures { result ≡ has_sentence 18 number }
 {
     match number {
         18 => said(
-            fd,
+            to,
             b"The line of this number is not of its form: see what lines a section and a sheet have, and end each with a newline.\n",
         ),
         19 => said(
-            fd,
+            to,
             b"The count behind StartKernPairs is not the number of KPX lines: correct it, or look for lines that are missing.\n",
         ),
         _ => false,
@@ -144,9 +144,9 @@ fn explain_lines(fd: i32, number: usize) -> bool
 }
 
 // Writes a sentence, and says that there is one.
-fn said(fd: i32, sentence: &[u8]) -> bool
+fn said(to: &impl Print, sentence: &[u8]) -> bool
     ensures { result ≡ true }
 {
-    io::write_all(fd, sentence);
+    let _ = to.write_all(sentence);
     true
 }

@@ -8,11 +8,10 @@ use Rattle.semantics.specs.Tally.{Tally, put_tally}
 use Rattle.clash.specs.Clash.{no_clash, clash, refused, clash_call}
 use Rattle.clash.specs.Clash as Clashes
 use Rattle.sections.specs.Afm.{import_call, export_call}
-use Rattle.sections.specs.RoundTrips.{import_named, export_named}
+use Rattle.sections.proofs.RoundTrips.{import_named, export_named}
 use Rattle.laws.specs.Basics.{never}
 use Rattle.laws.specs.Refusals.{Named, check_named, get_named, put_named, create_named}
 use Rattle.answers.specs.declared.Answer.TheVariants.{Result}
-use Rattle.answers.specs.declared.PutAnswer.TheVariants as P
 use Rattle.answers.specs.declared.ClashAnswer.{ClashAnswer}
 use Rattle.answers.specs.declared.ClashAnswer.TheVariants.{Accepted, Clash}
 use Rattle.answers.specs.declared.ClashAnswer.TheVariants as C

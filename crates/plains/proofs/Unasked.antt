@@ -1,15 +1,13 @@
 -- Where a lens looks nothing up: no entry that is left is of a child that its matches ask for, or it holds no match.
 use mathlib.Core.Path.{◌≡◌, refl, sym, ap, ◌∙◌}
 use mathlib.Core.Bool.{Bool, true, false, cond}
-use mathlib.Core.List.{List, [], ◌∷◌}
+use mathlib.Core.List.{List, ◌∷◌}
 use mathlib.Core.Option.{Option}
 use Prim.Native.Nat.{ℕ, zero, suc, ◌+◌, ◌<◌}
 use native.Mathlib.Omega.{arith}
 use lib.Dec.{ltb}
 use lib.ListN.{length, get_or}
 use borrow.Author.Tests.{ltb-true, ltb-false}
-use types.Run.{OneOf, miss}
-use denote.Enum.Declared.{tag_of}
 use Rattle.semantics.specs.Text.{Text, All}
 use Rattle.semantics.specs.Lens.{Lens, copy, const, key, match, Entry, entry_of}
 use Rattle.semantics.specs.Lens.{Book as Entries}
@@ -25,7 +23,6 @@ use Rattle.table.specs.declared.Kind.TheVariants.{Word, OneOf as ByteOf, Pattern
 use Rattle.table.specs.declared.Node.{Node}
 use Rattle.table.specs.Prepared.{OneLens, Shows}
 use Rattle.table.specs.Rules.{NodeRead}
-use Rattle.table.specs.contracts.Kind.{the_type}
 use Rattle.lens.specs.Emitting.{LensNode}
 use Rattle.lens.specs.Nodes.{same_lens, lens_read}
 use Rattle.books.specs.declared.Book.{Book}
@@ -111,9 +108,12 @@ inner_met old new flat = record { meets = λ l e. ap length (met_nothing l (flat
 
 -- ---- A node with no lens below it
 
--- the tags of the kinds that have none
-abbrev pub LeafTags : List ℕ
-LeafTags = 0 ∷ 1 ∷ 2 ∷ 3 ∷ 4 ∷ 5 ∷ 6 ∷ 7 ∷ []
+-- it is of none of the kinds that have one
+pub record LeafKind (κ : Kind) : Type 0 where
+  pub not_join : (a b : ℕ) → κ ≡ LensJoin a b → ⊥
+  pub not_union : (a b : ℕ) → κ ≡ LensUnion a b → ⊥
+  pub not_repeat : (a : ℕ) → κ ≡ LensRepeat a → ⊥
+  pub not_match : (a : ℕ) → κ ≡ Match a → ⊥
 
 module _ {bytes : Text} {prepared : List ℕ} {node : ℕ} {r : Node} (known : LensNode bytes prepared node) (read : NodeRead bytes node r) where
   -- it looks nothing up, and meets nothing
@@ -121,7 +121,7 @@ module _ {bytes : Text} {prepared : List ℕ} {node : ℕ} {r : Node} (known : L
       (κ : Kind)
       → r.kind ≡ κ
       → Shows bytes node κ
-      → OneOf LeafTags (tag_of the_type κ)
+      → LeafKind r.kind
       → (l : Lens) × (tree_at (trees bytes) node ≡ lens l) × ((n : ℕ) → asks l n ≡ false) × (holds_match l ≡ false)
   unfolding Shows asks holds_match
   leaf_asks (Copy a) e s h = (copy s.child, s.tree_is, λ n. refl, refl)
@@ -132,13 +132,13 @@ module _ {bytes : Text} {prepared : List ℕ} {node : ℕ} {r : Node} (known : L
   leaf_asks (PatternJoin a b) e s h = lens_read (PatternJoin a b) known read e refl
   leaf_asks (PatternUnion a b) e s h = lens_read (PatternUnion a b) known read e refl
   leaf_asks (PatternRepeat a) e s h = lens_read (PatternRepeat a) known read e refl
-  leaf_asks (LensJoin a b) e s h = absurd (miss LeafTags 8 tt h)
-  leaf_asks (LensUnion a b) e s h = absurd (miss LeafTags 9 tt h)
-  leaf_asks (LensRepeat a) e s h = absurd (miss LeafTags 10 tt h)
-  leaf_asks (Match a) e s h = absurd (miss LeafTags 11 tt h)
+  leaf_asks (LensJoin a b) e s h = absurd (h.not_join a b e)
+  leaf_asks (LensUnion a b) e s h = absurd (h.not_union a b e)
+  leaf_asks (LensRepeat a) e s h = absurd (h.not_repeat a e)
+  leaf_asks (Match a) e s h = absurd (h.not_match a e)
 
   pub leaf_asks_none :
-      {below : List ℕ} {b : Book} → BelowIs bytes below → OneOf LeafTags (tag_of the_type r.kind) → AsksNone below node b
+      {below : List ℕ} {b : Book} → BelowIs bytes below → LeafKind r.kind → AsksNone below node b
   leaf_asks_none below_is leaf =
       let (l, e, none_asked, flat) = leaf_asks r.kind refl read.shows leaf in
       record {
@@ -147,7 +147,7 @@ module _ {bytes : Text} {prepared : List ℕ} {node : ℕ} {r : Node} (known : L
             not_both held ((below_is.each node l known.inside e).asked_is n small ∙ none_asked n);
       }
 
-  pub leaf_met : (old : Option Text) (new : Text) → OneOf LeafTags (tag_of the_type r.kind) → MeetsThere bytes node old new 0
+  pub leaf_met : (old : Option Text) (new : Text) → LeafKind r.kind → MeetsThere bytes node old new 0
   leaf_met old new leaf =
       let (l, e, none_asked, flat) = leaf_asks r.kind refl read.shows leaf in
       inner_met old new (record { holds_none = λ m f. rw (same_lens l m (sym e ∙ f)) at flat })

@@ -14,7 +14,7 @@ use Rattle.semantics.specs.Table.{positions}
 use Rattle.laws.specs.Basics.{bool_cases, not_both, and_both, and_of, or_either, or_left, or_right}
 use Rattle.laws.specs.PositionAutomaton.{stands_at, first_at, last_at, follow_at, first_within}
 use Rattle.clash.specs.Clash.{one_arm, cut_twice, breaks}
-use Rattle.clash.specs.Twofold.{
+use Rattle.clash.proofs.Twofold.{
   Whole,
   Late,
   Early,

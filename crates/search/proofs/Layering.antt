@@ -287,6 +287,7 @@ module _ {g : Graph} {order fresh starts : List ℕ} {depth : ℕ} (known : Laye
     -- and no text leads from a beginning to an end.
     none_accepted : (t : Text) → Accepts g t → ⊥
     unfolding Accepts
+    none_accepted [] m = elim m [ ]
     none_accepted (c ∷ t) (pair, byte, begins, stands, w) =
         let (d, l, far) = in_earlier t pair (c, byte, stands) w in
         let (i, at, same) = known.layered.all_in d pair (omega arith) (way_below g bounded pair t w) (c, byte, stands) far in

@@ -11,7 +11,7 @@ use lib.ListN.{length, get_or, set, length-set}
 use lib.Seq.{get_or-set_same, get_or-set_other}
 use Rattle.semantics.specs.Text.{Member, Different}
 use Rattle.laws.specs.Basics.{bool_cases, not_both, and_both, and_of, or_either, or_left, or_right}
-use Rattle.clash.specs.Bound.{different_length}
+use Rattle.clash.proofs.Bound.{different_length}
 use Rattle.positions.specs.declared.Set.{Set}
 use Rattle.positions.specs.Positions.{holds, Met, Removed, FirstFrom}
 use Rattle.positions.proofs.Bits.{same_test, holds_past}

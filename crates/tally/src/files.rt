@@ -2,7 +2,10 @@
 // what was read of it as too long.
 ghost use Rattle.tally.specs.Files.{Holds};
 
-use libc::STDERR_FILENO;
+use inputs::{read_full, say, tell_failure};
+use std::fs;
+use std::io::{Error, ErrorKind, Read};
+use std::rt::Files;
 
 // The length of what was read; or nothing, and standard error says why.
 #[derive(Clone, Copy)]
@@ -12,54 +15,68 @@ pub enum Contents {
 }
 
 // The promise limits: the bytes that are counted lie within the buffer. It leaves open which they are, and whether there are any.
-pub fn read(path: &[u8], buffer: &mut [u8]) -> Contents
+pub fn read<R: Files + AllocGlobal, E: Print>(
+    rt: &R,
+    errors: &E,
+    path: &[u8],
+    buffer: &mut [u8],
+) -> Contents
     ensures { Holds result buffer.new }
 {
-    let fd = os::open_read(path);
-    if fd < 0 {
-        return unopened(path, buffer);
+    let Ok(name) = str::from_utf8(path) else {
+        let why = Error::new(ErrorKind::InvalidInput, "not UTF-8");
+        unreadable(rt, errors, path, &why);
+        return Contents::Unreadable;
+    };
+    match fs::open(rt, name) {
+        Ok(file) => {
+            let mut file = file;
+            fill(rt, errors, &mut file, path, buffer)
+        }
+        Err(why) => unopened(rt, errors, path, &why, buffer),
     }
-    let contents = fill(fd, path, buffer);
-    libc::close(fd);
-    contents
 }
 
-// Only a file that is not there counts as empty. Called just after the call that failed, since `errno` is that call's.
-fn unopened(path: &[u8], buffer: &[u8]) -> Contents
+// Only a file that is not there counts as empty.
+fn unopened<R: AllocGlobal, E: Print>(
+    rt: &R,
+    errors: &E,
+    path: &[u8],
+    why: &Error,
+    buffer: &[u8],
+) -> Contents
     ensures { Holds result buffer.now }
 {
-    if os::errno() == libc::ENOENT {
+    if why.kind() == ErrorKind::NotFound {
         return Contents::Bytes(0);
     }
-    unreadable(path);
+    unreadable(rt, errors, path, why);
     Contents::Unreadable
 }
 
 // Reads to the file's end, or to the buffer's.
-fn fill(fd: i32, path: &[u8], buffer: &mut [u8]) -> Contents
+fn fill<R: AllocGlobal, E: Print, F: Read>(
+    rt: &R,
+    errors: &E,
+    file: &mut F,
+    path: &[u8],
+    buffer: &mut [u8],
+) -> Contents
     ensures { Holds result buffer.new }
 {
-    let mut n = 0;
-    while n < buffer.len() {
-        let got = libc::read(fd, &mut buffer[n..]);
-        if got < 0 {
-            unreadable(path);
-            return Contents::Unreadable;
+    match read_full(file, buffer) {
+        Ok(n) => Contents::Bytes(n),
+        Err(why) => {
+            unreadable(rt, errors, path, &why);
+            Contents::Unreadable
         }
-        let more = io::count(got, &buffer[n..]);
-        if more == 0 {
-            return Contents::Bytes(n);
-        }
-        n += more;
     }
-    Contents::Bytes(n)
 }
 
-// Called just after the call that failed, since `os::fail` tells that call's error.
-fn unreadable(path: &[u8]) {
-    os::fail(path);
-    io::write_all(
-        STDERR_FILENO,
+fn unreadable<R: AllocGlobal, E: Print>(rt: &R, errors: &E, path: &[u8], why: &Error) {
+    tell_failure(errors, rt.alloc(), path, why);
+    say(
+        errors,
         b"tally: this file cannot be read, so nothing was counted\n",
     );
 }

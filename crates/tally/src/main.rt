@@ -5,23 +5,23 @@
 mod files;
 
 use files::{Contents, read};
-use libc::STDOUT_FILENO;
+use std::io;
 
-fn main() {
-    let mut table = io::large_buffer();
-    let contents = read(b"table", &mut table);
+fn main(rt: HostRuntime) -> io::Result<()> {
+    let mut table = [0u8; 65536];
+    let contents = read(&rt, &rt.stderr(), b"table", &mut table);
     let Contents::Bytes(table_length) = contents else {
-        return;
+        return Ok(());
     };
-    let mut sheet = io::large_buffer();
-    let contents = read(b"sheet", &mut sheet);
+    let mut sheet = [0u8; 65536];
+    let contents = read(&rt, &rt.stderr(), b"sheet", &mut sheet);
     let Contents::Bytes(sheet_length) = contents else {
-        return;
+        return Ok(());
     };
-    let mut source = io::large_buffer();
-    let contents = read(b"source", &mut source);
+    let mut source = [0u8; 65536];
+    let contents = read(&rt, &rt.stderr(), b"source", &mut source);
     let Contents::Bytes(source_length) = contents else {
-        return;
+        return Ok(());
     };
     let mut line = [0u8; 81];
     let length = tallies::tally_line(
@@ -30,5 +30,5 @@ fn main() {
         &source[0..source_length],
         &mut line,
     );
-    io::write_all(STDOUT_FILENO, &line[0..length]);
+    rt.write_all(&line[0..length])
 }

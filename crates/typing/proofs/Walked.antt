@@ -70,9 +70,9 @@ module _ {r : Pattern} {a : Automaton} {prepared : List ℕ} (d : Describes r a 
           )
 
   -- some marked state is final
-  final_iff : {m : Marked} → SomeFinal a m ↔ Ends r (In m)
+  final_iff : (m : Marked) → SomeFinal a m ↔ Ends r (In m)
   unfolding final_at
-  final_iff {m} = (
+  final_iff m = (
     λ f.
         ⊎_elim
         (λ h. record { state = none; is_marked = h.0; is_final = sym d.nullable_is ∙ h.1 })
@@ -280,7 +280,7 @@ stage_law {prepared} {a} {b} {m} {begun} {at} {cells} {start} inside next filled
     }
   where
     staged : (r s : Pattern) → Describes r a prepared → Describes s b prepared → (y : State) → In (record { start = start; at = at }) y ↔ Staged r s (In m) y
-    staged r s d e none = Iff.trans final (Iff.trans (final_iff d) (staged_start d e inside next))
+    staged r s d e none = Iff.trans final (Iff.trans (final_iff d _) (staged_start d e inside next))
     staged r s d e (some y) = staged_at d e inside next filled gathered y
 
 -- what is marked may be said in another way
@@ -324,9 +324,9 @@ pub start_within : {a : Automaton} {m : Marked} → StartOnly m → Within a m
 start_within o = record { within = λ p h. absurd (not_both h (o.nothing p)) }
 
 -- the positions alone: what was staged has moved
-moved_iff : {m : Marked} {M : State → Type 0} → ((x : State) → In m x ↔ M x) → (x : State) → In (record { start = false; at = m.at }) x ↔ Moved M x
-moved_iff same none = (λ e. false≢true e, λ h. absurd h)
-moved_iff same (some p) = same (some p)
+moved_iff : (m : Marked) {M : State → Type 0} → ((x : State) → In m x ↔ M x) → (x : State) → In (record { start = false; at = m.at }) x ↔ Moved M x
+moved_iff m same none = (λ e. false≢true e, λ h. absurd h)
+moved_iff m same (some p) = same (some p)
 
 -- The text of both languages: one stage from the start.
 pub overlap_law :
@@ -342,7 +342,7 @@ overlap_law only one final r s d e =
     Iff.trans
     final
     (Iff.trans
-    (final_iff e)
+    (final_iff e _)
     (Iff.trans
     (ends_same (λ y. Iff.trans (one.staged r s d e y) (staged_same (start_iff only) r s y)) s)
     (Iff.symm (overlap_staged_iff r s))))
@@ -362,7 +362,7 @@ pub cuts_law :
 cuts_law {m = m} {first} {second} {third} only one two three final r s d e =
     Iff.trans
     final
-    (Iff.trans (final_iff e) (Iff.trans (ends_same (λ y. Iff.trans (three.staged s s e e y) (staged_same moved s s y)) s) (Iff.symm (cuts_staged_iff r s))))
+    (Iff.trans (final_iff e _) (Iff.trans (ends_same (λ y. Iff.trans (three.staged s s e e y) (staged_same moved s s y)) s) (Iff.symm (cuts_staged_iff r s))))
   where
     first_is : (x : State) → In first x ↔ Staged r r Start x
     first_is x = Iff.trans (one.staged r r d d x) (staged_same (start_iff only) r r x)
@@ -371,4 +371,4 @@ cuts_law {m = m} {first} {second} {third} only one two three final r s d e =
     second_is x = Iff.trans (two.staged r s d e x) (staged_same first_is r s x)
 
     moved : (x : State) → In (record { start = false; at = second.at }) x ↔ Moved (Staged r s (Staged r r Start)) x
-    moved = moved_iff second_is
+    moved = moved_iff _ second_is

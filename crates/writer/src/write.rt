@@ -136,7 +136,7 @@ pub fn put(
             );
             let back = &new[i..];
             let track = &mut path[i..];
-            put(
+            return put(
                 done,
                 bytes,
                 prepared,
@@ -148,35 +148,41 @@ pub fn put(
                 below,
                 card,
                 out,
-            )
+            );
         }
         Kind::LensUnion { left, right } => {
             let choice = choose(prepared, left, right, base, new, path, place, deck);
             let arm = choice.arm;
             let kept = choice.old;
             match kept {
-                Old::At(place) => put(
-                    done, bytes, prepared, arm, new, path, place, deck, below, card, out,
-                ),
-                Old::Nothing => create(
-                    done, bytes, prepared, arm, new, path, deck, below, card, out,
-                ),
+                Old::At(place) => {
+                    return put(
+                        done, bytes, prepared, arm, new, path, place, deck, below, card, out,
+                    );
+                }
+                Old::Nothing => {
+                    return create(
+                        done, bytes, prepared, arm, new, path, deck, below, card, out,
+                    );
+                }
             }
         }
         Kind::LensRepeat { child } => {
-            write_repeat(
+            return write_repeat(
                 done, bytes, prepared, spot, child, new, path, old, deck, below, card, out,
-            )
+            );
         }
         Kind::Match { child } => {
             let inner = Spot { node: child, base };
-            write_match(
+            return write_match(
                 done, bytes, prepared, inner, new, path, deck, below, card, out,
-            )
+            );
         }
-        _ => plain_behind(
-            done, bytes, prepared, spot, new, path, old, deck, below, out,
-        ),
+        _ => {
+            return plain_behind(
+                done, bytes, prepared, spot, new, path, old, deck, below, out,
+            );
+        }
     }
 }
 
@@ -221,30 +227,32 @@ pub fn create(
             );
             let back = &new[i..];
             let track = &mut path[i..];
-            create(
+            return create(
                 done, bytes, prepared, cut.right, back, track, deck, below, card, out,
-            )
+            );
         }
         Kind::LensUnion { left, right } => {
             let arm = choose_new(prepared, left, right, base, path);
-            create(
+            return create(
                 done, bytes, prepared, arm, new, path, deck, below, card, out,
-            )
+            );
         }
         Kind::LensRepeat { child } => {
-            write_repeat(
+            return write_repeat(
                 done, bytes, prepared, spot, child, new, path, old, deck, below, card, out,
-            )
+            );
         }
         Kind::Match { child } => {
             let inner = Spot { node: child, base };
-            write_match(
+            return write_match(
                 done, bytes, prepared, inner, new, path, deck, below, card, out,
-            )
+            );
         }
-        _ => plain_behind(
-            done, bytes, prepared, spot, new, path, old, deck, below, out,
-        ),
+        _ => {
+            return plain_behind(
+                done, bytes, prepared, spot, new, path, old, deck, below, out,
+            );
+        }
     }
 }
 

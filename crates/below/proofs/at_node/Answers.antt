@@ -1,0 +1,5 @@
+-- `below::at_node` meets its contract. Assumes nothing.
+use Rattle.below.proofs.at_node.Goals as goal
+
+pub returns : goal.returns
+returns c = rw (c.set_at.ensures, c.has_union.ensures, c.count_at.ensures)

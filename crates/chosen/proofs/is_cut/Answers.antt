@@ -1,0 +1,9 @@
+-- `chosen::is_cut` meets its contract. Assumes nothing.
+use Rattle.chosen.proofs.Parting.{tells_second, tells_first}
+use Rattle.chosen.proofs.is_cut.Goals as goal
+
+pub returns-then-is_source : goal.returns-then-is_source
+returns-then-is_source c = tells_second c.if-is_source.true c.is_source.ensures c.is_source-then-is_source.ensures
+
+pub returns : goal.returns
+returns c = tells_first c.if-is_source.false c.is_source.ensures

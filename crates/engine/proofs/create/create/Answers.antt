@@ -1,0 +1,7 @@
+-- `engine::create::create` meets its contract. Assumes nothing.
+use Rattle.engine.specs.Rooms.{Owed}
+use Rattle.engine.proofs.create.create.Goals as goal
+
+pub returns : goal.returns
+unfolding Owed
+returns c = c.answer_in-reply.ensures.owed
