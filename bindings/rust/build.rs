@@ -10,7 +10,7 @@ fn main() {
     println!("cargo:rerun-if-changed={}", library.display());
     if !library.is_file() {
         eprintln!("The engine's static library is missing: {}", library.display());
-        eprintln!("Build it first, in the repository's root: rt staticlib noontrough");
+        eprintln!("Build it first, in the repository's root: bindings/archive");
         std::process::exit(1);
     }
     println!("cargo:rustc-link-search=native={}", folder.display());

@@ -21,7 +21,7 @@ CALLS = [
     "noontrough_check", "noontrough_clash", "noontrough_create", "noontrough_get", "noontrough_put",
 ]
 #: What the script runs, rt not among it.
-TOOLS = "cat", "cc", "dirname", "ld", "mktemp", "mv", "rm", "sh"
+TOOLS = "cat", "cc", "cp", "dirname", "ld", "mkdir", "mktemp", "mv", "rm", "sh"
 
 
 def setUpModule() -> None:
@@ -41,6 +41,9 @@ class Copied(unittest.TestCase):
         shutil.copytree(PACKAGE, self.package, ignore=shutil.ignore_patterns("*.so", "__pycache__"))
         self.archive = self.root / "target/staticlib/libnoontrough.a"
         self.archive.parent.mkdir(parents=True)
+        shutil.copy(PACKAGE.parent / "archive", self.root / "bindings/archive")
+        self.crate = self.root / "crates/noontrough_c"
+        (self.crate / "out").mkdir(parents=True)
         self.library = self.package / "noontrough/libnoontrough.so"
         self.tools = self.root / "tools"
         self.tools.mkdir()
@@ -93,21 +96,21 @@ class Build(Copied):
         self.assert_library_works(self.package)
 
     def test_runs_rt_where_the_static_library_is_missing(self) -> None:
-        self.write_rt(f'cp "{ARCHIVE}" "{self.archive}"')
-        (self.tools / "cp").symlink_to(str(shutil.which("cp")))
+        self.write_rt(f'cp "{ARCHIVE}" out/libnoontrough_c.a')
         done = self.build()
         self.assertEqual(done.returncode, 0, done.stderr)
         self.assertIn("about seven minutes", done.stdout)
-        self.assertIn(f"rt ran with: staticlib noontrough in {self.root}\n", done.stdout)
+        self.assertIn(f"rt ran with: lib in {self.crate}\n", done.stdout)
         self.assert_library_works(self.package)
 
     def test_rt_that_fails(self) -> None:
         self.write_rt("exit 3")
-        self.assert_fails("build: rt staticlib noontrough did not succeed\n")
+        self.assert_fails("build: bindings/archive did not succeed\n")
 
     def test_rt_that_makes_nothing(self) -> None:
         self.write_rt("exit 0")
-        self.assert_fails(f"build: rt staticlib noontrough left no {self.archive}\n")
+        made = self.crate / "out/libnoontrough_c.a"
+        self.assert_fails(f"archive: rt lib left no {made}\nbuild: bindings/archive did not succeed\n")
 
     def test_no_rt(self) -> None:
         self.assert_fails(

@@ -638,7 +638,7 @@ class Words(unittest.TestCase):
 
     def test_sentences_are_those_of_the_command_line(self) -> None:
         text = (ROOT / "crates/meanings/src/lib.rt").read_text("utf-8")
-        found = re.findall(r'(\d+) => said\(\s*fd,\s*b"(.*)\\n",\s*\)', text)
+        found = re.findall(r'(\d+) => said\(\s*to,\s*b"(.*)\\n",\s*\)', text)
         said = {int(number): words for number, words in found}
         self.assertEqual(list(said), list(range(1, 20)))
         self.assertEqual(noontrough.SENTENCES, said)

@@ -1,5 +1,5 @@
 //! The program `sheet` itself: what it writes to standard output, and what it
-//! says on standard error. `rt check sheet` builds it; where it is not built,
+//! says on standard error. `rt run` in `crates/sheet` builds it; where it is not built,
 //! each test fails and says so.
 
 use std::path::{Path, PathBuf};
@@ -15,8 +15,8 @@ fn k(file: &str) -> String {
 }
 
 fn run(arguments: &[&str]) -> Output {
-    let program = in_repository("target/bin/sheet");
-    assert!(program.is_file(), "the program sheet is not built: run 'rt check sheet' in the repository's root");
+    let program = in_repository("crates/sheet/out/sheet");
+    assert!(program.is_file(), "the program sheet is not built: run 'rt run' in crates/sheet");
     Command::new(program).args(arguments).output().expect("the program runs")
 }
 
