@@ -638,8 +638,10 @@ class Words(unittest.TestCase):
 
     def test_sentences_are_those_of_the_command_line(self) -> None:
         text = (ROOT / "crates/meanings/src/lib.rt").read_text("utf-8")
-        found = re.findall(r'(\d+) => said\(\s*to,\s*b"(.*)\\n",\s*\)', text)
-        said = {int(number): words for number, words in found}
+        table = re.search(r"const SENTENCES: \[&str; 19\] = \[\n(.*?)\n\];", text, re.DOTALL)
+        assert table is not None
+        found = re.findall(r'^    "(.*)\\n",$', table[1], re.MULTILINE)
+        said = dict(enumerate(found, 1))
         self.assertEqual(list(said), list(range(1, 20)))
         self.assertEqual(noontrough.SENTENCES, said)
 

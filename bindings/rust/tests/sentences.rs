@@ -3,17 +3,17 @@
 
 use std::path::Path;
 
-/// The sentences of the program `sheet`, with their numbers, out of its source.
+/// The sentences of the program `sheet`, with their numbers, which are their places in the table of its source.
 fn of_sheet() -> Vec<(u64, String)> {
     let file = Path::new(env!("CARGO_MANIFEST_DIR")).join("../../crates/meanings/src/lib.rt");
     let source = std::fs::read_to_string(file).expect("the crate is there");
-    let arms = source.split(" => said(").zip(source.split(" => said(").skip(1));
-    arms.map(|(before, behind)| {
-        let number = before.rsplit(char::is_whitespace).next().and_then(|word| word.parse().ok());
-        let quoted = behind.split("b\"").nth(1).and_then(|text| text.split("\\n\"").next());
-        (number.expect("an arm has a number"), quoted.expect("and a sentence").to_string())
-    })
-    .collect()
+    let behind = source.split("const SENTENCES: [&str; 19] = [\n").nth(1).expect("the table is there");
+    let table = behind.split("\n];").next().unwrap_or_default();
+    let quoted = table.lines().map(|line| {
+        let text = line.trim().strip_prefix('"').and_then(|text| text.strip_suffix("\\n\","));
+        text.expect("a line has a sentence").to_string()
+    });
+    (1..).zip(quoted).collect()
 }
 
 #[test]

@@ -6,7 +6,7 @@ ghost use Rattle.lines.specs.Line.{Puts};
 ghost use Rattle.afm.specs.Section.{section_text};
 
 use crate::pair_lines::{measure, put_lines};
-use crate::{TEXT, refuse_line, too_long};
+use crate::{TEXT, refuse_line};
 use answers::Answer;
 use answers::results::refuse;
 use fields::Form;
@@ -16,20 +16,20 @@ pub fn export(sheet: &[u8], out: &mut [u8]) -> Answer
     ensures { GivesText (export_call sheet.now (length out.old)) out.old out.new result }
 {
     if TEXT < sheet.len() {
-        return refuse(12);
+        return Err(refuse(12));
     }
     let found = measure(Form::Sheet, sheet);
     let count = found.count;
-    if found.end < sheet.len() {
-        return refuse_line(1 + count);
+    if !found.rest.is_empty() {
+        return Err(refuse_line(1 + count));
     }
     // each line gets `KPX` and a space; the first and the last line have 29 bytes, and the count
     let length = found.bytes + 4 * count + 29 + digit_count(count);
-    if too_long(length, out.len()) {
-        return refuse(16);
+    if out.len().min(TEXT) < length {
+        return Err(refuse(16));
     }
     put_section(count, sheet, out);
-    Answer::Result { length }
+    Ok(length)
 }
 
 // The first line, those of the pairs, and the last.

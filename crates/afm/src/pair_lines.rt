@@ -1,54 +1,41 @@
 // The lines with a pair that stand first in a text: measured, and written in the other form.
-ghost use Rattle.std.specs.Prelude.{◌≡◌, ◌+◌, ◌-◌, ◌≤◌, length, take, drop};
+ghost use Rattle.std.specs.Prelude.{◌≡◌, ◌+◌, ◌≤◌, ◌<◌, ◌^◌, length};
 ghost use Rattle.sections.specs.Afm.{sheet_line};
-ghost use Rattle.fields.specs.Lines.{pair_at};
+ghost use Rattle.fields.specs.Lines.{pair_in};
 ghost use Rattle.lines.specs.Line.{Puts};
-ghost use Rattle.afm.specs.Pairs.{Measures, lead_for, mark_for, line_for, lines_for, PlacesIn};
+ghost use Rattle.afm.specs.Pairs.{Measures, lead_for, mark_for, line_for, lines_for};
 
-use fields::{Form, Line, is_pair, line_at};
+use fields::{Form, PairLine, pair_line};
 use lines::put_text;
 
-// Where the pairs end, how many they are, and how many bytes their lines have in a sheet.
+// How many pairs stand first, how many bytes their lines have in a sheet, and the text behind them.
 #[derive(Clone, Copy)]
-pub struct Measured {
-    pub end: usize,
+pub struct Measured<'a> {
     pub count: usize,
     pub bytes: usize,
+    pub rest: &'a [u8],
 }
 
-pub fn measure(form: Form, text: &[u8]) -> Measured
+pub fn measure(form: Form, text: &[u8]) -> Measured<'_>
     ensures { Measures form text.now result }
 {
-    let mut at = 0;
+    let mut rest = text;
     let mut count = 0;
     let mut bytes = 0;
-    while at < text.len() {
-        let rest = &text[at..];
-        let line = line_at(form, rest);
-        if !is_pair(rest, line) {
-            return Measured {
-                end: at,
-                count,
-                bytes,
-            };
-        }
+    while let Some(line) = pair_line(form, rest) {
         count += 1;
-        bytes += sheet_length(rest, line);
-        at += line.end + 1;
+        bytes += sheet_length(line);
+        rest = line.rest;
     }
-    Measured {
-        end: at,
-        count,
-        bytes,
-    }
+    Measured { count, bytes, rest }
 }
 
 // The names and the value, two semicolons and the newline.
-fn sheet_length(text: &[u8], line: Line) -> usize
-    requires { PlacesIn text.now line }
-    ensures { result ≡ length (sheet_line (pair_at text.now line)) }
+fn sheet_length(line: PairLine<'_>) -> usize
+    requires { length (sheet_line (pair_in line)) < 2 ^ 64 }
+    ensures { result ≡ length (sheet_line (pair_in line.entry)) }
 {
-    line.between - line.left + (line.behind - line.right) + (line.end - line.value) + 3
+    line.left.len() + line.right.len() + line.value.len() + 3
 }
 
 // What stands in front of the left name in the other form.
@@ -73,26 +60,17 @@ fn put_mark(form: Form, at: usize, out: &mut [u8]) -> usize
     }
 }
 
-fn put_part(text: &[u8], from: usize, to: usize, at: usize, out: &mut [u8]) -> usize
-    requires from_le_to { (from ≤ to) × (to ≤ length text.now) }
-    requires from_in_bounds { at + (to - from) ≤ length out.old }
-    ensures { Puts (take (to - from) (drop from text.now)) at result out.old out.new }
-{
-    put_text(&text[from..to], at, out)
-}
-
 // The line of a pair in the other form.
-fn put_line(form: Form, text: &[u8], line: Line, at: usize, out: &mut [u8]) -> usize
-    requires places_in { PlacesIn text.now line }
-    requires line_in_bounds { at + length (line_for form (pair_at text.now line)) ≤ length out.old }
-    ensures { Puts (line_for form (pair_at text.now line)) at result out.old out.new }
+fn put_line(form: Form, line: PairLine<'_>, at: usize, out: &mut [u8]) -> usize
+    requires { at + length (line_for form (pair_in line)) ≤ length out.old }
+    ensures { Puts (line_for form (pair_in line.entry)) at result out.old out.new }
 {
     let left = put_lead(form, at, out);
-    let between = put_part(text, line.left, line.between, left, out);
+    let between = put_text(line.left, left, out);
     let right = put_mark(form, between, out);
-    let behind = put_part(text, line.right, line.behind, right, out);
+    let behind = put_text(line.right, right, out);
     let value = put_mark(form, behind, out);
-    let end = put_part(text, line.value, line.end, value, out);
+    let end = put_text(line.value, value, out);
     put_text(b"\n", end, out)
 }
 
@@ -101,16 +79,11 @@ pub fn put_lines(form: Form, text: &[u8], at: usize, out: &mut [u8]) -> usize
     requires { at + length (lines_for form text.now) ≤ length out.old }
     ensures { Puts (lines_for form text.now) at result out.old out.new }
 {
-    let mut start = 0;
+    let mut rest = text;
     let mut next = at;
-    while start < text.len() {
-        let rest = &text[start..];
-        let line = line_at(form, rest);
-        if !is_pair(rest, line) {
-            return next;
-        }
-        next = put_line(form, rest, line, next, out);
-        start += line.end + 1;
+    while let Some(line) = pair_line(form, rest) {
+        next = put_line(form, line, next, out);
+        rest = line.rest;
     }
     next
 }

@@ -1,42 +1,39 @@
 // The first and the last line of a section.
+ghost use Rattle.std.specs.Prelude.{◌≡◌, MatchOption};
+ghost use Rattle.sections.specs.Afm.{section_of, bad};
 ghost use Rattle.afm.specs.Section.{StartsAt, EndFault};
 
-use fields::{ends_at, number_at, starts_with, word_length};
+use fields::{after_word, number_at};
 
 // The largest count.
 const COUNT: usize = 65535;
 
-// Where the line behind the first begins, and the count; 0 and 0 where the first line is not of its form.
+// The count of a section, and the lines behind the first.
 #[derive(Clone, Copy)]
-pub struct Start {
-    pub next: usize,
+pub struct Start<'a> {
     pub count: usize,
+    pub lines: &'a [u8],
 }
 
-pub fn start_line(text: &[u8]) -> Start
-    ensures { StartsAt text.now result }
+// What the first line tells, if it is of its form.
+pub fn start_line(text: &[u8]) -> Option<Start<'_>>
+    ensures { MatchOption result (section_of text.now ≡ bad 1) (λ start. StartsAt text.now start) }
 {
-    let at = word_length(b"StartKernPairs", text);
-    let found = number_at(COUNT, &text[at..]);
-    let end = at + found.count;
-    if ends_at(text, at, end) {
-        return Start {
-            next: end + 1,
-            count: found.number,
-        };
-    }
-    Start { next: 0, count: 0 }
+    let behind_word = after_word(b"StartKernPairs", text)?;
+    let found = number_at(COUNT, behind_word)?;
+    let lines = behind_word[found.count..].strip_prefix(b"\n")?;
+    Some(Start {
+        count: found.number,
+        lines,
+    })
 }
 
-// Whether the line behind the pairs (1) or what is behind that line (2) is not what ends a section; 0 where all is.
-pub fn end_fault(text: &[u8]) -> usize
+// Which line is not what ends a section, counted from the one behind the pairs: that one (1), or what is behind it (2), if any.
+pub fn end_fault(text: &[u8]) -> Option<usize>
     ensures { EndFault text.now result }
 {
-    if !starts_with(b"EndKernPairs\n", text) {
-        return 1;
+    match text.strip_prefix(b"EndKernPairs\n") {
+        Some(behind) => (!behind.is_empty()).then_some(2),
+        None => Some(1),
     }
-    if 13 < text.len() {
-        return 2;
-    }
-    0
 }

@@ -1,6 +1,6 @@
 -- What put counted, and the new source read afresh.
 use mathlib.Core.Path.{◌≡◌, ap, ◌∙◌, subst}
-use Prim.Native.Nat.{◌-◌, ◌≤◌}
+use Prim.Native.Nat.{◌≤◌}
 use native.Mathlib.Omega.{arith}
 use lib.ListN.{length, take}
 use Rattle.semantics.specs.Text.{Text}
@@ -67,12 +67,9 @@ module _ {bytes a old : Text} {r : ReadAfresh} (made : ReadMade bytes a old r) w
       let (t, is) = (source_result_iff (put_call bytes a old 4096) (put_tally bytes a old) blank r.given r.first named made.put_made).0 zero in
       gave_of (put_call bytes a old 4096) (put_tally bytes a old) blank r.given r.first t made.put_made is
 
-  -- the text is lent as the prover says it
-  pub counts_afresh : LinkedRestores bytes (take (r.first.length - 0) r.given) r.afresh → CountsAfresh bytes old r
+  pub counts_afresh : LinkedRestores bytes (take r.first.length r.given) r.afresh → CountsAfresh bytes old r
   unfolding new_source
-  counts_afresh lent =
-      let whole : r.first.length - 0 ≡ r.first.length = omega arith in
-      let restores = subst (λ k. LinkedRestores bytes (take k r.given) r.afresh) whole lent in
+  counts_afresh restores =
       record {
         old_counted =
             λ l p zero.
@@ -95,15 +92,14 @@ pub read_made :
     (bytes a old : Text) {x : Text} {r : ReadAfresh}
     → x ≡ blank
     → ExportsSource (put_call bytes a old (length x)) (put_tally bytes a old) x r.given r.first
-    → let t = take (r.first.length - 0) r.given in
+    → let t = take r.first.length r.given in
     LinkedMade (get_call bytes t 4096) (λ b. put_call bytes b t 4096) (λ b. put_tally bytes b t) r.afresh
     → ReadMade bytes a old r
 unfolding new_source
 read_made bytes a old {x} {r} is given read =
     let room : length x ≡ 4096 = ap length is ∙ blank_length in
-    let whole : r.first.length - 0 ≡ r.first.length = omega arith in
     let given' = subst (λ k. ExportsSource (put_call bytes a old k) (put_tally bytes a old) x r.given r.first) room given in
     record {
       put_made = subst (λ b. ExportsSource (put_call bytes a old 4096) (put_tally bytes a old) b r.given r.first) is given';
-      read_made = rw whole at read;
+      read_made = read;
     }

@@ -1,6 +1,6 @@
 -- Two linked calls, one after the other: what the second gives, from what the first gave, by numbers.
 use mathlib.Core.Path.{◌≡◌, refl, ap, ap₂, ◌∙◌, subst}
-use Prim.Native.Nat.{ℕ, ◌-◌, ◌≤◌}
+use Prim.Native.Nat.{ℕ, ◌≤◌}
 use native.Mathlib.Omega.{arith}
 use lib.ListN.{length, take}
 use Rattle.semantics.specs.Text.{Text}
@@ -36,7 +36,7 @@ module _ {outcome : Outcome Text} {start given : Text} {first : Numbers} (named 
 module _ {given : Text} {first : Numbers} {second : Text → Outcome Text} {count : Text → Tally} {before after : Text} {numbers : PutNumbers} where
   pub linked_result :
       first.number ≡ 0
-      → let text = take (first.length - 0) given in
+      → let text = take first.length given in
       ExportsSource (second text) (count text) before after numbers
       → LinkedFollows given first second count before after numbers
   unfolding then_call then_count
@@ -45,8 +45,7 @@ module _ {given : Text} {first : Numbers} {second : Text → Outcome Text} {coun
         follows =
             λ outcome start named h.
             let (t, is, lengths, text, held) = zero_text named h zero in
-            let whole : first.length - 0 ≡ length t = omega arith in
-            let same : take (first.length - 0) given ≡ t = ap (λ k. take k given) whole ∙ text in
+            let same : take first.length given ≡ t = ap (λ k. take k given) lengths ∙ text in
             rw is (subst (λ u. ExportsSource (second u) (count u) before after numbers) same made);
       }
 

@@ -5,15 +5,16 @@ ghost use Rattle.semantics.specs.Tally.{put_tally};
 ghost use Rattle.demands.specs.Demands.{LinkedMade, LinkedRestores};
 ghost use Rattle.afresh.specs.Following.{LinkedHeld, LinkedFollows};
 
-use demands::{LinkedCalls, blank_buffer};
+use arrays::filled;
+use demands::LinkedCalls;
 use noontrough::{Numbers, PutNumbers, noontrough_get, noontrough_put};
 
 pub fn linked_get_then_put(table: &[u8], source: &[u8]) -> LinkedCalls
     ensures made { LinkedMade (get_call table.now source.now 4096) (λ a. put_call table.now a source.now 4096) (λ a. put_tally table.now a source.now) result }
     ensures demand { LinkedRestores table.now source.now result }
 {
-    let mut given = blank_buffer();
-    let mut again = blank_buffer();
+    let mut given: [u8; 4096] = filled(0);
+    let mut again: [u8; 4096] = filled(0);
     let first = noontrough_get(table, source, &mut given);
     let second = linked_put_of(table, first, &given, source, &mut again);
     LinkedCalls {
@@ -46,5 +47,5 @@ fn linked_put_of(
         };
     }
     let length = first.length as usize;
-    noontrough_put(table, &given[0..length], source, again)
+    noontrough_put(table, &given[..length], source, again)
 }

@@ -2,7 +2,8 @@
 ghost use Rattle.afresh.specs.Counting.{ReadMade, CountsAfresh};
 
 use crate::linked::linked_get_then_put;
-use demands::{LinkedCalls, blank_buffer};
+use arrays::filled;
+use demands::LinkedCalls;
 use noontrough::{PutNumbers, noontrough_put};
 
 // The numbers of put and its whole buffer afterwards, and the calls that read the new source.
@@ -18,10 +19,10 @@ pub fn put_then_read(table: &[u8], sheet: &[u8], source: &[u8]) -> ReadAfresh
     ensures made { ReadMade table.now sheet.now source.now result }
     ensures demand { CountsAfresh table.now source.now result }
 {
-    let mut given = blank_buffer();
+    let mut given: [u8; 4096] = filled(0);
     let first = noontrough_put(table, sheet, source, &mut given);
     let length = first.length as usize;
-    let afresh = linked_get_then_put(table, &given[0..length]);
+    let afresh = linked_get_then_put(table, &given[..length]);
     ReadAfresh {
         first,
         given,

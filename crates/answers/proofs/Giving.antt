@@ -13,19 +13,22 @@ use Rattle.semantics.specs.Lens.{Lens, language}
 use Rattle.semantics.specs.Table.{node_count, positions, lens, tree_at, trees}
 use Rattle.semantics.specs.Calls.{gives, refuses, refuse_if, program, with_program, max_text, too_long, not_of, output, buffer_after}
 use Rattle.semantics.specs.Calls.{Answer as Outcome}
+use Rattle.laws.specs.Basics.{never}
 use Rattle.laws.specs.Accepted.{accepted}
 use Rattle.automaton.specs.declared.Automaton.{Automaton}
 use Rattle.automaton.specs.declared.Side.{Side as SideOf}
 use Rattle.automaton.specs.Rows.{side_of, automaton_at, Room, Describes}
 use Rattle.automaton.specs.Built.{tree_language}
 use Rattle.paths.specs.Finding.{PathFound}
-use Rattle.texts.specs.declared.Wrote.{Wrote}
-use Rattle.texts.specs.declared.Wrote.TheVariants.{Count, Full}
-use Rattle.texts.specs.Overlay.{Writes, overlay, overlay_length, overlay_fits, count_fits, full_over, writes_within}
+use Rattle.std.specs.Prelude.{Some, None, Ok, Err, MatchResult, IsOkAnd, ok_or}
+use Rattle.table.specs.Prepared.{refusal}
+use Rattle.texts.specs.Overlay.{Wrote, Writes, overlay, overlay_length, overlay_fits, count_fits, full_over, writes_within}
 use Rattle.lens.specs.Emitting.{LensNode}
-use Rattle.answers.specs.declared.Answer.{Answer}
-use Rattle.answers.specs.declared.Answer.TheVariants.{Result, Refusal}
-use Rattle.answers.specs.Outcomes.{answer_for, GivesText}
+use Rattle.table.specs.declared.Refusal.{Refusal}
+use Rattle.answers.specs.declared.Sourced.{Sourced}
+use Rattle.answers.specs.declared.Tally.{Tally as Counts}
+use Rattle.answers.specs.Outcomes.{Answer, PutAnswer, answer_for, GivesText, untallied}
+use Rattle.answers.specs.Replies.{with_tally}
 use Rattle.answers.specs.Answers.{IsAccepted, Ready}
 use Rattle.answers.specs.Results.{Counted, Finishes, RootPath, Makes, GivesMade}
 use Rattle.answers.proofs.Verdicts.{accepted_sizes, root_tree}
@@ -87,7 +90,7 @@ module _ {bytes : Text} {prepared : List ℕ} (ready : Ready bytes prepared) {ro
 pub program_refuses :
     (bytes : Text) (call : Lens → Outcome Text) {before : Text} {number node : ℕ}
     → program bytes ≡ refuses number node
-    → GivesText (with_program (program bytes) call) before before (Refusal number node)
+    → GivesText (with_program (program bytes) call) before before (Err (refusal number node))
 unfolding with_program answer_for buffer_after
 program_refuses bytes call e = rw e (record { answer_is = refl; buffer_is = refl })
 
@@ -102,7 +105,7 @@ program_gives call a g = rw a.gives_root g
 -- a test holds,
 pub refused :
     {test : Bool} (number : ℕ) (rest : Outcome Text) {before : Text} {answer : Answer}
-    → answer ≡ Refusal number 0
+    → answer ≡ Err (refusal number 0)
     → test ≡ true
     → GivesText (refuse_if test number rest) before before answer
 unfolding refuse_if answer_for buffer_after
@@ -142,7 +145,7 @@ counted {text} {before} {after} w =
     record { within = λ n e. writes_within text before after n (subst (λ x. Writes text before after x) e w) }
 
 -- a text that had no room is refused
-pub finish_full : {result before : Text} {wrote : Wrote} → wrote ≡ Full → Finishes wrote result before before (Refusal 16 0)
+pub finish_full : {result before : Text} {wrote : Wrote} → wrote ≡ None → Finishes wrote result before before (Err (refusal 16 0))
 unfolding output
 finish_full {result} {before} {wrote} e =
     record { finishes = go; told = λ n is. absurd (let z : ◌≡◌ {A = ℕ} 0 1 = cc in omega arith) }
@@ -151,7 +154,7 @@ finish_full {result} {before} {wrote} e =
         (text start : Text)
         → length result ≡ min (length before) max_text
         → Writes text start result wrote
-        → GivesText (output (length before) text) before before (Refusal 16 0)
+        → GivesText (output (length before) text) before before (Err (refusal 16 0))
     go text start room w =
         let over : length start < length text = full_over false text start (sym e ∙ w.answer_is) in
         let same : length result ≡ length start = rw w.buffer_is (overlay_length text start) in
@@ -160,25 +163,25 @@ finish_full {result} {before} {wrote} e =
 
 -- a text that is given
 pub given :
-    {text before after : Text} {n : ℕ} → n ≡ length text → after ≡ text ++ drop (length text) before → GivesText (gives text) before after (Result n)
+    {text before after : Text} {n : ℕ} → n ≡ length text → after ≡ text ++ drop (length text) before → GivesText (gives text) before after (Ok n)
 unfolding answer_for buffer_after
-given n_is after_is = record { answer_is = ap Result n_is; buffer_is = after_is }
+given n_is after_is = record { answer_is = ap Ok n_is; buffer_is = after_is }
 
 -- one that had room is given: the bytes that were counted, lent as the prover says it, are the text
 pub finish_count :
     {result before after : Text} {wrote copied : Wrote} {n : ℕ}
-    → wrote ≡ Count n
+    → wrote ≡ Some n
     → Writes (take (n - 0) result) before after copied
-    → Finishes wrote result before after (Result n)
+    → Finishes wrote result before after (Ok n)
 unfolding output
 finish_count {result} {before} {after} {wrote} {copied} {n} e copy =
-    record { finishes = go; told = λ m is. let same : n ≡ m = cc in e ∙ ap Count same }
+    record { finishes = go; told = λ m is. let same : n ≡ m = cc in e ∙ ap Some same }
   where
     go :
         (text start : Text)
         → length result ≡ min (length before) max_text
         → Writes text start result wrote
-        → GivesText (output (length before) text) before after (Result n)
+        → GivesText (output (length before) text) before after (Ok n)
     go text start room w =
         let (n_is, fits) = count_fits text start n (sym e ∙ w.answer_is) in
         let same : length result ≡ length start = rw w.buffer_is (overlay_length text start) in
@@ -210,7 +213,7 @@ pub give_short :
     {text before after : Text} {wrote : Wrote}
     → length text ≤ min (length before) max_text
     → Writes text before after wrote
-    → GivesText (output (length before) text) before after (Result (length text))
+    → GivesText (output (length before) text) before after (Ok (length text))
 unfolding output
 give_short {text} {before} short copy =
     let lent : length text ≤ length before = omega (arith, min-le_left (length before) max_text) in
@@ -220,7 +223,36 @@ give_short {text} {before} short copy =
 pub give_long :
     (text : Text) {before : Text} {answer : Answer}
     → min (length before) max_text < length text
-    → answer ≡ Refusal 16 0
+    → answer ≡ Err (refusal 16 0)
     → GivesText (output (length before) text) before before answer
 unfolding output
 give_long text {before} long is = refused 16 (gives text) is (lt-ltb (min (length before) max_text) (length text) long)
+
+-- ---- The counts of a put
+
+-- they stand beside the length of a result,
+pub tallied :
+    (answer : Answer) (n : Counts) (r : PutAnswer) (made : ℕ → Sourced → Type 0)
+    → MatchResult answer (λ length. IsOkAnd r (made length)) (λ e. r ≡ Err e)
+    → ((length : ℕ) (x : Sourced) → made length x → x ≡ record { length = length; tally = n })
+    → r ≡ with_tally answer n
+unfolding with_tally
+tallied (Ok length) n (Ok x) made is each = ap Ok (each length x is)
+tallied (Ok length) n (Err e) made is each = absurd is
+tallied (Err e) n r made is each = is
+
+-- and are left out again
+pub left_out :
+    (answer : PutAnswer) (r : Answer) (told : Sourced → ℕ → Type 0)
+    → MatchResult answer (λ made. IsOkAnd r (told made)) (λ e. r ≡ Err e)
+    → ((made : Sourced) (length : ℕ) → told made length → length ≡ made.length)
+    → r ≡ untallied answer
+unfolding untallied
+left_out (Ok made) (Ok length) told is each = ap Ok (each made length is)
+left_out (Ok made) (Err e) told is each = absurd is
+left_out (Err e) r told is each = is
+
+-- what had no room has no count
+pub not_counted : (wrote : Wrote) (r : Refusal) {told : Refusal} → Err told ≡ ok_or wrote r → (wrote ≡ None) × (told ≡ r)
+not_counted (Some n) r e = never (cc)
+not_counted None r e = (refl, cc)

@@ -2,3 +2,4 @@
 pub mod Verdicts
 pub mod Giving
 pub mod Texts
+pub mod Parts

@@ -12,14 +12,13 @@ use Rattle.laws.specs.Basics.{all_append}
 use Rattle.laws.specs.NodeTrees.{lens_tree}
 use Rattle.laws.specs.Accepted.{Quiet, quiet_iff, gives_iff, accepted_iff}
 use Rattle.table.specs.Prepared.{table_lines, table_answer, answer_for}
-use Rattle.table.specs.declared.TableAnswer.TheVariants as T
+use Rattle.table.specs.Prepared.{refusal}
+use Rattle.table.specs.declared.Refusal.{Refusal}
 use Rattle.laws.specs.RightSizes.{Right, right_of}
 use Rattle.typing.specs.Round.{typing_answer, answer_of}
-use Rattle.typing.specs.declared.round.TypingAnswer.TheVariants as R
-use Rattle.answers.specs.Answers.{IsAccepted, Ready, TooSmall, CheckedIs}
+use Rattle.answers.specs.Answers.{IsAccepted, TooSmall, Checked, CheckedIs}
 use Rattle.answers.specs.Outcomes as A
-use Rattle.answers.specs.declared.Answer.TheVariants.{Result, Refusal}
-use Rattle.answers.specs.declared.Checked.{Checked}
+use Rattle.std.specs.Prelude.{Ok, Err}
 
 -- two constructors are never equal: it would make 0 and 1 equal
 never : {A : Type 0} → ◌≡◌ {A = ℕ} 0 1 → A
@@ -76,11 +75,11 @@ line_refuses bytes l e = rw e refl
 
 -- ---- The program's answer
 
-pub table_refuses : (bytes : Text) (number node : ℕ) → T.Refused number node ≡ table_answer bytes → program bytes ≡ refuses number node
+pub table_refuses : (bytes : Text) (r : Refusal) → Err r ≡ table_answer bytes → program bytes ≡ refuses r.number r.node
 unfolding table_answer answer_for
-table_refuses bytes number node e = go (first_that_holds (table_lines bytes)) refl e
+table_refuses bytes r e = go (first_that_holds (table_lines bytes)) refl e
   where
-    go : (o : Option Line) → first_that_holds (table_lines bytes) ≡ o → T.Refused number node ≡ answer_for bytes o → program bytes ≡ refuses number node
+    go : (o : Option Line) → first_that_holds (table_lines bytes) ≡ o → Err r ≡ answer_for bytes o → program bytes ≡ refuses r.number r.node
     go none found e = never (cc)
     go (some l) found e =
         let first : first_that_holds (lines bytes) ≡ some l = rw (lines_are bytes) (first_left (table_lines bytes) (second_round 0 (trees bytes)) l found) in
@@ -111,23 +110,23 @@ first_low (x ∷ xs) l all e = go x.holds e (first_low xs l all.1)
     go false e rec = rec e
 
 -- and so has a refusal of it
-pub table_number : (bytes : Text) (number node : ℕ) → T.Refused number node ≡ table_answer bytes → number ≤ 5
+pub table_number : (bytes : Text) (r : Refusal) → Err r ≡ table_answer bytes → r.number ≤ 5
 unfolding table_answer answer_for
-table_number bytes number node e = go (first_that_holds (table_lines bytes)) refl e
+table_number bytes r e = go (first_that_holds (table_lines bytes)) refl e
   where
-    go : (o : Option Line) → first_that_holds (table_lines bytes) ≡ o → T.Refused number node ≡ answer_for bytes o → number ≤ 5
+    go : (o : Option Line) → first_that_holds (table_lines bytes) ≡ o → Err r ≡ answer_for bytes o → r.number ≤ 5
     go none found e = never (cc)
     go (some l) found e =
         let low = first_low (table_lines bytes) l (table_low bytes) found in
-        let same : number ≡ l.number = cc in
+        let same : r.number ≡ l.number = cc in
         rw same low
 
 -- a table that is ready has no line of the first round that holds
-pub ready_none : (bytes : Text) (t : _) → T.Ready t ≡ table_answer bytes → first_that_holds (table_lines bytes) ≡ none
+pub ready_none : (bytes : Text) (t : _) → Ok t ≡ table_answer bytes → first_that_holds (table_lines bytes) ≡ none
 unfolding table_answer answer_for
 ready_none bytes t e = go (first_that_holds (table_lines bytes)) e
   where
-    go : (o : Option Line) → T.Ready t ≡ answer_for bytes o → o ≡ none
+    go : (o : Option Line) → Ok t ≡ answer_for bytes o → o ≡ none
     go none e = refl
     go (some l) e = never (cc)
 
@@ -135,19 +134,19 @@ module _ (bytes : Text) (table-passes : first_that_holds (table_lines bytes) ≡
   second_decides : first_that_holds (lines bytes) ≡ first_that_holds (second_round 0 (trees bytes))
   second_decides = rw (lines_are bytes) (first_right (table_lines bytes) (second_round 0 (trees bytes)) table-passes)
 
-  pub typing_refuses : (number node : ℕ) → R.Refused number node ≡ typing_answer bytes → program bytes ≡ refuses number node
+  pub typing_refuses : (r : Refusal) → Err r ≡ typing_answer bytes → program bytes ≡ refuses r.number r.node
   unfolding typing_answer answer_of
-  typing_refuses number node e = go (first_that_holds (second_round 0 (trees bytes))) refl e
+  typing_refuses r e = go (first_that_holds (second_round 0 (trees bytes))) refl e
     where
-      go : (o : Option Line) → first_that_holds (second_round 0 (trees bytes)) ≡ o → R.Refused number node ≡ answer_of o → program bytes ≡ refuses number node
+      go : (o : Option Line) → first_that_holds (second_round 0 (trees bytes)) ≡ o → Err r ≡ answer_of o → program bytes ≡ refuses r.number r.node
       go none found e = never (cc)
       go (some l) found e = let answer = line_refuses bytes l (second_decides ∙ found) in cc
 
-  pub typing_accepts : R.Typed ≡ typing_answer bytes → IsAccepted bytes
+  pub typing_accepts : Ok tt ≡ typing_answer bytes → IsAccepted bytes
   unfolding typing_answer answer_of
   typing_accepts e = go (first_that_holds (second_round 0 (trees bytes))) refl e
     where
-      go : (o : Option Line) → first_that_holds (second_round 0 (trees bytes)) ≡ o → R.Typed ≡ answer_of o → IsAccepted bytes
+      go : (o : Option Line) → first_that_holds (second_round 0 (trees bytes)) ≡ o → Ok tt ≡ answer_of o → IsAccepted bytes
       go none found e =
           let r = (accepted_iff bytes).1 ((quiet_iff bytes).0 (none_quiet (lines bytes) (second_decides ∙ found))) in
           record { root = r.0; gives_root = r.1 }
@@ -165,13 +164,13 @@ never_small h = omega (arith, h.no_room, h.most)
 
 -- ---- The call Check
 
-pub check_refuses : (bytes : Text) (number node : ℕ) → program bytes ≡ refuses number node → Refusal number node ≡ A.answer_for (λ (n : ℕ). n) (check_call bytes)
+pub check_refuses : (bytes : Text) (number node : ℕ) → program bytes ≡ refuses number node → Err (refusal number node) ≡ A.answer_for (λ (n : ℕ). n) (check_call bytes)
 unfolding check_call with_program A.answer_for
 check_refuses bytes number node e = rw e refl
 
-pub check_accepts : (bytes : Text) (n : ℕ) → IsAccepted bytes → n ≡ node_count bytes → Result n ≡ A.answer_for (λ (n : ℕ). n) (check_call bytes)
+pub check_accepts : (bytes : Text) (n : ℕ) → IsAccepted bytes → n ≡ node_count bytes → Ok n ≡ A.answer_for (λ (n : ℕ). n) (check_call bytes)
 unfolding check_call with_program A.answer_for
-check_accepts bytes n a e = rw a.gives_root (ap Result e)
+check_accepts bytes n a e = rw a.gives_root (ap Ok e)
 
 -- ---- The root of an accepted program
 

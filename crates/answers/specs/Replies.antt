@@ -1,22 +1,18 @@
 -- Put's answer, from a reply whose counts stand beside it, and without its counts.
-use Rattle.std.specs.Prelude.{◌≡◌, refl, length}
+use Rattle.std.specs.Prelude.{◌≡◌, refl, length, Ok, Err}
 use Rattle.std.proofs.Common.{ap, ◌∙◌}
 use Rattle.semantics.specs.Text.{Text}
 use Rattle.semantics.specs.Calls.{gives, refuses}
 use Rattle.semantics.specs.Calls.{Answer as Outcome}
 use Rattle.semantics.specs.Tally.{Tally}
-use Rattle.answers.specs.declared.Answer.{Answer}
-use Rattle.answers.specs.declared.Answer.TheVariants.{Result, Refusal}
-use Rattle.answers.specs.declared.PutAnswer.{PutAnswer}
-use Rattle.answers.specs.declared.PutAnswer.TheVariants as P
 use Rattle.answers.specs.declared.Tally.{Tally as Counts}
 use Rattle.answers.specs.declared.Reply.{Reply}
-use Rattle.answers.specs.Outcomes.{answer_for, put_answer_for, GivesText, GivesSource, RepliesSource, untallied}
+use Rattle.answers.specs.Outcomes.{Answer, PutAnswer, answer_for, put_answer_for, GivesText, GivesSource, RepliesSource, untallied}
 
 -- the counts of a result go into the answer, and those beside a refusal are left out
 unfoldable pub with_tally : Answer → Counts → PutAnswer
-with_tally (Result length) n = P.Result length n.kept n.made n.dropped
-with_tally (Refusal number node) n = P.Refusal number node
+with_tally (Ok length) n = Ok (record { length = length; tally = n })
+with_tally (Err r) n = Err r
 
 -- without its counts put's answer is that of a call that gives a text
 untallied_is : (outcome : Outcome Text) (n : Tally) → untallied (put_answer_for outcome n) ≡ answer_for length outcome
@@ -39,7 +35,7 @@ with_tally_is :
 unfolding with_tally put_answer_for answer_for
 with_tally_is (gives t) n counts same =
     let (kept, made, dropped) = same t refl in
-    rw (kept, made, dropped) refl
+    rw (← kept, ← made, ← dropped) refl
 with_tally_is (refuses number node) n counts same = refl
 
 -- put's answer, once its counts are in it

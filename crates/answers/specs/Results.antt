@@ -1,5 +1,5 @@
 -- What the calls that give a text have in common: the text is made in a slice of the call's own, and then copied out.
-use Rattle.std.specs.Prelude.{◌≡◌, Bool, true, List, ℕ, ◌-◌, ◌≤◌, min, length}
+use Rattle.std.specs.Prelude.{◌≡◌, Bool, true, List, ℕ, ◌-◌, ◌≤◌, min, length, Some, Ok}
 use Rattle.semantics.specs.Text.{Text}
 use Rattle.semantics.specs.Pattern.{matches}
 use Rattle.semantics.specs.Lens.{Lens, language}
@@ -8,17 +8,13 @@ use Rattle.semantics.specs.Table.{node_count}
 use Rattle.semantics.specs.Calls.{gives, program, max_text, output}
 use Rattle.automaton.specs.declared.Side.{Side}
 use Rattle.automaton.specs.Rows.{side_of}
-use Rattle.texts.specs.declared.Wrote.{Wrote}
-use Rattle.texts.specs.declared.Wrote.TheVariants.{Count}
-use Rattle.texts.specs.Overlay.{Writes}
+use Rattle.texts.specs.Overlay.{Wrote, Writes}
 use Rattle.lens.specs.Parsed.{Parsed}
-use Rattle.answers.specs.declared.Answer.{Answer}
-use Rattle.answers.specs.declared.Answer.TheVariants.{Result}
-use Rattle.answers.specs.Outcomes.{GivesText}
+use Rattle.answers.specs.Outcomes.{Answer, GivesText}
 
 -- The bytes that were counted are in the slice.
 pub record Counted (wrote : Wrote) (result : Text) : Type 0 where
-  pub within : (n : ℕ) → wrote ≡ Count n → n ≤ length result
+  pub within : (n : ℕ) → wrote ≡ Some n → n ≤ length result
 
 -- Whatever text was written into the slice, a slice as long as a result may be, it is given or refused as document 01 says; a result is what was counted.
 pub record Finishes (wrote : Wrote) (result before after : Text) (answer : Answer) : Type 0 where
@@ -27,7 +23,7 @@ pub record Finishes (wrote : Wrote) (result before after : Text) (answer : Answe
       → length result ≡ min (length before) max_text
       → Writes text start result wrote
       → GivesText (output (length before) text) before after answer
-  pub told : (n : ℕ) → answer ≡ Result n → wrote ≡ Count n
+  pub told : (n : ℕ) → answer ≡ Ok n → wrote ≡ Some n
 
 -- It tells whether the text belongs to the root's language on that side; if so, the path is its least.
 pub record RootPath (bytes : Text) (side : Side) (text : Text) (path : List ℕ) (answer : Bool) : Type 0 where

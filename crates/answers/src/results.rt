@@ -2,18 +2,19 @@
 ghost use Rattle.std.specs.Prelude.{◌≡◌, ◌-◌, ◌≤◌, min, length};
 ghost use Rattle.semantics.specs.Table.{node_count};
 ghost use Rattle.semantics.specs.Calls.{output};
-ghost use Rattle.answers.specs.declared.Answer.TheVariants.{Refusal};
+ghost use Rattle.table.specs.Prepared.{refusal};
 ghost use Rattle.answers.specs.Answers.{IsAccepted, Ready};
 ghost use Rattle.answers.specs.Outcomes.{GivesText, untallied};
 ghost use Rattle.answers.specs.Replies.{with_tally};
 ghost use Rattle.answers.specs.Results.{Counted, Finishes, RootPath};
 
-use crate::{Answer, ClashAnswer, PutAnswer, Reply, Tally};
+use crate::{Answer, ClashAnswer, PutAnswer, Reply, Sourced, Tally};
+use arrays::filled;
 use automaton::{Side, automaton_of};
 use paths::find_path;
-use table::Table;
 use table::parts::node_count;
-use texts::{Wrote, write_text};
+use table::{Refusal, Table};
+use texts::write_text;
 
 // The root is the last node.
 pub fn root_of(bytes: &[u8]) -> usize
@@ -31,7 +32,8 @@ pub fn root_path(bytes: &[u8], prepared: &[u64], side: Side, text: &[u8], path: 
 {
     let root = root_of(bytes);
     let a = automaton_of(prepared, root, side);
-    let mut marks = no_marks();
+    // a text of at most 4,096 bytes needs no room for the sets that finding its path keeps
+    let mut marks: [u64; 1] = filled(0);
     find_path(prepared, a, text, &mut marks, path)
 }
 
@@ -39,79 +41,45 @@ pub fn root_path(bytes: &[u8], prepared: &[u64], side: Side, text: &[u8], path: 
 pub fn room_in(lent: usize) -> usize
     ensures { result ≡ min lent 4096 }
 {
-    if lent < Table::TEXT {
-        lent
-    } else {
-        Table::TEXT
-    }
+    lent.min(Table::TEXT)
 }
 
-// Room for a result of the call's own.
-pub fn no_text() -> [u8; Table::TEXT]
-    ensures { 4096 ≡ length result }
+// Why a text, its entries or a result are refused: that concerns no node.
+pub fn refuse(number: usize) -> Refusal
+    ensures { result ≡ refusal number 0 }
 {
-    [0u8; Table::TEXT]
-}
-
-// Finding the path of a text of at most 4,096 bytes needs no room lent for the sets that it keeps.
-pub fn no_marks() -> [u64; 1]
-    ensures { 1 ≡ length result }
-{
-    [0u64; 1]
-}
-
-// A refusal that concerns no node: that of a text, of its entries or of a result.
-pub fn refuse(number: usize) -> Answer
-    ensures { result ≡ Refusal number 0 }
-{
-    Answer::Refusal { number, node: 0 }
+    Refusal { number, node: 0 }
 }
 
 // A result that had room is copied to the start of the output buffer; one that had not leaves it as it is.
-pub fn finish(wrote: Wrote, res: &[u8], out: &mut [u8]) -> Answer
+pub fn finish(wrote: Option<usize>, res: &[u8], out: &mut [u8]) -> Answer
     requires { Counted wrote res.now }
     ensures { Finishes wrote res.now out.old out.new result }
 {
-    match wrote {
-        Wrote::Full => refuse(16),
-        Wrote::Count(length) => {
-            write_text(&res[0..length], out);
-            Answer::Result { length }
-        }
-    }
+    let length = wrote.ok_or(refuse(16))?;
+    write_text(&res[..length], out);
+    Ok(length)
 }
 
 // A text is copied to the start of the output buffer if it may be so long; if not, the buffer stays as it is.
 pub fn give(text: &[u8], out: &mut [u8]) -> Answer
     ensures { GivesText (output (length out.old) text.now) out.old out.new result }
 {
-    let length = text.len();
-    if room_in(out.len()) < length {
-        return refuse(16);
+    if room_in(out.len()) < text.len() {
+        return Err(refuse(16));
     }
     write_text(text, out);
-    Answer::Result { length }
-}
-
-// The tally of what is not counted.
-pub fn no_tally() -> Tally {
-    Tally {
-        kept: 0,
-        made: 0,
-        dropped: 0,
-    }
+    Ok(text.len())
 }
 
 // The reply of a call that counts nothing.
 pub fn uncounted(answer: Answer) -> Reply
     ensures { result.answer ≡ answer }
 {
-    let tally = no_tally();
-    let clash = ClashAnswer::Accepted;
     Reply {
         answer,
-        tally,
-        clash,
+        tally: Tally::default(),
+        clash: Ok(None),
     }
 }
 
@@ -119,11 +87,9 @@ pub fn uncounted(answer: Answer) -> Reply
 pub fn clashed(clash: ClashAnswer) -> Reply
     ensures { result.clash ≡ clash }
 {
-    let answer = Answer::Result { length: 0 };
-    let tally = no_tally();
     Reply {
-        answer,
-        tally,
+        answer: Ok(0),
+        tally: Tally::default(),
         clash,
     }
 }
@@ -132,27 +98,13 @@ pub fn clashed(clash: ClashAnswer) -> Reply
 pub fn with_tally(reply: Reply) -> PutAnswer
     ensures { result ≡ with_tally reply.answer reply.tally }
 {
-    let answer = reply.answer;
     let tally = reply.tally;
-    match answer {
-        Answer::Result { length } => {
-            PutAnswer::Result {
-                length,
-                kept: tally.kept,
-                made: tally.made,
-                dropped: tally.dropped,
-            }
-        }
-        Answer::Refusal { number, node } => PutAnswer::Refusal { number, node },
-    }
+    reply.answer.map(|length| Sourced { length, tally })
 }
 
 // The answer of a put without its tally.
 pub fn without_tally(answer: PutAnswer) -> Answer
     ensures { result ≡ untallied answer }
 {
-    match answer {
-        PutAnswer::Result { length, .. } => Answer::Result { length },
-        PutAnswer::Refusal { number, node } => Answer::Refusal { number, node },
-    }
+    answer.map(|source| source.length)
 }

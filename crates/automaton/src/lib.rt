@@ -50,14 +50,12 @@ pub fn automaton_of(prepared: &[u64], node: usize, side: Side) -> Automaton
 {
     let s = side_index(side);
     let i = Table::WORDS * node + 4 + 6 * s;
-    let first = set_at(prepared, i + 2);
-    let last = set_at(prepared, i + 4);
     Automaton {
         start: prepared[i] as usize,
         count: prepared[Table::WORDS * node + 1 + s] as usize,
         nullable: prepared[i + 1] == 1,
-        first: first,
-        last: last,
+        first: set_at(prepared, i + 2),
+        last: set_at(prepared, i + 4),
     }
 }
 
@@ -74,9 +72,10 @@ fn class_at(prepared: &[u64], i: usize) -> Class
     requires { i + 4 ≤ length prepared.now }
     ensures { result ≡ class_at prepared.now i }
 {
-    let low = set_at(prepared, i);
-    let high = set_at(prepared, i + 2);
-    Class { low, high }
+    Class {
+        low: set_at(prepared, i),
+        high: set_at(prepared, i + 2),
+    }
 }
 
 // Whether a byte may stand at the position of a row, by the one number of its class that has the byte's bit.
@@ -122,6 +121,7 @@ fn stands_or_none(prepared: &[u64], row: usize, byte: u8) -> usize
 }
 
 // The lowest byte that the positions of two rows share; 256 or more if there is none.
+// Kept by hand: the crates above cite the promise `FirstShared`, which speaks of such a number and no Option.
 pub fn first_shared(prepared: &[u64], row: usize, other: usize) -> usize
     requires row_room { RowRoom prepared.now row }
     requires row_room_2 { RowRoom prepared.now other }

@@ -2,12 +2,13 @@
 use mathlib.Core.Path.{◌≡◌, refl, sym, ap, subst, ◌∙◌}
 use mathlib.Core.Bool.{Bool, true, false, ◌||◌, cond}
 use mathlib.Core.List.{List}
-use Prim.Native.Nat.{ℕ, ◌+◌, ◌*◌, ◌≤◌, ◌<◌}
+use Prim.Native.Nat.{ℕ, min, ◌+◌, ◌*◌, ◌≤◌, ◌<◌}
 use native.Mathlib.Omega.{arith}
-use lib.Dec.{eqb}
+use lib.Dec.{eqb, ltb}
 use lib.ListN.{length, get_or, set, length-set}
 use lib.Seq.{get_or-set_same, get_or-set_other}
-use borrow.Author.Tests.{eqb-true, eqb-false}
+use borrow.Author.Tests.{eqb-true, eqb-false, ltb-true, ltb-false}
+use Rattle.std.specs.Prelude.{Some, None}
 use Rattle.semantics.specs.Text.{Text}
 use Rattle.semantics.specs.Pattern.{Pattern}
 use Rattle.semantics.specs.Lens.{Lens, join, union, repeat, match}
@@ -23,26 +24,46 @@ use Rattle.positions.specs.Positions.{Empty, Joined}
 use Rattle.lens.specs.SourceKeys.{has_union}
 use Rattle.lens.specs.Nodes.{sizes_are, same_lens, shown_join, shown_union, shown_repeat, shown_match}
 use Rattle.below.specs.declared.Standing.{Standing}
-use Rattle.below.specs.Below.{union_at, count_at, standing_at, stored, Even, NodeBelow, count_over, OverTwo, OverChild, OverParts, Stands, NodeStands, BelowTo, BelowIs}
+use Rattle.below.specs.Below.{Count, counted, kept_as, union_at, count_at, standing_at, stored, Even, NodeBelow, count_over, OverTwo, OverChild, OverParts, Stands, NodeStands, BelowTo, BelowIs}
 use Rattle.below.specs.Counts.{even_copy, even_const, even_key, even_join, even_union, even_repeat, even_match}
 
 -- ---- What stands at two nodes
 
 pub over_two :
-    {below : List ℕ} {left right n : ℕ} {one e e' : Bool} {a b : Standing} {s : Set}
+    {below : List ℕ} {left right : ℕ} {one e : Bool} {n : Count} {a b : Standing} {s : Set}
     → a ≡ standing_at below left
     → b ≡ standing_at below right
     → Joined a.asked b.asked s
-    → e ≡ (a.union || b.union)
-    → e' ≡ (one || e)
-    → n ≡ count_over one a.count b.count
-    → OverTwo below left right one (record { asked = s; union = e'; count = n })
-over_two a-is b_is joined inner outer counted =
+    → e ≡ (one || (a.union || b.union))
+    → ((x y : ℕ) → a.count ≡ counted x → b.count ≡ counted y → n ≡ counted (count_over one x y))
+    → OverTwo below left right one (record { asked = s; union = e; count = n })
+over_two {below} {left} {right} a-is b_is joined either counts =
     record {
       asked_is = λ q. rw (a-is, b_is) at (joined q);
-      union_is = outer ∙ rw (inner, a-is, b_is);
-      count_is = counted ∙ rw (a-is, b_is);
+      union_is = either ∙ rw (a-is, b_is);
+      count_is = counts (count_at below left) (count_at below right) (ap (λ (s : Standing). s.count) a-is) (ap (λ (s : Standing). s.count) b_is);
     }
+
+-- ---- Counts
+
+-- a count that is too large is none
+pub capped : (n : ℕ) → counted n ≡ counted (min n 65536)
+capped n = go (ltb n 65536) refl
+  where
+    go : (b : Bool) → ltb n 65536 ≡ b → counted n ≡ counted (min n 65536)
+    go true p = let same : min n 65536 ≡ n = omega (arith, ltb-true n 65536 p) in rw same
+    go false p = let same : min n 65536 ≡ 65536 = omega (arith, ltb-false n 65536 p) in rw (p, same)
+
+-- what is kept of a count that is small enough is that count
+pub even_kept : {n : ℕ} {c : Count} {l : Lens} → c ≡ counted n → Even n l → Even (kept_as c) l
+even_kept {n} {c} {l} e even = rw (e, small n even.at_most) even
+  where
+    small : (m : ℕ) → m ≤ 65536 → kept_as (counted m) ≡ m
+    small m h = go (ltb m 65536) refl
+      where
+        go : (b : Bool) → ltb m 65536 ≡ b → kept_as (cond b (Some m) None) ≡ m
+        go true p = refl
+        go false p = omega (arith, ltb-false m 65536 p)
 
 -- ---- What stands at a node, by its kind
 
@@ -68,7 +89,7 @@ module _ {bytes : Text} {k : ℕ} {n : Node} (read : NodeRead bytes k n) where
       → ((a : ℕ) → n.kind ≡ Match a → ⊥)
       → Empty s.asked
       → s.union ≡ false
-      → s.count ≡ 0
+      → s.count ≡ Some 0
       → NodeStands bytes k s
   unfolding Shows asks has_union
   leaf_stands {s} no_join no_union no_repeat no_match none free zero-met = go n.kind refl read.shows
@@ -87,7 +108,7 @@ module _ {bytes : Text} {k : ℕ} {n : Node} (read : NodeRead bytes k n) where
           (record {
             asked_is = λ m h. none m ∙ sym (asks_none m);
             union_is = free ∙ sym no_union;
-            count_is = rw zero-met even;
+            count_is = even_kept {n = 0} zero-met even;
           })
 
       go : (κ : Kind) → n.kind ≡ κ → Shows bytes k κ → NodeStands bytes k s
@@ -127,7 +148,7 @@ module _ {bytes : Text} {k : ℕ} {n : Node} (read : NodeRead bytes k n) where
         (record {
           asked_is = λ m h. over.asked_is m ∙ rw (left.asked_is m h, right.asked_is m h);
           union_is = over.union_is ∙ rw (left.union_is, right.union_is);
-          count_is = rw over.count_is (even_join s.left s.right _ _ left.count_is right.count_is);
+          count_is = even_kept over.count_is (even_join s.left s.right _ _ left.count_is right.count_is);
         })
 
     pub union_stands : {a b : ℕ} {r : Standing} → n.kind ≡ LensUnion a b → OverTwo below a b true r → NodeStands bytes k r
@@ -142,7 +163,7 @@ module _ {bytes : Text} {k : ℕ} {n : Node} (read : NodeRead bytes k n) where
         (record {
           asked_is = λ m h. over.asked_is m ∙ rw (left.asked_is m h, right.asked_is m h);
           union_is = over.union_is;
-          count_is = rw over.count_is (even_union s.left s.right _ _ left.count_is right.count_is);
+          count_is = even_kept over.count_is (even_union s.left s.right _ _ left.count_is right.count_is);
         })
 
     pub repeat_stands : {a : ℕ} {r : Standing} → n.kind ≡ LensRepeat a → OverParts below a r → NodeStands bytes k r
@@ -156,7 +177,7 @@ module _ {bytes : Text} {k : ℕ} {n : Node} (read : NodeRead bytes k n) where
         (record {
           asked_is = λ m h. rw over.asked_is (child.asked_is m h);
           union_is = over.union_is ∙ child.union_is;
-          count_is = rw over.count_is (even_repeat s.child _ child.count_is);
+          count_is = even_kept over.count_is (even_repeat s.child _ child.count_is);
         })
 
     pub match_stands : {a : ℕ} {r : Standing} → n.kind ≡ Match a → OverChild below a r → NodeStands bytes k r
@@ -170,7 +191,7 @@ module _ {bytes : Text} {k : ℕ} {n : Node} (read : NodeRead bytes k n) where
         (record {
           asked_is = λ m h. over.asked_is m ∙ rw (child.asked_is m h);
           union_is = over.union_is ∙ child.union_is;
-          count_is = rw over.count_is (even_match a s.child);
+          count_is = even_kept {n = 1} over.count_is (even_match a s.child);
         })
 
   -- ---- The numbers of the nodes below are there
@@ -212,7 +233,7 @@ module _ (below : List ℕ) (k : ℕ) (s : Standing) where
   -- the numbers in front of it are as they were
   stored_other : (i : ℕ) → i < 4 * k → get_or (stored below k s) i 0 ≡ get_or below i 0
   stored_other i h =
-      get_or-set_other three (4 * k + 3) i s.count 0 (λ e. omega arith)
+      get_or-set_other three (4 * k + 3) i (kept_as s.count) 0 (λ e. omega arith)
       ∙ get_or-set_other two (4 * k + 2) i (cond s.union 1 0) 0 (λ e. omega arith)
       ∙ get_or-set_other one (4 * k + 1) i s.asked.high 0 (λ e. omega arith)
       ∙ get_or-set_other below (4 * k) i s.asked.low 0 (λ e. omega arith)
@@ -220,14 +241,14 @@ module _ (below : List ℕ) (k : ℕ) (s : Standing) where
   module _ (room : 4 * k + 4 ≤ length below) where
     stored_low : get_or (stored below k s) (4 * k) 0 ≡ s.asked.low
     stored_low =
-        get_or-set_other three (4 * k + 3) (4 * k) s.count 0 (λ e. omega arith)
+        get_or-set_other three (4 * k + 3) (4 * k) (kept_as s.count) 0 (λ e. omega arith)
         ∙ get_or-set_other two (4 * k + 2) (4 * k) (cond s.union 1 0) 0 (λ e. omega arith)
         ∙ get_or-set_other one (4 * k + 1) (4 * k) s.asked.high 0 (λ e. omega arith)
         ∙ get_or-set_same below (4 * k) s.asked.low 0 (omega arith)
 
     stored_high : get_or (stored below k s) (4 * k + 1) 0 ≡ s.asked.high
     stored_high =
-        get_or-set_other three (4 * k + 3) (4 * k + 1) s.count 0 (λ e. omega arith)
+        get_or-set_other three (4 * k + 3) (4 * k + 1) (kept_as s.count) 0 (λ e. omega arith)
         ∙ get_or-set_other two (4 * k + 2) (4 * k + 1) (cond s.union 1 0) 0 (λ e. omega arith)
         ∙ get_or-set_same one (4 * k + 1) s.asked.high 0 (simp length-set (omega arith))
 
@@ -235,12 +256,12 @@ module _ (below : List ℕ) (k : ℕ) (s : Standing) where
     stored_union =
         ap
         (λ (m : ℕ). eqb m 1)
-        (get_or-set_other three (4 * k + 3) (4 * k + 2) s.count 0 (λ e. omega arith)
+        (get_or-set_other three (4 * k + 3) (4 * k + 2) (kept_as s.count) 0 (λ e. omega arith)
         ∙ get_or-set_same two (4 * k + 2) (cond s.union 1 0) 0 (simp length-set (omega arith)))
         ∙ flag_tells s.union
 
-    stored_count : count_at (stored below k s) k ≡ s.count
-    stored_count = get_or-set_same three (4 * k + 3) s.count 0 (simp length-set (omega arith))
+    stored_count : count_at (stored below k s) k ≡ kept_as s.count
+    stored_count = get_or-set_same three (4 * k + 3) (kept_as s.count) 0 (simp length-set (omega arith))
 
     -- they are its own,
     stored_here : (l : Lens) → Stands s l → NodeBelow (stored below k s) k l

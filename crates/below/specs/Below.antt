@@ -1,5 +1,6 @@
 -- What stands at and below each node of a program, as it is kept for a put.
-use Rattle.std.specs.Prelude.{◌≡◌, Bool, ◌||◌, cond, List, ℕ, ◌+◌, ◌*◌, ◌≤◌, ◌<◌, min, eqb, length, get_or, set}
+use Rattle.std.specs.Prelude.{◌≡◌, Bool, ◌||◌, cond, List, ℕ, ◌+◌, ◌*◌, ◌≤◌, ◌<◌, eqb, ltb, min, length, get_or, set, Some, None, unwrap_or}
+use Rattle.std.specs.Prelude as P
 use Rattle.std.proofs.Math.Option.{Option}
 use Rattle.semantics.specs.Text.{Text}
 use Rattle.semantics.specs.Lens.{Lens}
@@ -18,6 +19,17 @@ union_at below k = eqb (get_or below (4 * k + 2) 0) 1
 -- how many matches a put meets at a node, by its numbers
 abbrev pub count_at : List ℕ → ℕ → ℕ
 count_at below k = get_or below (4 * k + 3) 0
+
+-- a count, if it is one that is kept: 65,536 stands for none
+abbrev pub Count : Type 0
+Count = P.Option ℕ
+
+abbrev pub counted : ℕ → Count
+counted n = cond (ltb n 65536) (Some n) None
+
+-- a count as it is kept
+abbrev pub kept_as : Count → ℕ
+kept_as c = unwrap_or c 65536
 
 -- The count of a lens: as many matches as a put meets there, whatever the texts are, unless it is 65,536.
 pub record Even (count : ℕ) (l : Lens) : Type 0 where
@@ -39,12 +51,12 @@ pub record BelowIs (bytes : Text) (below : List ℕ) : Type 0 where
 
 -- the numbers of a node
 abbrev pub standing_at : List ℕ → ℕ → Standing
-standing_at below k = record { asked = set_at below (4 * k); union = union_at below k; count = count_at below k }
+standing_at below k = record { asked = set_at below (4 * k); union = union_at below k; count = counted (count_at below k) }
 
 -- the numbers with those of one more node
 abbrev pub stored : List ℕ → ℕ → Standing → List ℕ
 stored below k s =
-    set (set (set (set below (4 * k) s.asked.low) (4 * k + 1) s.asked.high) (4 * k + 2) (cond s.union 1 0)) (4 * k + 3) s.count
+    set (set (set (set below (4 * k) s.asked.low) (4 * k + 1) s.asked.high) (4 * k + 2) (cond s.union 1 0)) (4 * k + 3) (kept_as s.count)
 
 -- the count of a union or of a join, from those of its halves
 abbrev pub count_over : Bool → ℕ → ℕ → ℕ
@@ -54,25 +66,25 @@ count_over union a b = cond union (cond (eqb a b) a 65536) (min (a + b) 65536)
 pub record OverTwo (below : List ℕ) (left right : ℕ) (union : Bool) (r : Standing) : Type 0 where
   pub asked_is : Joined (set_at below (4 * left)) (set_at below (4 * right)) r.asked
   pub union_is : r.union ≡ (union || (union_at below left || union_at below right))
-  pub count_is : r.count ≡ count_over union (count_at below left) (count_at below right)
+  pub count_is : r.count ≡ counted (count_over union (count_at below left) (count_at below right))
 
 -- What stands at the child of a match, and that child.
 pub record OverChild (below : List ℕ) (child : ℕ) (r : Standing) : Type 0 where
   pub asked_is : Added (set_at below (4 * child)) child r.asked
   pub union_is : r.union ≡ union_at below child
-  pub count_is : r.count ≡ 1
+  pub count_is : r.count ≡ Some 1
 
 -- What stands at the child of a repeat, whose count is 0 if the child's is, and depends on the parts otherwise.
 pub record OverParts (below : List ℕ) (child : ℕ) (r : Standing) : Type 0 where
   pub asked_is : r.asked ≡ set_at below (4 * child)
   pub union_is : r.union ≡ union_at below child
-  pub count_is : r.count ≡ cond (eqb (count_at below child) 0) 0 65536
+  pub count_is : r.count ≡ counted (cond (eqb (count_at below child) 0) 0 65536)
 
 -- What stands at a lens.
 pub record Stands (s : Standing) (l : Lens) : Type 0 where
   pub asked_is : (n : ℕ) → n < 128 → holds s.asked n ≡ asks l n
   pub union_is : s.union ≡ has_union l
-  pub count_is : Even s.count l
+  pub count_is : Even (kept_as s.count) l
 
 -- What stands at a node, if it is a lens.
 pub record NodeStands (bytes : Text) (k : ℕ) (s : Standing) : Type 0 where

@@ -2,30 +2,26 @@
 // depends on no text.
 #![tactic(auto)]
 
-ghost use Rattle.std.specs.Prelude.{◌≡◌, ◌↔◌, true, false, ◌||◌, cond, ◌+◌, ◌*◌, ◌≤◌, ◌<◌, min, eqb, length};
+ghost use Rattle.std.specs.Prelude.{◌≡◌, ◌↔◌, true, false, cond, ℕ, ◌+◌, ◌*◌, ◌≤◌, ◌<◌, eqb, length, Some};
 ghost use Rattle.semantics.specs.Table.{node_count};
 ghost use Rattle.table.specs.Rules.{AllSized};
 ghost use Rattle.automaton.specs.Rows.{set_at};
 ghost use Rattle.positions.specs.Positions.{Empty, Shared};
-ghost use Rattle.below.specs.Below.{union_at, count_at, standing_at, count_over, OverTwo, OverChild, OverParts, NodeStands, BelowTo, stored, BelowIs};
+ghost use Rattle.below.specs.Below.{union_at, count_at, counted, standing_at, count_over, OverTwo, OverChild, OverParts, NodeStands, BelowTo, stored, BelowIs};
 
 use automaton::set_at;
 use positions::Set;
 use table::{Kind, Table};
 
-// What a count is where it depends on the texts, or is too large to be kept.
-pub const VARIES: u64 = 65536;
+// What is kept in place of a count that depends on the texts, or is too large.
+const VARIES: u64 = 65536;
 
 // Whether no match at or below a node has one of these children.
 pub fn asks_none(below: &[u64], node: usize, children: Set) -> bool
     requires { 4 * node + 4 ≤ length below.now }
     ensures { (result ≡ true) ↔ (¬ Shared (set_at below.now (4 * node)) children) }
 {
-    let asked = set_at(below, 4 * node);
-    if asked.meets(children) {
-        return false;
-    }
-    true
+    !set_at(below, 4 * node).meets(children)
 }
 
 // Whether there is a union at or below a node.
@@ -36,12 +32,19 @@ pub fn has_union(below: &[u64], node: usize) -> bool
     below[4 * node + 2] == 1
 }
 
-// How many matches a put meets at a node, or VARIES.
-pub fn count_at(below: &[u64], node: usize) -> u64
+// How many matches a put meets at a node, if that depends on no text.
+pub fn count_at(below: &[u64], node: usize) -> Option<u64>
     requires { 4 * node + 4 ≤ length below.now }
-    ensures { result ≡ count_at below.now node }
+    ensures { result ≡ counted (count_at below.now node) }
 {
-    below[4 * node + 3]
+    counted(below[4 * node + 3])
+}
+
+// A count, if it is one that is kept.
+fn counted(count: u64) -> Option<u64>
+    ensures { result ≡ counted count }
+{
+    (count < VARIES).then_some(count)
 }
 
 // The children of the matches at and below a node, whether there is a union, and the count.
@@ -49,7 +52,7 @@ pub fn count_at(below: &[u64], node: usize) -> u64
 struct Standing {
     asked: Set,
     union: bool,
-    count: u64,
+    count: Option<u64>,
 }
 
 fn at_node(below: &[u64], node: usize) -> Standing
@@ -64,55 +67,31 @@ fn at_node(below: &[u64], node: usize) -> Standing
 }
 
 // The count of a join: that of both halves.
-fn sum_of(a: u64, b: u64) -> u64
-    ensures { result ≡ min (a + b) 65536 }
+fn sum_of(a: Option<u64>, b: Option<u64>) -> Option<u64>
+    ensures { (m n : ℕ) → a ≡ counted m → b ≡ counted n → result ≡ counted (m + n) }
 {
-    if VARIES <= a {
-        return VARIES;
-    }
-    if VARIES - a <= b {
-        return VARIES;
-    }
-    a + b
+    counted(a?.saturating_add(b?))
 }
 
 // The count of a union: that of whichever arm is taken.
-fn same_of(a: u64, b: u64) -> u64
-    ensures { result ≡ cond (eqb a b) a 65536 }
+fn same_of(a: Option<u64>, b: Option<u64>) -> Option<u64>
+    ensures { (m n : ℕ) → a ≡ counted m → b ≡ counted n → result ≡ counted (cond (eqb m n) m 65536) }
 {
-    if a == b {
-        return a;
-    }
-    VARIES
+    if a == b { a } else { None }
 }
 
 // The count of a repeat, which depends on its parts unless they have none.
-fn none_of(a: u64) -> u64
-    ensures { result ≡ cond (eqb a 0) 0 65536 }
+fn none_of(a: Option<u64>) -> Option<u64>
+    ensures { (n : ℕ) → a ≡ counted n → result ≡ counted (cond (eqb n 0) 0 65536) }
 {
-    if a == 0 {
-        return 0;
-    }
-    VARIES
-}
-
-fn either(a: bool, b: bool) -> bool
-    ensures { result ≡ (a || b) }
-{
-    if a {
-        return true;
-    }
-    b
+    a.filter(|count| *count == 0)
 }
 
 // The count of a union or of a join.
-fn of_two(union: bool, a: u64, b: u64) -> u64
-    ensures { result ≡ count_over union a b }
+fn of_two(union: bool, a: Option<u64>, b: Option<u64>) -> Option<u64>
+    ensures { (m n : ℕ) → a ≡ counted m → b ≡ counted n → result ≡ counted (count_over union m n) }
 {
-    if union {
-        return same_of(a, b);
-    }
-    sum_of(a, b)
+    if union { same_of(a, b) } else { sum_of(a, b) }
 }
 
 // What stands at a node over two others, or at a union of them.
@@ -122,11 +101,9 @@ fn over_two(below: &[u64], left: usize, right: usize, union: bool) -> Standing
 {
     let a = at_node(below, left);
     let b = at_node(below, right);
-    let mine = a.asked;
-    let other = b.asked;
     Standing {
-        asked: mine.union(other),
-        union: either(union, either(a.union, b.union)),
+        asked: a.asked.union(b.asked),
+        union: union || a.union || b.union,
         count: of_two(union, a.count, b.count),
     }
 }
@@ -137,11 +114,10 @@ fn over_child(below: &[u64], child: usize) -> Standing
     ensures { OverChild below.now child result }
 {
     let a = at_node(below, child);
-    let asked = a.asked;
     Standing {
-        asked: asked.with(child),
+        asked: a.asked.with(child),
         union: a.union,
-        count: 1,
+        count: Some(1),
     }
 }
 
@@ -151,21 +127,19 @@ fn over_parts(below: &[u64], child: usize) -> Standing
     ensures { OverParts below.now child result }
 {
     let a = at_node(below, child);
-    let asked = a.asked;
     Standing {
-        asked,
-        union: a.union,
         count: none_of(a.count),
+        ..a
     }
 }
 
 fn nothing() -> Standing
-    ensures { Empty result.asked × (result.union ≡ false) × (result.count ≡ 0) }
+    ensures { Empty result.asked × (result.union ≡ false) × (result.count ≡ Some 0) }
 {
     Standing {
         asked: Set::empty(),
         union: false,
-        count: 0,
+        count: Some(0),
     }
 }
 
@@ -175,9 +149,7 @@ fn of_node(bytes: &[u8], prepared: &[u64], node: usize, below: &[u64]) -> Standi
     requires below_to { BelowTo bytes.now below.now node × (384 ≤ length below.now) }
     ensures { NodeStands bytes.now node result }
 {
-    let read = Table::node(bytes, prepared, node);
-    let kind = read.kind;
-    match kind {
+    match Table::node(bytes, prepared, node).kind {
         Kind::LensJoin { left, right } => over_two(below, left, right, false),
         Kind::LensUnion { left, right } => over_two(below, left, right, true),
         Kind::LensRepeat { child } => over_parts(below, child),
@@ -186,22 +158,15 @@ fn of_node(bytes: &[u8], prepared: &[u64], node: usize, below: &[u64]) -> Standi
     }
 }
 
-fn flag(b: bool) -> u64
-    ensures { result ≡ cond b 1 0 }
-{
-    if b { 1 } else { 0 }
-}
-
 fn store(below: &mut [u64], node: usize, stands: Standing)
     requires { 4 * node + 4 ≤ length below.old }
     ensures { below.new ≡ stored below.old node stands }
 {
-    let asked = stands.asked;
     let i = 4 * node;
-    below[i] = asked.low;
-    below[i + 1] = asked.high;
-    below[i + 2] = flag(stands.union);
-    below[i + 3] = stands.count;
+    below[i] = stands.asked.low;
+    below[i + 1] = stands.asked.high;
+    below[i + 2] = u64::from(stands.union);
+    below[i + 3] = stands.count.unwrap_or(VARIES);
 }
 
 // What stands at and below each node of the program.
@@ -210,10 +175,8 @@ pub fn fill_below(bytes: &[u8], prepared: &[u64], nodes: usize, below: &mut [u64
     requires in_bounds { 384 ≤ length below.old }
     ensures { BelowIs bytes.now below.new }
 {
-    let mut k = 0;
-    while k < nodes {
+    for k in 0..nodes {
         let stands = of_node(bytes, prepared, k, below);
         store(below, k, stands);
-        k += 1;
     }
 }

@@ -16,8 +16,8 @@ use Rattle.positions.specs.Positions.{holds}
 use Rattle.table.specs.Prepared.{OneLens}
 use Rattle.automaton.specs.declared.Side.TheVariants.{Source, Sheet}
 use Rattle.cuts.specs.declared.Ends.{Ends}
-use Rattle.texts.specs.declared.Wrote.{Wrote}
-use Rattle.texts.specs.declared.Wrote.TheVariants.{Count, Full}
+use Rattle.texts.specs.Overlay.{Wrote}
+use Rattle.std.specs.Prelude.{Some, None}
 use Rattle.texts.specs.Overlay.{Writes, overlay_length, writes_full, writes_nothing, writes_within}
 use Rattle.lens.specs.Reading.{parts_none, parts_next}
 use Rattle.texts.specs.Cutting.{part_length_lem, rest_lent}
@@ -35,8 +35,7 @@ use Rattle.lens.specs.Parsed.{
   loop_is_part_from,
 }
 use Rattle.books.specs.declared.Place.{Place}
-use Rattle.books.specs.declared.Old.{Old}
-use Rattle.books.specs.declared.Old.TheVariants.{At}
+use Rattle.books.specs.Old.{Old}
 use Rattle.books.specs.Looking.{old_text, OldFits}
 use Rattle.steps.specs.declared.Next.{Next}
 use Rattle.steps.specs.Steps.{EndsAre, next_of, old_parts, first_of, others_of, count_behind}
@@ -69,7 +68,7 @@ pub record PartsPut
   pub text_is :
       plain (repeat part.child) (old_text deck begun) new
       ≡ done ++ plain_parts (plain part.child) (old_parts part.child deck left) (parts (language sheet part.child) (drop o new))
-  pub written : Writes done out₀ out (Count n)
+  pub written : Writes done out₀ out (Some n)
 
 -- where no part of the sheet is left, nothing is put
 parts_end : (w : Option Text → Text → Text) (olds : List Text) → plain_parts w olds [] ≡ []
@@ -93,7 +92,7 @@ pub parts_begin :
     → Given bytes (record { node = node; base = base }) new path p deck
     → EndsAre prepared child Sheet base sheets
     → EndsAre prepared child Source p.base olds
-    → PartsPut bytes prepared node child base sheets.last sheets.first olds new path deck out out (At p) (At p) 0 0
+    → PartsPut bytes prepared node child base sheets.last sheets.first olds new path deck out out (Some p) (Some p) 0 0
 parts_begin {p = p} {deck = deck} {out = out} known s given sheets_are olds-are =
     let below = child_below known s in
     let parsed = given.sheet_given.parsed in
@@ -108,7 +107,7 @@ parts_begin {p = p} {deck = deck} {out = out} known s given sheets_are olds-are 
       left_fits = old_at given.old_parsed;
       left_ends = old_ends olds-are;
       done = [];
-      text_is = plain_repeat s.child (old_text deck (At p)) _;
+      text_is = plain_repeat s.child (old_text deck (Some p)) _;
       written = writes_nothing out;
     }
 
@@ -132,12 +131,12 @@ module _
   its_repeat w = its_lens (repeat inv.part.child) inv.part.tree_is w
 
   -- behind the last part
-  pub parts_put : length new ≤ o → PutsText bytes node (old_text deck begun) new out₀ out (Count n)
+  pub parts_put : length new ≤ o → PutsText bytes node (old_text deck begun) new out₀ out (Some n)
   parts_put end =
       let l = inv.part.child in
       let whole : plain (repeat l) (old_text deck begun) new ≡ inv.done =
       inv.text_is ∙ rw (drop_of_length-le new end, parts_none (language sheet l), parts_end (plain l) (old_parts l deck left), append-nil) in
-      its_repeat (subst (λ t. Writes t out₀ out (Count n)) (sym whole) inv.written)
+      its_repeat (subst (λ t. Writes t out₀ out (Some n)) (sym whole) inv.written)
 
   -- what is written lies within the buffer, which is as long as before
   pub parts_room : n ≤ length out
@@ -231,7 +230,7 @@ module _
             (rw e at (put.writes inv.part.child inv.part.at_child))
 
         -- where the part did not fit, the repeat does not
-        pub parts_full : r ≡ Full → PutsText bytes node (old_text deck begun) new out₀ (take n out ++ (rest ++ drop (length out - n) (drop n out))) Full
+        pub parts_full : r ≡ None → PutsText bytes node (old_text deck begun) new out₀ (take n out ++ (rest ++ drop (length out - n) (drop n out))) None
         parts_full e =
             its_repeat
             (rw
@@ -241,12 +240,12 @@ module _
             (plain_parts (plain inv.part.child) (old_parts inv.part.child deck next.rest) (parts (language sheet inv.part.child) (drop (o + i) new)))
             out₀
             (take n out ++ (rest ++ drop (length out - n) (drop n out)))
-            (part_written Full e)))
+            (part_written None e)))
 
         -- where it did, the next is put behind it; behind the part, the path is as it was
         pub parts_next_put :
             {m : ℕ} (track : List ℕ)
-            → r ≡ Count m
+            → r ≡ Some m
             → length track ≡ length (take (o + i - o) (drop o path))
             → PartsPut
             bytes
@@ -283,5 +282,5 @@ module _
               left_ends = next_old.rest_ends;
               done = inv.done ++ plain inv.part.child (old_text deck next.part) (take (o + i - o) (drop o new));
               text_is = text_on;
-              written = part_written (Count m) e;
+              written = part_written (Some m) e;
             }

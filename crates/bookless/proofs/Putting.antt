@@ -16,8 +16,8 @@ use Rattle.table.specs.declared.Node.{Node}
 use Rattle.table.specs.Prepared.{TwoLenses}
 use Rattle.table.specs.Rules.{NodeRead}
 use Rattle.lens.specs.declared.Mode.TheVariants.{Create}
-use Rattle.texts.specs.declared.Wrote.{Wrote}
-use Rattle.texts.specs.declared.Wrote.TheVariants.{Count, Full}
+use Rattle.texts.specs.Overlay.{Wrote}
+use Rattle.std.specs.Prelude.{Some, None}
 use Rattle.texts.specs.Overlay.{Writes, overlay_length, writes_within, writes_full}
 use Rattle.lens.specs.Reading.{reading}
 use Rattle.texts.specs.Cutting.{rest_lent}
@@ -25,8 +25,7 @@ use Rattle.lens.specs.Emitting.{LensNode, Emits}
 use Rattle.lens.specs.Nodes.{same_lens, shown_copy, shown_const, shown_key, shown_join, shown_match}
 use Rattle.lens.specs.Parsed.{parsed_join}
 use Rattle.books.specs.declared.Place.{Place}
-use Rattle.books.specs.declared.Old.{Old}
-use Rattle.books.specs.declared.Old.TheVariants.{At, Nothing}
+use Rattle.books.specs.Old.{Old}
 use Rattle.books.specs.Looking.{part_at, old_text}
 use Rattle.steps.specs.declared.Spot.{Spot}
 use Rattle.steps.specs.declared.Cut.{Cut}
@@ -89,7 +88,7 @@ created_plain l a = refl
 -- an old text that is there, or is not
 pub puts_at :
     {bytes : Text} {node : ℕ} (p : Place) (deck : Text) {old : Old} {new before after : Text} {r : Wrote}
-    → old ≡ At p
+    → old ≡ Some p
     → PutsText bytes node (some (part_at deck p)) new before after r
     → PutsText bytes node (old_text deck old) new before after r
 unfolding old_text
@@ -97,7 +96,7 @@ puts_at p deck e put = rw e put
 
 pub puts_nothing :
     {bytes : Text} {node : ℕ} (deck : Text) {old : Old} {new before after : Text} {r : Wrote}
-    → old ≡ Nothing
+    → old ≡ None
     → PutsText bytes node none new before after r
     → PutsText bytes node (old_text deck old) new before after r
 unfolding old_text
@@ -290,7 +289,7 @@ module _
     near_written l e = rw sub-zero at (near.writes l (ap (λ k. tree_at (trees bytes) k) near_node ∙ e))
 
     -- it lies within the buffer
-    pub near_within : {n : ℕ} → r ≡ Count n → n ≤ length after
+    pub near_within : {n : ℕ} → r ≡ Some n → n ≤ length after
     near_within {n} count =
         let sheets = given.parsed in
         writes_within
@@ -301,7 +300,7 @@ module _
         (rw count at (near_written sheets.first sheets.at_left))
 
     -- where it did not fit, the join does not
-    pub join_full : r ≡ Full → PutsJoin bytes left right (some (part_at deck p)) new before after Full
+    pub join_full : r ≡ None → PutsJoin bytes left right (some (part_at deck p)) new before after None
     join_full full =
         record {
           writes = λ l m e f.
@@ -321,7 +320,7 @@ module _
         {n : ℕ}
         {rest : Text}
         {more : Wrote}
-        (count : r ≡ Count n)
+        (count : r ≡ Some n)
         (far :
         PutsText
         bytes

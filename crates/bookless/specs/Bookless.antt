@@ -5,11 +5,11 @@ use Rattle.semantics.specs.Text.{Text}
 use Rattle.semantics.specs.Lens.{Lens, join, source, sheet}
 use Rattle.semantics.specs.Table.{trees, tree_at, lens}
 use Rattle.laws.specs.Bookless.{plain}
-use Rattle.texts.specs.declared.Wrote.{Wrote}
+use Rattle.texts.specs.Overlay.{Wrote}
 use Rattle.texts.specs.Overlay.{Writes}
 use Rattle.lens.specs.Parsed.{Parsed, ParsedJoin}
 use Rattle.books.specs.declared.Place.{Place}
-use Rattle.books.specs.declared.Old.{Old}
+use Rattle.books.specs.Old.{Old}
 use Rattle.books.specs.Looking.{part_at, trail_of, OldParsed, OldFits}
 use Rattle.steps.specs.declared.Spot.{Spot}
 

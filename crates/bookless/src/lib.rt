@@ -10,13 +10,13 @@ ghost use Rattle.books.specs.Looking.{part_at, old_text};
 ghost use Rattle.bookless.specs.Bookless.{Given, GivenOld, GivenJoin, PutsText, PutsJoin};
 
 use automaton::Side;
-use books::{Old, Place};
+use books::Place;
 use cuts::first_loop;
 use lens::Mode;
 use lens::read::emit;
-use steps::{Spot, behind, choose, cut_sheet, ends_of, halves_of, next_old};
+use steps::{Spot, choose, cut_sheet, ends_of, halves_of, next_old};
 use table::{Kind, Table};
-use texts::{Wrote, write_text};
+use texts::write_text;
 
 // What a node writes with no book, onto an old text or without one.
 #[cycle(put_put_join_put_parts_write)]
@@ -26,19 +26,18 @@ pub fn write(
     spot: Spot,
     new: &[u8],
     path: &mut [u8],
-    old: Old,
+    old: Option<Place>,
     deck: &[u8],
     out: &mut [u8],
-) -> Wrote
+) -> Option<usize>
     requires lens_node { LensNode bytes.now prepared.now spot.node }
     requires given_old { GivenOld bytes.now spot new.now path.old old deck.now }
     ensures { PutsText bytes.now spot.node (old_text deck.now old) new.now out.old out.new result }
 {
-    let node = spot.node;
-    let base = spot.base;
+    let Spot { node, base } = spot;
     match old {
-        Old::At(place) => put(bytes, prepared, spot, new, path, place, deck, out),
-        Old::Nothing => emit(bytes, prepared, node, Mode::Create, base, new, path, out),
+        Some(place) => put(bytes, prepared, spot, new, path, place, deck, out),
+        None => emit(bytes, prepared, node, Mode::Create, base, new, path, out),
     }
 }
 
@@ -53,36 +52,29 @@ pub fn put(
     place: Place,
     deck: &[u8],
     out: &mut [u8],
-) -> Wrote
+) -> Option<usize>
     requires lens_node { LensNode bytes.now prepared.now spot.node }
     requires given { Given bytes.now spot new.now path.old place deck.now }
     ensures { PutsText bytes.now spot.node (some (part_at deck.now place)) new.now out.old out.new result }
 {
-    let node = spot.node;
-    let base = spot.base;
+    let Spot { node, base } = spot;
     let read = Table::node(bytes, prepared, node);
-    let kind = read.kind;
-    match kind {
-        Kind::Word { .. } => Wrote::Count(0),
-        Kind::OneOf { .. } => Wrote::Count(0),
-        Kind::PatternJoin { .. } => Wrote::Count(0),
-        Kind::PatternUnion { .. } => Wrote::Count(0),
-        Kind::PatternRepeat { .. } => Wrote::Count(0),
-        Kind::Copy { .. } => write_text(new, out),
-        Kind::Const { .. } => {
-            let start = place.start;
-            let end = start + place.len;
-            write_text(&deck[start..end], out)
-        }
-        Kind::Key { .. } => write_text(new, out),
+    match read.kind {
+        Kind::Word { .. }
+        | Kind::OneOf { .. }
+        | Kind::PatternJoin { .. }
+        | Kind::PatternUnion { .. }
+        | Kind::PatternRepeat { .. } => Some(0),
+        Kind::Copy { .. } | Kind::Key { .. } => write_text(new, out),
+        Kind::Const { .. } => write_text(&deck[place.start..place.start + place.len], out),
         Kind::LensJoin { left: a, right: b } => {
             put_join(bytes, prepared, a, b, base, new, path, place, deck, out)
         }
         Kind::LensUnion { left, right } => {
             let choice = choose(prepared, left, right, base, new, path, place, deck);
-            let arm = choice.arm;
-            let kept = choice.old;
-            write(bytes, prepared, arm, new, path, kept, deck, out)
+            write(
+                bytes, prepared, choice.arm, new, path, choice.old, deck, out,
+            )
         }
         Kind::LensRepeat { child: a } => {
             put_parts(bytes, prepared, node, a, base, new, path, place, deck, out)
@@ -104,45 +96,35 @@ fn put_join(
     place: Place,
     deck: &[u8],
     out: &mut [u8],
-) -> Wrote
+) -> Option<usize>
     requires lens_node { LensNode bytes.now prepared.now left × LensNode bytes.now prepared.now right }
     requires given_join { GivenJoin bytes.now left right base new.now path.old place deck.now }
     ensures { PutsJoin bytes.now left right (some (part_at deck.now place)) new.now out.old out.new result }
 {
     let cut = cut_sheet(prepared, left, right, base, path);
     let i = cut.at;
-    let near = cut.left;
-    let far = cut.right;
     let halves = halves_of(prepared, left, place, deck);
-    let first = halves.first;
-    let second = halves.second;
-    let front = &new[0..i];
-    let wrote = put(
+    let n = put(
         bytes,
         prepared,
-        near,
-        front,
+        cut.left,
+        &new[0..i],
         &mut path[0..i],
-        first,
+        halves.first,
         deck,
         out,
-    );
-    let Wrote::Count(n) = wrote else {
-        return Wrote::Full;
-    };
-    let back = &new[i..];
-    let rest = &mut out[n..];
-    let more = put(
+    )?;
+    let m = put(
         bytes,
         prepared,
-        far,
-        back,
+        cut.right,
+        &new[i..],
         &mut path[i..],
-        second,
+        halves.second,
         deck,
-        rest,
-    );
-    behind(n, more)
+        &mut out[n..],
+    )?;
+    Some(n + m)
 }
 
 // A repeat: part n of the sheet onto part n of the old text; parts left over are created.
@@ -158,7 +140,7 @@ fn put_parts(
     place: Place,
     deck: &[u8],
     out: &mut [u8],
-) -> Wrote
+) -> Option<usize>
     requires lens_node { LensNode bytes.now prepared.now node }
     requires one_lens { OneLens (trees bytes.now) node child (λ l. lens (repeat l)) }
     requires given { Given bytes.now (record { node = node; base = base }) new.now path.old place deck.now }
@@ -166,26 +148,26 @@ fn put_parts(
 {
     let spot = Spot { node: child, base };
     let ends = ends_of(prepared, child, Side::Sheet, base);
-    let last = ends.last;
-    let first = ends.first;
     let olds = ends_of(prepared, child, Side::Source, place.base);
-    let mut left = Old::At(place);
+    let mut left = Some(place);
     let mut o = 0;
     let mut n = 0;
     while o < new.len() {
-        let e = o + first_loop(&path[o..], last, first);
+        let e = o + first_loop(&path[o..], ends.last, ends.first);
         let next = next_old(left, olds, deck);
-        let part = next.part;
         left = next.rest;
-        let piece = &new[o..e];
-        let track = &mut path[o..e];
-        let rest = &mut out[n..];
-        let wrote = write(bytes, prepared, spot, piece, track, part, deck, rest);
-        let Wrote::Count(m) = wrote else {
-            return Wrote::Full;
-        };
+        let m = write(
+            bytes,
+            prepared,
+            spot,
+            &new[o..e],
+            &mut path[o..e],
+            next.part,
+            deck,
+            &mut out[n..],
+        )?;
         o = e;
         n += m;
     }
-    Wrote::Count(n)
+    Some(n)
 }

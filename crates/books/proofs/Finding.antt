@@ -1,22 +1,26 @@
 -- From the cards that are compared to what a lookup in the book finds. Assumes nothing.
 use mathlib.Core.Path.{◌≡◌, refl, sym, ap, ◌∙◌}
 use mathlib.Core.Bool.{Bool, true, false, not, ◌&&◌}
-use mathlib.Core.List.{List}
+use mathlib.Core.List.{List, [], ◌∷◌}
+use Rattle.std.proofs.Common.{nat_eq}
+use Rattle.std.specs.Cmp.Lexicographic.{pointwise}
+use Rattle.std.proofs.lemmas.Bool.Decides.{nat_tests}
 use Prim.Native.Nat.{ℕ, ◌+◌, ◌-◌, ◌≤◌, ◌<◌}
-use native.Mathlib.Nat.{sub-zero}
+use native.Mathlib.Nat.{le_of_lt}
 use native.Mathlib.Omega.{arith}
 use lib.Dec.{eqb}
-use lib.ListN.{length, take, drop, get_or, length-take}
+use lib.ListN.{length, take, drop, get_or}
 use borrow.Author.Tests.{not-true, eqb-true, eqb-false}
 use Rattle.semantics.specs.Text.{Text, same_text}
 use Rattle.semantics.specs.Lens.{answers, entry_of, same_key}
 use Rattle.semantics.specs.Table.{trees}
-use Rattle.laws.specs.Basics.{not_both, and_both, and_of, same_text_eq, false_of_not_true}
+use Rattle.laws.specs.Basics.{not_both, and_both, and_of, false_of_not_true}
 use Rattle.positions.specs.declared.Set.{Set}
 use Rattle.positions.specs.Positions.{Removed}
 use Rattle.texts.specs.Cutting.{rest_lent}
 use Rattle.books.specs.declared.Book.{Book}
-use Rattle.books.specs.declared.Old.TheVariants.{At, Nothing}
+use Rattle.std.specs.Prelude.{Some, None}
+use Rattle.books.specs.Old.{EntryIndex}
 use Rattle.books.specs.Cards.{card_of, print_byte, begins}
 use Rattle.books.specs.Listed.{
   text_at,
@@ -51,17 +55,16 @@ use Rattle.books.specs.Looking.{
 
 -- ---- Whether a text begins with another
 
--- not one that is shorter
-pub begins_short : (start text : Text) → length text < length start → false ≡ begins start text
-unfolding begins
-begins_short start text h =
-    sym
-    (false_of_not_true (begins start text) (λ e. omega (arith, length-take (length start) text, ap length (same_text_eq (take (length start) text) start e))))
+eqb_sym : (x y : ℕ) → eqb x y ≡ eqb y x
+eqb_sym x y = grind (arith, nat_tests)
 
--- one that was compared with as many of its bytes
-pub begins_compared : (start text : Text) {r : Bool} → r ≡ same_text (take (length start - 0) text) start → r ≡ begins start text
-unfolding begins
-begins_compared start text e = rw sub-zero at e
+-- byte by byte, and as the texts are compared
+pairs_same : (start text : Text) → pointwise nat_eq start text ≡ same_text text start
+unfolding same_text
+pairs_same [] [] = refl
+pairs_same [] (y ∷ text) = refl
+pairs_same (x ∷ start) [] = refl
+pairs_same (x ∷ start) (y ∷ text) = rw (eqb_sym x y) (ap (λ rest. eqb y x && rest) (pairs_same start text))
 
 -- ---- One entry
 
@@ -69,9 +72,10 @@ begins_compared start text e = rw sub-zero at e
 pub card_compared :
     (deck card : Text) (i : ℕ) {at : ℕ} {r : Bool}
     → at ≡ card_place deck i
-    → r ≡ begins card (take (length deck - at) (drop at deck))
+    → r ≡ pointwise nat_eq card (take (length card) (take (length deck - at) (drop at deck)))
     → HasCard deck i card r
-card_compared deck card i {at} at_is e = record { has = λ h. rw (rest_lent deck at, at_is) at e }
+unfolding begins
+card_compared deck card i {at} at_is e = record { has = λ h. rw (rest_lent deck at, at_is) at e ∙ pairs_same card (take (length card) (drop (card_place deck i) deck)) }
 
 -- ---- The walk over the entries
 
@@ -163,20 +167,22 @@ module _
         }
 
     module _
-        {child print i : ℕ}
+        {child print : ℕ}
+        {index : EntryIndex}
         (print_is : print ≡ print_byte key)
         (over : BookOver 4096 b)
-        (found : Found b.used b.children b.count child print card deck i)
+        (found : Found b.used b.children b.count child print card deck index)
       where
         -- the first unused entry that answers
-        pub found_here : i < b.count → LookedUp bytes deck child key b (record { old = At (place_at b i); book = marked b i })
+        pub found_here : {i : ℕ} → index ≡ Some i → LookedUp bytes deck child key b (record { old = Some (place_at b i); book = marked b i })
         unfolding old_text text_at answers entry_at entry_of
-        found_here h =
+        found_here {i} here =
+            let h = found.within i here in
             let (waits, begun) =
             and_both
             (not (get_or b.used i false) && eqb (get_or b.children i 0) child)
             (begins card (drop (card_place deck i) deck))
-            (found.found h (fit.inside i h)) in
+            (found.found i here (fit.inside i h)) in
             let (unused, own_is) = and_both (not (get_or b.used i false)) (eqb (get_or b.children i 0) child) waits in
             let key-is = sym (card_same i h) ∙ begun in
             record {
@@ -190,7 +196,7 @@ module _
                   i
                   over.sized
                   over.fits.few
-                  (key_passed print_is found.passed found.within)
+                  (key_passed print_is (found.passed i here) (le_of_lt h))
                   h
                   (not-true (get_or b.used i false) unused)
                   (and_of (eqb (get_or b.children i 0) child) (same_key (entry_at (trees bytes) deck b i).key_text key) own_is key-is);
@@ -200,13 +206,11 @@ module _
             }
 
         -- the walk has passed the whole book
-        none_found : b.count ≤ i → Passed (trees bytes) deck b child key b.count
-        none_found all =
-            let ended : i ≡ b.count = omega (arith, found.within) in
-            rw ended at (key_passed print_is found.passed found.within)
+        none_found : index ≡ None → Passed (trees bytes) deck b child key b.count
+        none_found none = key_passed print_is (found.none_found none) (omega arith)
 
         -- there is no such entry
-        pub found_nothing : b.count ≤ i → LookedUp bytes deck child key b (record { old = Nothing; book = b })
+        pub found_nothing : index ≡ None → LookedUp bytes deck child key b (record { old = None; book = b })
         unfolding old_text
         found_nothing all =
             record {
@@ -219,10 +223,10 @@ module _
         -- and none of that child is left
         pub found_no_more :
             (left : Set)
-            → b.count ≤ i
+            → index ≡ None
             → NoneWaits b.used b.children child b.count
             → Removed b.left child left
-            → LookedUp bytes deck child key b (record { old = Nothing; book = leaving b left })
+            → LookedUp bytes deck child key b (record { old = None; book = leaving b left })
         unfolding old_text
         found_no_more left all none now-left =
             record {

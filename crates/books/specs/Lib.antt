@@ -2,3 +2,4 @@
 pub mod Cards
 pub mod Listed
 pub mod Looking
+pub mod Old

@@ -11,8 +11,8 @@ use Rattle.lens.specs.Parsed.{Parsed}
 use Rattle.positions.specs.declared.Set.{Set}
 use Rattle.books.specs.declared.Book.{Book}
 use Rattle.books.specs.declared.Place.{Place}
-use Rattle.books.specs.declared.Old.{Old}
-use Rattle.books.specs.declared.Old.TheVariants.{At, Nothing}
+use Rattle.books.specs.Old.{Old, EntryIndex}
+use Rattle.std.specs.Prelude.{Some, None}
 use Rattle.books.specs.declared.Lookup.{Lookup}
 use Rattle.books.specs.Cards.{begins, Tells}
 use Rattle.books.specs.Listed.{text_at, entry_at, unused, marked, leaving, BookFits, Sized, unused_same}
@@ -60,12 +60,12 @@ pub record OldParsed (bytes : Text) (node : ℕ) (deck : Text) (p : Place) : Typ
 
 -- the old text, where there is one
 unfoldable pub old_text : Text → Old → Option Text
-old_text deck (At p) = some (part_at deck p)
-old_text deck Nothing = none
+old_text deck (Some p) = some (part_at deck p)
+old_text deck None = none
 
 -- If there is an old text, it is parsed at the node.
 pub record OldFits (bytes : Text) (node : ℕ) (deck : Text) (old : Old) : Type 0 where
-  pub fits : (p : Place) → old ≡ At p → OldParsed bytes node deck p
+  pub fits : (p : Place) → old ≡ Some p → OldParsed bytes node deck p
 
 -- where the card of entry i stands
 abbrev pub card_place : Text → ℕ → ℕ
@@ -106,11 +106,12 @@ pub record NoneAnswers (used : List Bool) (children : List ℕ) (child print : �
       → get_or deck (8192 + j) 0 ≡ print
       → answering used children child card deck j ≡ false
 
--- It is the first entry that answers, of those with that byte; or as many as there are entries, and none answers.
-pub record Found (used : List Bool) (children : List ℕ) (count child print : ℕ) (card deck : Text) (r : ℕ) : Type 0 where
-  pub within : r ≤ count
-  pub passed : NoneAnswers used children child print card deck r
-  pub found : r < count → card_place deck r ≤ length deck → answering used children child card deck r ≡ true
+-- It is the first entry that answers, of those with that byte; where there is none, none answers.
+pub record Found (used : List Bool) (children : List ℕ) (count child print : ℕ) (card deck : Text) (r : EntryIndex) : Type 0 where
+  pub within : (i : ℕ) → r ≡ Some i → i < count
+  pub passed : (i : ℕ) → r ≡ Some i → NoneAnswers used children child print card deck i
+  pub found : (i : ℕ) → r ≡ Some i → card_place deck i ≤ length deck → answering used children child card deck i ≡ true
+  pub none_found : r ≡ None → NoneAnswers used children child print card deck count
 
 -- No unused entry before i is of that child.
 pub record NoneWaits (used : List Bool) (children : List ℕ) (child i : ℕ) : Type 0 where
@@ -125,7 +126,7 @@ pub record LookedUp (bytes deck : Text) (child : ℕ) (key : Text) (before : Boo
   pub looked_up :
       take_entry child key (unused (trees bytes) deck before)
       ≡ record { found = old_text deck r.old; left = unused (trees bytes) deck r.book }
-  pub from_book : (p : Place) → r.old ≡ At p → (i : ℕ) × (i < before.count) × (get_or before.children i 0 ≡ child) × (p ≡ place_at before i)
+  pub from_book : (p : Place) → r.old ≡ Some p → (i : ℕ) × (i < before.count) × (get_or before.children i 0 ≡ child) × (p ≡ place_at before i)
   pub over : BookOver 4096 r.book
   pub same_entries : SameEntries before r.book
 

@@ -48,8 +48,7 @@ impl Book {
         self.bases[count] = base as u8;
         self.children[count] = child as u8;
         self.used[count] = false;
-        let left = self.left;
-        self.left = left.with(child);
+        self.left = self.left.with(child);
         self.count = count + 1;
         self
     }

@@ -27,16 +27,9 @@ pub struct Place {
     pub base: usize,
 }
 
-// An old text, where there is one.
-#[derive(Clone, Copy)]
-pub enum Old {
-    At(Place),
-    Nothing,
-}
-
-// The old text that a lookup found, and the book without it.
+// Where the old text stands that a lookup found, if it found one, and the book without it.
 #[derive(Clone, Copy)]
 pub struct Lookup {
-    pub old: Old,
+    pub old: Option<Place>,
     pub book: Book,
 }

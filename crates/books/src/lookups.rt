@@ -1,22 +1,10 @@
 // Lookups in the book: the first unused entry for a key. The deck has for each entry one byte of its key's fingerprint, and where the card of its key stands.
 ghost use Rattle.std.specs.Prelude.{◌≡◌, true, not, ◌&&◌, ◌+◌, ◌*◌, ◌≤◌, ◌<◌, eqb, length, drop};
 ghost use Rattle.semantics.specs.Text.{Text};
-ghost use Rattle.books.specs.Cards.{card_of, print_byte, begins};
+ghost use Rattle.books.specs.Cards.{card_of, print_byte};
 ghost use Rattle.books.specs.Looking.{BookOver, card_place, CardsFit, HasCard, Answers, Found, NoneLeft, LookedUp};
 
-use crate::{Book, Lookup, Old, Place};
-use texts::same_text;
-
-// Whether a text begins with another.
-fn begins(text: &[u8], start: &[u8]) -> bool
-    ensures { result ≡ begins start.now text.now }
-{
-    let n = start.len();
-    if text.len() < n {
-        return false;
-    }
-    same_text(&text[0..n], start)
-}
+use crate::{Book, Lookup, Place};
 
 // Where the card of entry i stands.
 fn card_place(deck: &[u8], i: usize) -> usize
@@ -33,20 +21,14 @@ fn has_card(deck: &[u8], i: usize, card: &[u8]) -> bool
     ensures { HasCard deck.now i card.now result }
 {
     let at = card_place(deck, i);
-    if deck.len() < at {
-        return false;
-    }
-    begins(&deck[at..], card)
+    at <= deck.len() && deck[at..].starts_with(card)
 }
 
 // Whether an entry is unused and of that child.
 fn waits(used: bool, own: usize, child: usize) -> bool
     ensures { result ≡ (not used && eqb own child) }
 {
-    if used {
-        return false;
-    }
-    own == child
+    !used && own == child
 }
 
 // Whether entry i, taken or not and of its own child, is unused, of that child, and has that card.
@@ -54,48 +36,41 @@ fn answers(used: bool, own: usize, child: usize, deck: &[u8], i: usize, card: &[
     requires { (i < 256) × (9216 ≤ length deck.now) }
     ensures { Answers used own child deck.now i card.now result }
 {
-    if !waits(used, own, child) {
-        return false;
-    }
-    has_card(deck, i, card)
+    waits(used, own, child) && has_card(deck, i, card)
 }
 
-// The first unused entry of that child with that card, of which `print` is the fingerprint's byte; the count where there is none.
-fn find<'a>(
-    used: &'a [bool],
-    children: &'a [u8],
+// The first unused entry of that child with that card, of which `print` is the fingerprint's byte.
+fn find(
+    used: &[bool],
+    children: &[u8],
     count: usize,
     child: usize,
     print: u8,
     card: &[u8],
     deck: &[u8],
-) -> usize
+) -> Option<usize>
     requires { (count ≤ 256) × (length used.now ≡ 256) × (length children.now ≡ 256) × (9216 ≤ length deck.now) }
     ensures { Found used.now children.now count child print card.now deck.now result }
 {
-    let mut i = 0;
-    while i < count {
-        if deck[Book::PRINTS + i] == print {
-            if answers(used[i], children[i] as usize, child, deck, i, card) {
-                return i;
-            }
+    for i in 0..count {
+        if deck[Book::PRINTS + i] == print
+            && answers(used[i], children[i] as usize, child, deck, i, card)
+        {
+            return Some(i);
         }
-        i += 1;
     }
-    i
+    None
 }
 
 // Whether no entry of that child is unused.
-fn none_left<'a>(used: &'a [bool], children: &'a [u8], count: usize, child: usize) -> bool
+fn none_left(used: &[bool], children: &[u8], count: usize, child: usize) -> bool
     requires { (count ≤ 256) × (length used.now ≡ 256) × (length children.now ≡ 256) }
     ensures { NoneLeft used.now children.now count child result }
 {
-    let mut i = 0;
-    while i < count {
+    for i in 0..count {
         if waits(used[i], children[i] as usize, child) {
             return false;
         }
-        i += 1;
     }
     true
 }
@@ -107,25 +82,31 @@ impl Book {
         requires in_bounds { 9216 ≤ length deck.now }
         ensures { (bytes key : Text) → card.now ≡ card_of key → print ≡ print_byte key → length key ≤ 4096 → CardsFit bytes deck.now self → LookedUp bytes deck.now child key self result }
     {
-        let count = self.count;
-        let i = find(&self.used, &self.children, count, child, print, card, deck);
-        if i < count {
-            let start = self.starts[i] as usize;
-            let len = self.lengths[i] as usize;
-            let base = self.bases[i] as usize;
+        if let Some(i) = find(
+            &self.used,
+            &self.children,
+            self.count,
+            child,
+            print,
+            card,
+            deck,
+        ) {
+            let place = Place {
+                start: self.starts[i] as usize,
+                len: self.lengths[i] as usize,
+                base: self.bases[i] as usize,
+            };
             self.used[i] = true;
-            let place = Place { start, len, base };
             return Lookup {
-                old: Old::At(place),
+                old: Some(place),
                 book: self,
             };
         }
-        if none_left(&self.used, &self.children, count, child) {
-            let left = self.left;
-            self.left = left.without(child);
+        if none_left(&self.used, &self.children, self.count, child) {
+            self.left = self.left.without(child);
         }
         Lookup {
-            old: Old::Nothing,
+            old: None,
             book: self,
         }
     }

@@ -1,21 +1,24 @@
 -- The steps that write rows and headers: what each leaves, from the stores and calls that it makes. Assumes nothing.
 use mathlib.Core.Path.{◌≡◌, refl, sym, ap, ap₂, ◌∙◌}
 use mathlib.Core.Bool.{Bool, true, false, ◌&&◌, ◌||◌}
-use mathlib.Core.List.{List}
+use mathlib.Core.List.{List, [], ◌∷◌, ◌++◌}
 use mathlib.Core.Logic.{⊎_elim}
 use Prim.Native.Nat.{ℕ, ◌+◌, ◌-◌, ◌≤◌, ◌<◌}
 use native.Mathlib.Omega.{arith}
 use lib.Dec.{eqb, ltb}
-use lib.ListN.{length, get_or, set, length-set}
-use lib.Seq.{get_or-set_same, get_or-set_other}
+use mir.Val.{bool_byte}
+use lib.ListN.{length, get_or, take, drop, length-append, length-drop}
+use lib.Seq.{length-take-le}
+use borrow.Rule.Slice.PartMut.{put_mid, Post-is}
+use Rattle.std.proofs.lemmas.List.{get_or_append_left, get_or-append_right, get_or-drop, get_or-take}
 use borrow.Author.Tests.{ltb-true, ltb-false, lt-ltb, le-ltb, eqb-true, ne_eqb}
 use Rattle.laws.specs.Basics.{bool_cases}
 use Rattle.positions.proofs.Bits.{same_test}
 use Rattle.classes.specs.declared.Class.{Class}
 use Rattle.positions.specs.declared.Set.{Set}
 use Rattle.positions.specs.Positions.{holds, holds_moved, Empty, Added, Moved, Joined}
-use Rattle.automaton.specs.Rows.{row_at, set_at, held_of, follow_of, automaton_at}
-use Rattle.builder.specs.Build.{count_at, header_at, Kept, TwoPut, ClassPut, RowPut, HeaderPut, SameBelow, RowCopied, Copied}
+use Rattle.automaton.specs.Rows.{row_at, held_of, follow_of, automaton_at}
+use Rattle.builder.specs.Build.{count_at, header_at, Kept, ClassPut, RowPut, HeaderPut, SameBelow, RowCopied, Copied}
 use Rattle.automaton.specs.declared.Side.{Side}
 
 -- ---- Tests
@@ -23,6 +26,11 @@ use Rattle.automaton.specs.declared.Side.{Side}
 pub or-false : (b : Bool) → (b || false) ≡ b
 or-false true = refl
 or-false false = refl
+
+-- a test as a number
+pub flagged : (b : Bool) → eqb (bool_byte b) 1 ≡ b
+flagged true = refl
+flagged false = refl
 
 -- ---- What is left as it was
 
@@ -86,117 +94,99 @@ row_outside {before = before} {after = after} row rest out = row_kept row before
 
 -- ---- Stores
 
-pub two_put : (l : List ℕ) (i a b : ℕ) → i + 1 < length l → TwoPut i a b l (set (set l i a) (i + 1) b)
-two_put l i a b h =
+-- The numbers of a part are put from i on.
+pub record Put (i : ℕ) (part before after : List ℕ) : Type 0 where
+  pub put : (j d : ℕ) → j < length part → d ≡ i + j → get_or after d 0 ≡ get_or part j 0
+  pub rest : Kept i (i + length part) before after
+
+put_part : (l part : List ℕ) (i : ℕ) → i + length part ≤ length l → Put i part l (take i l ++ (part ++ drop (i + length part) l))
+put_part l part i room =
     record {
-      first_put = get_or-set_other (set l i a) (i + 1) i b 0 (omega arith) ∙ get_or-set_same l i a 0 (omega arith);
-      second_put = get_or-set_same (set l i a) (i + 1) b 0 (simp length-set h);
+      put = λ j d inside e.
+          let back : d - i ≡ j = omega arith in
+          get_or-append_right front (part ++ behind) i d 0 front_long (omega arith)
+          ∙ rw back (get_or_append_left part behind 0 j inside);
       rest =
           record {
-            same_length = simp length-set;
-            kept =
-                λ j out.
-                get_or-set_other (set l i a) (i + 1) j b 0 (λ e. out (omega arith) (omega arith))
-                ∙ get_or-set_other l i j a 0 (λ e. out (omega arith) (omega arith));
+            same_length = omega (arith, length-append front (part ++ behind), length-append part behind, length-drop (i + length part) l, front_long);
+            kept = λ d out. below_or_beyond d i (before_it d) (behind_it d out);
           };
     }
+  where
+    front : List ℕ
+    front = take i l
+
+    behind : List ℕ
+    behind = drop (i + length part) l
+
+    front_long : length (take i l) ≡ i
+    front_long = length-take-le i l (omega arith)
+
+    before_it : (d : ℕ) → d < i → get_or (take i l ++ (part ++ drop (i + length part) l)) d 0 ≡ get_or l d 0
+    before_it d h =
+        get_or_append_left (take i l) (part ++ drop (i + length part) l) 0 d (omega (arith, front_long)) ∙ get_or-take i l d 0 h
+
+    behind_it : (d : ℕ) → (i ≤ d → d < i + length part → ⊥) → i ≤ d → get_or (take i l ++ (part ++ drop (i + length part) l)) d 0 ≡ get_or l d 0
+    behind_it d out h =
+        let past : length part ≤ d - i = ⊎_elim (λ e. absurd (out h (omega (arith, ltb-true (d - i) (length part) e)))) (λ e. ltb-false (d - i) (length part) e) (bool_cases (ltb (d - i) (length part))) in
+        let place : i + length part + (d - i - length part) ≡ d = omega arith in
+        get_or-append_right (take i l) (part ++ drop (i + length part) l) i d 0 front_long h
+        ∙ get_or-append_right part (drop (i + length part) l) (length part) (d - i) 0 refl past
+        ∙ get_or-drop (i + length part) l (d - i - length part) 0
+        ∙ ap (λ n. get_or l n 0) place
+
+    below_or_beyond : (d n : ℕ) {C : Type 0} → (d < n → C) → (n ≤ d → C) → C
+    below_or_beyond d n left right = ⊎_elim (λ e. left (ltb-true d n e)) (λ e. right (ltb-false d n e)) (bool_cases (ltb d n))
+
+-- so are those that are copied into the part of a list from i up to e
+pub put_by : {l ys : List ℕ} (part : List ℕ) (i e : ℕ) → ys ≡ part → e ≡ i + length part → e ≤ length l → Put i part l (put_mid i (e - i) l ys)
+put_by {l} part i e same end room = rw (same, Post-is i e l (omega arith), end) (put_part l part i (omega arith))
 
 -- a class is put as the two numbers of each of its sets
-pub class_put :
-    (l₀ l₁ l₂ : List ℕ) (i : ℕ) (class : Class)
-    → TwoPut i class.low.low class.low.high l₀ l₁
-    → TwoPut (i + 2) class.high.low class.high.high l₁ l₂
-    → ClassPut i class l₀ l₂
-class_put l₀ l₁ l₂ i class one two =
+pub class_put : {l l' : List ℕ} (i : ℕ) (class : Class) → Put i (class.low.low ∷ class.low.high ∷ class.high.low ∷ class.high.high ∷ []) l l' → ClassPut i class l l'
+class_put {l} {l'} i class p =
     record {
       class_put =
           λ k.
           record {
-            low =
-                set_path class.low (get_or l₂ i 0) (get_or l₂ (i + 1) 0)
-                (two.rest.kept i (omega arith) ∙ one.first_put)
-                (two.rest.kept (i + 1) (omega arith) ∙ one.second_put)
-                k;
-            high = set_path class.high (get_or l₂ (i + 2) 0) (get_or l₂ (i + 2 + 1) 0) two.first_put two.second_put k;
+            low = set_path class.low (get_or l' i 0) (get_or l' (i + 1) 0) (p.put 0 i (omega arith) (omega arith)) (p.put 1 (i + 1) (omega arith) refl) k;
+            high = set_path class.high (get_or l' (i + 2) 0) (get_or l' (i + 2 + 1) 0) (p.put 2 (i + 2) (omega arith) refl) (p.put 3 (i + 2 + 1) (omega arith) (omega arith)) k;
           };
-      rest = kept_both i (i + 4) one.rest two.rest (omega arith) (omega arith) (omega arith) (omega arith);
+      rest = p.rest;
     }
 
 -- a row is put as what tells its bytes, and then the two numbers of its set
-pub row_put :
-    (l l' : List ℕ) (row held : ℕ) (follow : Set)
-    → row_at row < length l
-    → TwoPut (row_at row + 1) follow.low follow.high (set l (row_at row) held) l'
-    → RowPut row held follow l l'
-row_put l l' row held follow inside two =
+pub row_put : {l l' : List ℕ} (row held : ℕ) (follow : Set) → Put (row_at row) (held ∷ follow.low ∷ follow.high ∷ []) l l' → RowPut row held follow l l'
+row_put {l} {l'} row held follow p =
     record {
-      held_put = two.rest.kept (row_at row) (omega arith) ∙ get_or-set_same l (row_at row) held 0 inside;
-      follow_put = set_path follow (get_or l' (row_at row + 1) 0) (get_or l' (row_at row + 1 + 1) 0) two.first_put two.second_put;
-      rest =
-          record {
-            same_length = two.rest.same_length ∙ length-set l (row_at row) held;
-            kept =
-                λ i out.
-                two.rest.kept i (λ x y. out (omega arith) (omega arith))
-                ∙ get_or-set_other l (row_at row) i held 0 (λ e. out (omega arith) (omega arith));
-          };
+      held_put = p.put 0 (row_at row) (omega arith) (omega arith);
+      follow_put =
+          set_path follow (get_or l' (row_at row + 1) 0) (get_or l' (row_at row + 1 + 1) 0) (p.put 1 (row_at row + 1) (omega arith) refl)
+          (p.put 2 (row_at row + 1 + 1) (omega arith) (omega arith));
+      rest = record { same_length = p.rest.same_length; kept = λ i out. p.rest.kept i (λ x y. out x (omega arith)) };
     }
 
-module _ (l₀ l₁ l₂ : List ℕ) where
-  -- a header is put as three pairs of numbers
-  pub header_put :
-      (l₃ : List ℕ) (node : ℕ) (side : Side) (start flag : ℕ) (empty : Bool) (first last : Set)
-      → eqb flag 1 ≡ empty
-      → TwoPut (header_at node side) start flag l₀ l₁
-      → TwoPut (header_at node side + 2) first.low first.high l₁ l₂
-      → TwoPut (header_at node side + 4) last.low last.high l₂ l₃
-      → HeaderPut node side start empty first last l₀ l₃
-  unfolding automaton_at
-  header_put l₃ node side start flag empty first last flagged one two three =
-      record {
-        header =
-            λ k.
-            record {
-              start = start_is k;
-              count = rest.kept (count_at node side) (omega arith) k;
-              nullable = nullable_is k;
-              first = first_is k;
-              last = set_path last (get_or l₃ (i + 4) 0) (get_or l₃ (i + 4 + 1) 0) three.first_put three.second_put k;
-            };
-        rest = rest;
-      }
-    where
-      i : ℕ
-      i = header_at node side
-
-      rest : Kept i (i + 6) l₀ l₃
-      rest =
-          kept_both i (i + 6)
-          (kept_both i (i + 6) one.rest two.rest (omega arith) (omega arith) (omega arith) (omega arith))
-          three.rest
-          (omega arith)
-          (omega arith)
-          (omega arith)
-          (omega arith)
-
-      -- a number of the first pair, and one of the second
-      from_first : (j x : ℕ) → j < i + 2 → get_or l₁ j 0 ≡ x → get_or l₃ j 0 ≡ x
-      from_first j x h e = three.rest.kept j (omega arith) ∙ two.rest.kept j (omega arith) ∙ e
-
-      start_is : get_or l₃ i 0 ≡ start
-      start_is = from_first i start (omega arith) one.first_put
-
-      nullable_is : eqb (get_or l₃ (i + 1) 0) 1 ≡ empty
-      nullable_is = ap (λ (x : ℕ). eqb x 1) (from_first (i + 1) flag (omega arith) one.second_put) ∙ flagged
-
-      first_is : set_at l₃ (i + 2) ≡ first
-      first_is =
-          set_path
-          first
-          (get_or l₃ (i + 2) 0)
-          (get_or l₃ (i + 2 + 1) 0)
-          (three.rest.kept (i + 2) (omega arith) ∙ two.first_put)
-          (three.rest.kept (i + 2 + 1) (omega arith) ∙ two.second_put)
+-- a header is put as six numbers
+pub header_put :
+    {l l' : List ℕ} (node : ℕ) (side : Side) (start flag : ℕ) (empty : Bool) (first last : Set)
+    → eqb flag 1 ≡ empty
+    → Put (header_at node side) (start ∷ flag ∷ first.low ∷ first.high ∷ last.low ∷ last.high ∷ []) l l'
+    → HeaderPut node side start empty first last l l'
+unfolding automaton_at
+header_put {l} {l'} node side start flag empty first last told p =
+    let i = header_at node side in
+    record {
+      header =
+          λ k.
+          record {
+            start = p.put 0 i (omega arith) (omega arith) k;
+            count = p.rest.kept (count_at node side) (λ x y. omega arith) k;
+            nullable = (ap (λ (x : ℕ). eqb x 1) (p.put 1 (i + 1) (omega arith) refl) ∙ told) k;
+            first = set_path first (get_or l' (i + 2) 0) (get_or l' (i + 2 + 1) 0) (p.put 2 (i + 2) (omega arith) refl) (p.put 3 (i + 2 + 1) (omega arith) (omega arith)) k;
+            last = set_path last (get_or l' (i + 4) 0) (get_or l' (i + 4 + 1) 0) (p.put 4 (i + 4) (omega arith) refl) (p.put 5 (i + 4 + 1) (omega arith) (omega arith)) k;
+          };
+      rest = p.rest;
+    }
 
 -- ---- Copies
 

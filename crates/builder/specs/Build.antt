@@ -82,12 +82,6 @@ pub record Aliased (node : ℕ) (side : Side) (other : Automaton) (before after 
 
 -- ---- The steps
 
--- Two numbers were put at i.
-pub record TwoPut (i a b : ℕ) (before after : List ℕ) : Type 0 where
-  pub first_put : get_or after i 0 ≡ a
-  pub second_put : get_or after (i + 1) 0 ≡ b
-  pub rest : Kept i (i + 2) before after
-
 -- A class was put at i.
 pub record ClassPut (i : ℕ) (class : Class) (before after : List ℕ) : Type 0 where
   pub class_put : R.class_at after i ≡ class

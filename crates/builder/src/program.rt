@@ -9,7 +9,7 @@ ghost use Rattle.builder.specs.Program.{rows_taken, rows_needed, is_pattern, Own
 ghost use Rattle.automaton.specs.declared.Side.TheVariants.{Source, Sheet};
 
 use crate::build::{
-    CLASS_ROWS, alias, build_alt, build_class, build_concat, build_star, build_word,
+    CLASS_ROWS, Slot, alias, build_alt, build_class, build_concat, build_star, build_word,
 };
 use automaton::{Side, automaton_of};
 use table::parts::node_count;
@@ -40,26 +40,16 @@ fn rows_of(bytes: &[u8], prepared: &[u64], k: usize) -> usize
     ensures { result ≡ rows_taken bytes.now k Source + rows_taken bytes.now k Sheet }
 {
     let node = Table::node(bytes, prepared, k);
-    let kind = node.kind;
-    let once = node.source;
-    let both = once + node.sheet;
-    match kind {
-        Kind::Word { start: _, len: _ } => once,
-        Kind::OneOf { at: _, runs: _ } => CLASS_ROWS,
-        Kind::PatternJoin { left: _, right: _ } => once,
-        Kind::PatternUnion { left: _, right: _ } => once,
-        Kind::PatternRepeat { child: _ } => once,
-        Kind::Copy { pattern: _ } => 0,
-        Kind::Const {
-            pattern: _,
-            sheet: _,
-            default: _,
-        } => 0,
-        Kind::Key { pattern: _ } => 0,
-        Kind::LensJoin { left: _, right: _ } => both,
-        Kind::LensUnion { left: _, right: _ } => both,
-        Kind::LensRepeat { child: _ } => both,
-        Kind::Match { child: _ } => 0,
+    match node.kind {
+        Kind::Word { .. }
+        | Kind::PatternJoin { .. }
+        | Kind::PatternUnion { .. }
+        | Kind::PatternRepeat { .. } => node.source,
+        Kind::OneOf { .. } => CLASS_ROWS,
+        Kind::Copy { .. } | Kind::Const { .. } | Kind::Key { .. } | Kind::Match { .. } => 0,
+        Kind::LensJoin { .. } | Kind::LensUnion { .. } | Kind::LensRepeat { .. } => {
+            node.source + node.sheet
+        }
     }
 }
 
@@ -68,12 +58,9 @@ pub fn rows_needed(bytes: &[u8], prepared: &[u64]) -> usize
     requires { AllSized bytes.now prepared.now }
     ensures { (result ≡ rows_needed bytes.now) × (result ≤ 24576) }
 {
-    let n = node_count(bytes);
     let mut rows = 0;
-    let mut k = 0;
-    while k < n {
+    for k in 0..node_count(bytes) {
         rows += rows_of(bytes, prepared, k);
-        k += 1;
     }
     rows
 }
@@ -84,58 +71,41 @@ fn letters(bytes: &[u8], start: usize, len: usize) -> &[u8]
     ensures { result.now ≡ take len (drop start (pool bytes.now)) }
 {
     let from = 3 + 4 * node_count(bytes) + start;
-    let to = from + len;
-    &bytes[from..to]
+    &bytes[from..from + len]
 }
 
 // The node's side, made of the same side of two others, and the next free row.
-fn two_of(
-    prepared: &mut [u64],
-    node: usize,
-    side: Side,
-    row: usize,
-    pair: Pair,
-    a: usize,
-    b: usize,
-) -> usize
-    requires { PairReady node side row a b prepared.old }
-    ensures { PairMade pair node side row a b result prepared.old prepared.new }
+fn two_of(prepared: &mut [u64], slot: Slot, pair: Pair, a: usize, b: usize) -> usize
+    requires { PairReady slot.node slot.side slot.row a b prepared.old }
+    ensures { PairMade pair slot.node slot.side slot.row a b result prepared.old prepared.new }
 {
-    let left = automaton_of(prepared, a, side);
-    let right = automaton_of(prepared, b, side);
-    let next = row + (left.count + right.count);
+    let left = automaton_of(prepared, a, slot.side);
+    let right = automaton_of(prepared, b, slot.side);
     match pair {
-        Pair::Join => build_concat(prepared, node, side, row, left, right),
-        Pair::Union => build_alt(prepared, node, side, row, left, right),
+        Pair::Join => build_concat(prepared, slot, left, right),
+        Pair::Union => build_alt(prepared, slot, left, right),
     }
-    next
+    slot.row + (left.count + right.count)
 }
 
 // The node's side, a repeat of the same side of another, and the next free row.
-fn repeat_of(prepared: &mut [u64], node: usize, side: Side, row: usize, a: usize) -> usize
-    requires { RepeatReady node side row a prepared.old }
-    ensures { RepeatMade node side row a result prepared.old prepared.new }
+fn repeat_of(prepared: &mut [u64], slot: Slot, a: usize) -> usize
+    requires { RepeatReady slot.node slot.side slot.row a prepared.old }
+    ensures { RepeatMade slot.node slot.side slot.row a result prepared.old prepared.new }
 {
-    let part = automaton_of(prepared, a, side);
-    build_star(prepared, node, side, row, part);
-    row + part.count
+    let part = automaton_of(prepared, a, slot.side);
+    build_star(prepared, slot, part);
+    slot.row + part.count
 }
 
 // The node's side, the same as a side of another. It takes no row.
-fn same_as(
-    prepared: &mut [u64],
-    node: usize,
-    side: Side,
-    row: usize,
-    a: usize,
-    other: Side,
-) -> usize
-    requires { AliasReady node a prepared.old }
-    ensures { AliasMade node side row a other result prepared.old prepared.new }
+fn same_as(prepared: &mut [u64], slot: Slot, a: usize, other: Side) -> usize
+    requires { AliasReady slot.node a prepared.old }
+    ensures { AliasMade slot.node slot.side slot.row a other result prepared.old prepared.new }
 {
     let automaton = automaton_of(prepared, a, other);
-    alias(prepared, node, side, automaton);
-    row
+    alias(prepared, slot.node, slot.side, automaton);
+    slot.row
 }
 
 // A const is its pattern on the source side, and its word on the sheet side.
@@ -159,11 +129,7 @@ fn parts_of(kind: Kind, side: Side) -> Parts
         Kind::PatternUnion { left, right } => Parts::Two(Pair::Union, left, right),
         Kind::PatternRepeat { child } => Parts::Repeat(child),
         Kind::Copy { pattern } => Parts::Same(pattern),
-        Kind::Const {
-            pattern,
-            sheet,
-            default: _,
-        } => Parts::Same(const_part(side, pattern, sheet)),
+        Kind::Const { pattern, sheet, .. } => Parts::Same(const_part(side, pattern, sheet)),
         Kind::Key { pattern } => Parts::Same(pattern),
         Kind::LensJoin { left, right } => Parts::Two(Pair::Join, left, right),
         Kind::LensUnion { left, right } => Parts::Two(Pair::Union, left, right),
@@ -172,35 +138,26 @@ fn parts_of(kind: Kind, side: Side) -> Parts
     }
 }
 
-// One side of node k, from the sides before it, and the next free row.
-fn build_side(
-    bytes: &[u8],
-    prepared: &mut [u64],
-    k: usize,
-    kind: Kind,
-    side: Side,
-    row: usize,
-) -> usize
-    requires turn { Turn bytes.now k side row prepared.old }
-    requires shows { Shows bytes.now k kind }
-    requires own_side { OwnSide kind side }
-    ensures { BuiltUpTo bytes.now (next_node k side) (next_side side) result prepared.new }
+// One side of a node, from the sides before it, and the next free row.
+fn build_side(bytes: &[u8], prepared: &mut [u64], kind: Kind, slot: Slot) -> usize
+    requires turn { Turn bytes.now slot.node slot.side slot.row prepared.old }
+    requires shows { Shows bytes.now slot.node kind }
+    requires own_side { OwnSide kind slot.side }
+    ensures { BuiltUpTo bytes.now (next_node slot.node slot.side) (next_side slot.side) result prepared.new }
 {
-    let parts = parts_of(kind, side);
-    match parts {
+    match parts_of(kind, slot.side) {
         Parts::Letters(start, len) => {
             let word = letters(bytes, start, len);
-            build_word(prepared, k, side, row, word);
-            row + word.len()
+            build_word(prepared, slot, word);
+            slot.row + word.len()
         }
         Parts::Runs(at, count) => {
-            let to = at + 2 * count;
-            build_class(prepared, k, side, row, &bytes[at..to]);
-            row + CLASS_ROWS
+            build_class(prepared, slot, &bytes[at..at + 2 * count]);
+            slot.row + CLASS_ROWS
         }
-        Parts::Two(pair, a, b) => two_of(prepared, k, side, row, pair, a, b),
-        Parts::Repeat(a) => repeat_of(prepared, k, side, row, a),
-        Parts::Same(a) => same_as(prepared, k, side, row, a, side),
+        Parts::Two(pair, a, b) => two_of(prepared, slot, pair, a, b),
+        Parts::Repeat(a) => repeat_of(prepared, slot, a),
+        Parts::Same(a) => same_as(prepared, slot, a, slot.side),
     }
 }
 
@@ -208,24 +165,14 @@ fn build_side(
 fn is_pattern(kind: Kind) -> bool
     ensures { result ≡ is_pattern kind }
 {
-    match kind {
-        Kind::Word { start: _, len: _ } => true,
-        Kind::OneOf { at: _, runs: _ } => true,
-        Kind::PatternJoin { left: _, right: _ } => true,
-        Kind::PatternUnion { left: _, right: _ } => true,
-        Kind::PatternRepeat { child: _ } => true,
-        Kind::Copy { pattern: _ } => false,
-        Kind::Const {
-            pattern: _,
-            sheet: _,
-            default: _,
-        } => false,
-        Kind::Key { pattern: _ } => false,
-        Kind::LensJoin { left: _, right: _ } => false,
-        Kind::LensUnion { left: _, right: _ } => false,
-        Kind::LensRepeat { child: _ } => false,
-        Kind::Match { child: _ } => false,
-    }
+    matches!(
+        kind,
+        Kind::Word { .. }
+            | Kind::OneOf { .. }
+            | Kind::PatternJoin { .. }
+            | Kind::PatternUnion { .. }
+            | Kind::PatternRepeat { .. }
+    )
 }
 
 // Both sides of node k, and the next free row. A pattern has the same automaton on both.
@@ -233,13 +180,22 @@ fn build_node(bytes: &[u8], prepared: &mut [u64], k: usize, row: usize) -> usize
     requires { Turn bytes.now k Source row prepared.old }
     ensures { BuiltUpTo bytes.now (k + 1) Source result prepared.new }
 {
-    let node = Table::node(bytes, prepared, k);
-    let kind = node.kind;
-    let next = build_side(bytes, prepared, k, kind, Side::Source, row);
+    let kind = Table::node(bytes, prepared, k).kind;
+    let source = Slot {
+        node: k,
+        side: Side::Source,
+        row,
+    };
+    let next = build_side(bytes, prepared, kind, source);
+    let sheet = Slot {
+        node: k,
+        side: Side::Sheet,
+        row: next,
+    };
     if is_pattern(kind) {
-        return same_as(prepared, k, Side::Sheet, next, k, Side::Source);
+        return same_as(prepared, sheet, k, Side::Source);
     }
-    build_side(bytes, prepared, k, kind, Side::Sheet, next)
+    build_side(bytes, prepared, kind, sheet)
 }
 
 // Builds every node's automata, lowest first, from those of its children.
@@ -248,11 +204,8 @@ pub fn build_all(bytes: &[u8], prepared: &mut [u64])
     requires bytes_in_bounds { row_at (rows_needed bytes.now) ≤ length prepared.old }
     ensures { Built bytes.now prepared.new }
 {
-    let n = node_count(bytes);
     let mut row = 0;
-    let mut k = 0;
-    while k < n {
+    for k in 0..node_count(bytes) {
         row = build_node(bytes, prepared, k, row);
-        k += 1;
     }
 }

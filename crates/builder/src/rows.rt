@@ -2,30 +2,20 @@
 ghost use Rattle.std.specs.Prelude.{◌≡◌, ◌&&◌, ℕ, ◌+◌, ◌*◌, ◌≤◌, ◌<◌, eqb, ltb, length};
 ghost use Rattle.positions.specs.Positions.{holds};
 ghost use Rattle.automaton.specs.Rows.{row_at};
-ghost use Rattle.builder.specs.Build.{TwoPut, ClassPut, RowPut, HeaderPut, RowCopied, Kept, Copied};
+ghost use Rattle.builder.specs.Build.{ClassPut, RowPut, HeaderPut, RowCopied, Kept, Copied};
 
 use automaton::{Side, follow, side_index};
 use classes::Class;
 use positions::Set;
 use table::Table;
 
-fn put_two(prepared: &mut [u64], i: usize, a: u64, b: u64)
-    requires { i + 1 < length prepared.old }
-    ensures { TwoPut i a b prepared.old prepared.new }
-{
-    prepared[i] = a;
-    prepared[i + 1] = b;
-}
-
 // A class, from a place on.
 pub fn put_class(prepared: &mut [u64], i: usize, class: Class)
     requires { i + 4 ≤ length prepared.old }
     ensures { ClassPut i class prepared.old prepared.new }
 {
-    let low = class.low;
-    let high = class.high;
-    put_two(prepared, i, low.low, low.high);
-    put_two(prepared, i + 2, high.low, high.high);
+    let Class { low, high } = class;
+    prepared[i..i + 4].copy_from_slice(&[low.low, low.high, high.low, high.high]);
 }
 
 // A row: the number that tells its bytes, and the positions that may follow.
@@ -34,17 +24,7 @@ pub fn put_row(prepared: &mut [u64], row: usize, held: u64, follow: Set)
     ensures { RowPut row held follow prepared.old prepared.new }
 {
     let i = Table::ROWS + 3 * row;
-    let a = follow.low;
-    let b = follow.high;
-    prepared[i] = held;
-    put_two(prepared, i + 1, a, b);
-}
-
-// 1 for true, and 0 for false.
-fn flag(b: bool) -> u64
-    ensures { eqb result 1 ≡ b }
-{
-    if b { 1 } else { 0 }
+    prepared[i..i + 3].copy_from_slice(&[held, follow.low, follow.high]);
 }
 
 pub fn put_header(
@@ -60,13 +40,14 @@ pub fn put_header(
     ensures { HeaderPut node side start nullable first last prepared.old prepared.new }
 {
     let i = Table::WORDS * node + 4 + 6 * side_index(side);
-    let a = first.low;
-    let b = first.high;
-    let c = last.low;
-    let d = last.high;
-    put_two(prepared, i, start as u64, flag(nullable));
-    put_two(prepared, i + 2, a, b);
-    put_two(prepared, i + 4, c, d);
+    prepared[i..i + 6].copy_from_slice(&[
+        start as u64,
+        u64::from(nullable),
+        first.low,
+        first.high,
+        last.low,
+        last.high,
+    ]);
 }
 
 // The set, or none of it.
@@ -112,10 +93,8 @@ pub fn copy_rows(
     requires { (from + count ≤ to) × (row_at (to + count) ≤ length prepared.old) }
     ensures { Copied from to count up last more prepared.old prepared.new }
 {
-    let mut p = 0;
-    while p < count {
+    for p in 0..count {
         let gained = only_if(last.has(p), more);
         copy_row(prepared, from + p, to + p, up, gained);
-        p += 1;
     }
 }

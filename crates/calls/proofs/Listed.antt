@@ -1,6 +1,6 @@
 -- The entries of the old source, in the book that a put begins with.
-use mathlib.Core.Path.{◌≡◌, refl, sym, ◌∙◌}
-use mathlib.Core.Bool.{Bool, true, false}
+use mathlib.Core.Path.{◌≡◌, refl, ◌∙◌}
+use mathlib.Core.Bool.{true, false}
 use mathlib.Core.List.{List}
 use Prim.Native.Nat.{ℕ, ◌-◌, ◌≤◌}
 use native.Mathlib.Omega.{arith}
@@ -15,8 +15,8 @@ use Rattle.semantics.specs.Calls.{gives, program, max_text, max_entries}
 use Rattle.books.specs.declared.Book.{Book}
 use Rattle.books.specs.Listed.{Sized, unused, unused_none, fits_none, in_order_none, in_order_more}
 use Rattle.books.specs.Looking.{EntriesParsed}
-use Rattle.listing.specs.declared.Listing.{Listing}
-use Rattle.listing.specs.Listing.{tree_entries, entries_of, ToList, StandsIn, Untaken, Lists, PutBehind}
+use Rattle.std.specs.Prelude.{Option, Some, None}
+use Rattle.listing.specs.Listing.{tree_entries, entries_of, ToList, StandsIn, Untaken, Lists}
 use Rattle.answers.specs.Answers.{Ready}
 use Rattle.answers.specs.Results.{TextReady}
 use Rattle.answers.proofs.Giving.{root_at}
@@ -48,38 +48,44 @@ stands_whole t = record { inside = omega arith; text_is = take-length t }
 module _ {bytes : Text} {prepared : List ℕ} (ready : Ready bytes prepared) {root : ℕ} (root_is : root ≡ node_count bytes - 1) where
   -- what was listed into an empty book are the source's entries
   pub lists_root :
-      {old trail : Text} {b : Book} {r : Listing}
+      {old trail : Text} {b : Book} {r : Option Book}
       → TextReady bytes source old trail
       → (b.count ≡ 0) × Sized b
       → Lists bytes (tree_entries (tree_at (trees bytes) root) old) old trail 0 b r
       → ListsSource bytes old trail r
-  lists_root {old} {trail} {b} {r} known empty lists =
-      record { over_is = λ l e. over_is l e r.over refl; book_ready = ready_book }
+  lists_root {old} {trail} {b} {r} known empty lists = record { over = over; within = within; book_ready = ready_book }
     where
-      all : PutBehind (trees bytes) old (tree_entries (tree_at (trees bytes) root) old) b r
-      all = lists.lists old (stands_whole old) (untaken_none empty bytes old)
+      whole : StandsIn old old 0
+      whole = stands_whole old
+
+      none : Untaken (trees bytes) old b
+      none = untaken_none empty bytes old
 
       these : (l : Lens) → program bytes ≡ gives l → tree_entries (tree_at (trees bytes) root) old ≡ entries l old
       these l e = entries_of (trees bytes) root old (root_at ready root_is l e)
 
-      listed : r.over ≡ false → (l : Lens) → program bytes ≡ gives l → unused (trees bytes) old r.book ≡ entries l old
-      listed within l e = rw (unused_none (trees bytes) old b empty.0) at (all.listed within) ∙ these l e
+      listed : (book : Book) → r ≡ Some book → (l : Lens) → program bytes ≡ gives l → unused (trees bytes) old book ≡ entries l old
+      listed book is l e = rw (unused_none (trees bytes) old b empty.0) at ((lists.listed_into book is).listed old whole none) ∙ these l e
 
-      over_is : (l : Lens) → program bytes ≡ gives l → (over : Bool) → r.over ≡ over → over ≡ ltb max_entries (length (entries l old))
-      over_is l e true o =
-          let many = all.too_many o in
-          sym (lt-ltb max_entries (length (entries l old)) (rw (← these l e) (omega (arith, many, empty.0))))
-      over_is l e false o =
-          let count = (all.untaken o).counted in
-          sym (le-ltb max_entries (length (entries l old)) (rw (← listed o l e) (omega (arith, count, lists.few))))
+      over : r ≡ None → (l : Lens) → program bytes ≡ gives l → ltb max_entries (length (entries l old)) ≡ true
+      over is l e =
+          let many = (lists.over is).too_many old whole none in
+          lt-ltb max_entries (length (entries l old)) (rw (← these l e) (omega (arith, many, empty.0)))
 
-      ready_book : r.over ≡ false → BookReady bytes old trail r.book
-      ready_book within =
+      within : (book : Book) → r ≡ Some book → (l : Lens) → program bytes ≡ gives l → ltb max_entries (length (entries l old)) ≡ false
+      within book is l e =
+          let into = lists.listed_into book is in
+          let count = (into.untaken old whole none).counted in
+          le-ltb max_entries (length (entries l old)) (rw (← listed book is l e) (omega (arith, count, into.few)))
+
+      ready_book : (book : Book) → r ≡ Some book → BookReady bytes old trail book
+      ready_book book is =
+          let into = lists.listed_into book is in
           record {
-            over = record { sized = lists.sized; fits = (all.untaken within).fits };
-            in_order = in_order_more (length old) (omega arith) (lists.lists_ordered (in_order_none 0 b empty.0) within);
-            entries_parsed = lists.lists_parsed old trail (stands_whole old) (stands_whole trail) (parsed_none empty bytes old trail) within;
+            over = record { sized = into.sized; fits = (into.untaken old whole none).fits };
+            in_order = in_order_more (length old) (omega arith) (into.ordered (in_order_none 0 b empty.0));
+            entries_parsed = into.parsed old trail whole (stands_whole trail) (parsed_none empty bytes old trail);
             old_ready = known;
-            listed = listed within;
-            counted = (all.untaken within).counted;
+            listed = listed book is;
+            counted = (into.untaken old whole none).counted;
           }

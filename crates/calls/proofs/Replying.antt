@@ -13,15 +13,14 @@ use Rattle.semantics.specs.Tally.{met, tally, put_tally}
 use Rattle.semantics.specs.Tally.{Tally as Counts}
 use Rattle.laws.specs.Met.{kept_dropped, kept_made}
 use Rattle.laws.specs.Tally.{tally_is}
-use Rattle.texts.specs.declared.Wrote.TheVariants.{Count}
+use Rattle.std.specs.Prelude.{Some, Ok, Err}
+use Rattle.table.specs.declared.Refusal.{Refusal}
 use Rattle.books.specs.declared.Book.{Book}
 use Rattle.plains.proofs.Behind.{not_full}
-use Rattle.answers.specs.declared.Answer.{Answer}
-use Rattle.answers.specs.declared.Answer.TheVariants.{Result, Refusal}
 use Rattle.answers.specs.declared.Tally.{Tally}
 use Rattle.answers.specs.declared.Reply.{Reply}
 use Rattle.answers.specs.Answers.{IsAccepted}
-use Rattle.answers.specs.Outcomes.{answer_for, GivesText, RepliesSource}
+use Rattle.answers.specs.Outcomes.{Answer, answer_for, GivesText, RepliesSource}
 use Rattle.answers.proofs.Giving.{too_long_lem, not_too_long}
 use Rattle.counts.specs.declared.Made.{Made}
 use Rattle.counts.specs.Counts.{CountsFit, TalliesFrom}
@@ -37,7 +36,7 @@ module _ {bytes new old trail before after : Text} {r : Made} {b : Book} (book :
       (l : Lens)
       → program bytes ≡ gives l
       → (n : ℕ)
-      → r.wrote ≡ Count n
+      → r.wrote ≡ Some n
       → let t = tally l new old in
       (t.dropped ≡ r.dropped) × (t.kept + r.dropped ≡ b.count) × (t.kept + t.made ≡ r.met)
   unfolding tally
@@ -65,7 +64,7 @@ module _ {bytes new old trail before after : Text} {r : Made} {b : Book} (book :
       → (l : Lens)
       → program bytes ≡ gives l
       → (n : ℕ)
-      → r.wrote ≡ Count n
+      → r.wrote ≡ Some n
       → SameCounts taken (tally l new old)
   tally_same from l e n counted =
       let (dropped_is, olds, news) = counts_are l e n counted in
@@ -75,13 +74,13 @@ module _ {bytes new old trail before after : Text} {r : Made} {b : Book} (book :
 -- ---- What is replied
 
 -- a refusal is no result
-pub no_result : {A : Type 0} {answer : Answer} {number node n : ℕ} → answer ≡ Refusal number node → answer ≡ Result n → A
+pub no_result : {A : Type 0} {answer : Answer} {r : Refusal} {n : ℕ} → answer ≡ Err r → answer ≡ Ok n → A
 no_result e f = absurd (let z : ◌≡◌ {A = ℕ} 0 1 = cc in omega arith)
 
 -- so it needs no counts
 pub refused_replies :
-    {outcome : Outcome Text} {n : Counts} {before after : Text} {reply : Reply} {number node : ℕ}
-    → reply.answer ≡ Refusal number node
+    {outcome : Outcome Text} {n : Counts} {before after : Text} {reply : Reply} {r : Refusal}
+    → reply.answer ≡ Err r
     → GivesText outcome before after reply.answer
     → RepliesSource outcome n before after reply
 unfolding answer_for
@@ -91,7 +90,7 @@ refused_replies e given = record { counts = λ t f. no_result e (given.answer_is
 pub put_replies :
     {bytes : Text} (new old : Text) {before after : Text} {reply : Reply} {outcome : Outcome Text}
     → IsAccepted bytes
-    → ((l : Lens) → program bytes ≡ gives l → (n : ℕ) → reply.answer ≡ Result n → SameCounts reply.tally (tally l new old))
+    → ((l : Lens) → program bytes ≡ gives l → (n : ℕ) → reply.answer ≡ Ok n → SameCounts reply.tally (tally l new old))
     → GivesText outcome before after reply.answer
     → RepliesSource outcome (put_tally bytes new old) before after reply
 unfolding answer_for

@@ -12,8 +12,8 @@ use Rattle.semantics.specs.Lens.{key_of}
 use Rattle.laws.specs.Keys.{trimmed_append, trimmed_take, trimmed_short, trimmed_over}
 use Rattle.lens.specs.declared.Mode.{Mode}
 use Rattle.lens.specs.declared.Mode.TheVariants.{Key}
-use Rattle.texts.specs.declared.Wrote.{Wrote}
-use Rattle.texts.specs.declared.Wrote.TheVariants.{Count, Full}
+use Rattle.texts.specs.Overlay.{Wrote}
+use Rattle.std.specs.Prelude.{Some, None}
 use Rattle.texts.specs.Overlay.{Lays, has_room, count_room, full_room, writes_within, front_set}
 use Rattle.lens.specs.Reading.{reading}
 use Rattle.texts.specs.Cutting.{part_length_lem}
@@ -43,7 +43,7 @@ pub sealed_key :
     → print ≡ print_of (take (2 + kept - 2) (drop 2 card))
     → {after : Text}
     → after ≡ two_bytes kept ++ drop 2 card
-    → Sealed card (Count n) after (record { len = 2 + kept; print = print / 256 })
+    → Sealed card (Some n) after (record { len = 2 + kept; print = print / 256 })
 unfolding card_of print_byte
 sealed_key card n kept print kept_is print_is {after} put =
     let key = key_behind card n in
@@ -61,7 +61,7 @@ sealed_key card n kept print kept_is print_is {after} put =
     }
 
 -- A key that had room but for trailing spaces: of what was written the same is left.
-left_written : {key before after : Text} {n : ℕ} → Lays true key before after (Count n) → trimmed (take n after) ≡ trimmed key
+left_written : {key before after : Text} {n : ℕ} → Lays true key before after (Some n) → trimmed (take n after) ≡ trimmed key
 unfolding has_room
 left_written {key} {before} {after} {n} w =
     let size = length before in
@@ -69,7 +69,7 @@ left_written {key} {before} {after} {n} w =
     ap trimmed (front_set w) ∙ sym (trimmed_append (take size key) (drop size key) spaces) ∙ ap trimmed (take-append-drop size key)
 
 -- Of one that had not, more is left than has room.
-left_over : {key before after : Text} → Lays true key before after Full → length before < length (trimmed key)
+left_over : {key before after : Text} → Lays true key before after None → length before < length (trimmed key)
 unfolding has_room
 left_over {key} {before} w = trimmed_over (length before) key (full_room true key before w.answer_is)
 
@@ -121,7 +121,7 @@ module _ (card rest : Text) (long : length card ≡ 4098) where
           as_long = same ∙ card_long kept
 
           go : (w : Wrote) → Lays true key (behind_head card) rest w → Sealed whole w after r → CardAt key after r.len r.print
-          go (Count n) writes sealed =
+          go (Some n) writes sealed =
               let written = key_behind whole n in
               let same_left : trimmed written ≡ trimmed key = ap (λ (t : Text). trimmed (take n t)) behind_head_lem ∙ left_written writes in
               let inside = writes_within key (behind_head card) rest n writes in
@@ -137,7 +137,7 @@ module _ (card rest : Text) (long : length card ≡ 4098) where
                 );
                 long = λ h. absurd (omega (arith, h, ap length same_left, trimmed_short written, length-take n (drop 2 whole), inside, kept, room));
               }
-          go Full writes sealed =
+          go None writes sealed =
               let over = left_over writes in
               record {
                 within = omega (arith, sealed.length_is, as_long);

@@ -11,7 +11,6 @@ ghost use Rattle.cards.specs.Sealed.{KeyBehind, Sealed, KeyCard};
 use lens::Mode;
 use lens::read::emit;
 use padding::trimmed_length;
-use texts::Wrote;
 
 // How many bytes a card has, and the byte of its key's fingerprint.
 #[derive(Clone, Copy)]
@@ -25,10 +24,8 @@ fn fingerprint(text: &[u8]) -> usize
     ensures { result ≡ print_of text.now }
 {
     let mut print = 0;
-    let mut i = 0;
-    while i < text.len() {
-        print = (print * 31153 + text[i] as usize + 1) % 65536;
-        i += 1;
+    for byte in text {
+        print = (print * 31153 + usize::from(*byte) + 1) % 65536;
     }
     print
 }
@@ -44,15 +41,14 @@ fn put_two(card: &mut [u8], at: usize, number: usize)
 }
 
 // The head of a card behind which a key was written, with or without its trailing spaces. A key that has more than 4,096 bytes also without them, as no key of a lookup has, gets a length that no card has.
-pub fn seal(card: &mut [u8], wrote: Wrote) -> Card
+pub fn seal(card: &mut [u8], wrote: Option<usize>) -> Card
     requires card_len { length card.old ≡ 4098 }
     requires key_behind { KeyBehind card.old wrote }
     ensures { Sealed card.old wrote card.new result }
 {
     match wrote {
-        Wrote::Count(n) => {
-            let end = 2 + n;
-            let kept = trimmed_length(&card[2..end]);
+        Some(n) => {
+            let kept = trimmed_length(&card[2..2 + n]);
             let len = 2 + kept;
             let print = fingerprint(&card[2..len]);
             put_two(card, 0, kept);
@@ -61,7 +57,7 @@ pub fn seal(card: &mut [u8], wrote: Wrote) -> Card
                 print: (print / 256) as u8,
             }
         }
-        Wrote::Full => {
+        None => {
             put_two(card, 0, 65535);
             Card { len: 2, print: 0 }
         }

@@ -9,18 +9,7 @@ use inputs::read_full;
 use std::io;
 
 fn main(rt: HostRuntime) -> io::Result<()> {
-    let mut script = [0u8; 65536];
-    let n = read_full(&mut rt.stdin(), &mut script)?;
-    let mut table = [0u8; 4096];
-    let mut sheet = [0u8; 65536];
-    let mut source = [0u8; 65536];
-    let mut out = [0u8; 65536];
-    run::run(
-        &rt,
-        &script[..n],
-        &mut table,
-        &mut sheet,
-        &mut source,
-        &mut out,
-    )
+    let mut buffer = [0u8; 65536];
+    let script = read_full(&mut rt.stdin(), &mut buffer)?;
+    run::run(&rt, script)
 }

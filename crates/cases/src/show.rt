@@ -1,9 +1,8 @@
 // A case's line: its name, then the text in quotes, `result` and the length of a longer text, or `refused`, number and node; or a put's counts; or
 // `no clash`, or `clash` with number, node and the two ends (of a union its children), and then the text as above.
-use answers::results::without_tally;
-use answers::{Answer, ClashAnswer, PutAnswer};
-use script::fill;
+use answers::{Answer, Tally};
 use std::io;
+use table::Refusal;
 
 // Above this, a text's length stands for it.
 const LONGEST_SHOWN: usize = 200;
@@ -29,21 +28,35 @@ fn result(rt: &impl Print, length: usize) -> io::Result<()> {
     println!(rt; "result {length}")
 }
 
-fn refused(rt: &impl Print, number: usize, node: usize) -> io::Result<()> {
-    println!(rt; "refused {number} {node}")
+fn refused(rt: &impl Print, refusal: Refusal) -> io::Result<()> {
+    println!(rt; "refused {} {}", refusal.number, refusal.node)
 }
 
-// What a call answered, whose result is at the start of its buffer.
-fn answer(rt: &impl Print, answer: Answer, out: &[u8]) -> io::Result<()> {
+// What a call answers, whose result is at the start of the buffer that it is lent.
+pub fn answer<F: FnOnce(&mut [u8]) -> Answer>(
+    rt: &impl Print,
+    name: &[u8],
+    out: &mut [u8],
+    call: F,
+) -> io::Result<()>
+    requires { F.IsAlwaysCallable call }
+{
+    begin(rt, name)?;
+    out.fill(MARK);
+    let answer = call(out);
+    answered(rt, answer, out)
+}
+
+fn answered(rt: &impl Print, answer: Answer, out: &[u8]) -> io::Result<()> {
     match answer {
-        Answer::Result { length } => {
+        Ok(length) => {
             if length <= LONGEST_SHOWN && length <= out.len() {
-                quoted(rt, &out[0..length])
+                quoted(rt, &out[..length])
             } else {
                 result(rt, length)
             }
         }
-        Answer::Refusal { number, node } => refused(rt, number, node),
+        Err(refusal) => refused(rt, refusal),
     }
 }
 
@@ -55,10 +68,9 @@ pub fn text(rt: &impl Print, name: &[u8], text: &[u8]) -> io::Result<()> {
 
 pub fn check(rt: &impl Print, name: &[u8], table: &[u8]) -> io::Result<()> {
     begin(rt, name)?;
-    let checked = engine::check(table);
-    match checked {
-        Answer::Result { length } => result(rt, length),
-        Answer::Refusal { number, node } => refused(rt, number, node),
+    match engine::check(table) {
+        Ok(length) => result(rt, length),
+        Err(refusal) => refused(rt, refusal),
     }
 }
 
@@ -68,33 +80,6 @@ pub fn line(rt: &impl Print, name: &[u8], table: &[u8]) -> io::Result<()> {
     let mut line = [0u8; 64];
     let length = engine::lenscheck_line(table, &mut line);
     rt.write_all(&line[0..length])
-}
-
-pub fn get(
-    rt: &impl Print,
-    name: &[u8],
-    table: &[u8],
-    source: &[u8],
-    out: &mut [u8],
-) -> io::Result<()> {
-    begin(rt, name)?;
-    fill(out, MARK);
-    let got = engine::get::get(table, source, out);
-    answer(rt, got, out)
-}
-
-pub fn put(
-    rt: &impl Print,
-    name: &[u8],
-    table: &[u8],
-    sheet: &[u8],
-    source: &[u8],
-    out: &mut [u8],
-) -> io::Result<()> {
-    begin(rt, name)?;
-    fill(out, MARK);
-    let made = without_tally(engine::put::put(table, sheet, source, out));
-    answer(rt, made, out)
 }
 
 // The counts of a put.
@@ -107,55 +92,32 @@ pub fn counts(
     out: &mut [u8],
 ) -> io::Result<()> {
     begin(rt, name)?;
-    fill(out, MARK);
-    let counted = engine::put::put(table, sheet, source, out);
-    match counted {
-        PutAnswer::Result {
-            length: _,
-            kept,
-            made,
-            dropped,
-        } => tally(rt, kept, made, dropped),
-        PutAnswer::Refusal { number, node } => refused(rt, number, node),
+    out.fill(MARK);
+    match engine::put::put(table, sheet, source, out) {
+        Ok(made) => show_tally(rt, made.tally),
+        Err(refusal) => refused(rt, refusal),
     }
 }
 
-fn tally(rt: &impl Print, kept: usize, made: usize, dropped: usize) -> io::Result<()> {
-    println!(rt; "kept {kept} made {made} dropped {dropped}")
-}
-
-pub fn create(
-    rt: &impl Print,
-    name: &[u8],
-    table: &[u8],
-    sheet: &[u8],
-    out: &mut [u8],
-) -> io::Result<()> {
-    begin(rt, name)?;
-    fill(out, MARK);
-    let made = engine::create::create(table, sheet, out);
-    answer(rt, made, out)
+fn show_tally(rt: &impl Print, tally: Tally) -> io::Result<()> {
+    println!(rt;
+        "kept {} made {} dropped {}",
+        tally.kept, tally.made, tally.dropped
+    )
 }
 
 pub fn clash(rt: &impl Print, name: &[u8], table: &[u8], out: &mut [u8]) -> io::Result<()> {
     begin(rt, name)?;
-    fill(out, MARK);
-    let found = engine::show::clash(table, out);
-    match found {
-        ClashAnswer::Accepted => println!(rt; "no clash"),
-        ClashAnswer::Clash {
-            number,
-            node,
-            length,
-            first,
-            second,
-        } => {
+    out.fill(MARK);
+    match engine::show::clash(table, out) {
+        Ok(None) => println!(rt; "no clash"),
+        Ok(Some(found)) => {
             rt.write_all(b"clash ")?;
-            spaced(rt, number, node)?;
-            spaced(rt, first, second)?;
-            answer(rt, Answer::Result { length }, out)
+            spaced(rt, found.number, found.node)?;
+            spaced(rt, found.first, found.second)?;
+            answered(rt, Ok(found.length), out)
         }
-        ClashAnswer::Refusal { number, node } => refused(rt, number, node),
+        Err(refusal) => refused(rt, refusal),
     }
 }
 

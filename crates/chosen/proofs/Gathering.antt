@@ -21,9 +21,10 @@ use Rattle.laws.specs.Cuts.{parts_is}
 use Rattle.laws.specs.Accepted.{accepted}
 use Rattle.laws.specs.Shuffle.{selected, PartNumbers}
 use Rattle.laws.specs.Demand3.{OneRepeatedEntry, passing, source_parts}
-use Rattle.answers.specs.declared.Answer.{Answer}
-use Rattle.answers.specs.declared.Answer.TheVariants.{Result, Refusal}
-use Rattle.answers.specs.Outcomes.{answer_for, GivesText, GivesSource}
+use Rattle.std.specs.Prelude.{Ok, Err}
+use Rattle.std.specs.Result.{result_unwrap_or}
+use Rattle.table.specs.declared.Refusal.{Refusal}
+use Rattle.answers.specs.Outcomes.{Answer, answer_for, GivesText, GivesSource}
 use Rattle.engine.specs.Demand3.{reordered_call}
 use Rattle.demands.specs.declared.Chosen.{Chosen}
 use Rattle.demands.specs.Demands.{blank, PutMade, SetsInOrder}
@@ -84,30 +85,39 @@ module _ {bytes t before after : Text} {number start end : ℕ} {answer : Answer
       (begins : StartsPart bytes t number start)
       (stops : EndsPart bytes t start end)
       (given : GivesText (get_call bytes (take (end - start) (drop start t)) (length before)) before after answer)
+      (kept : length after ≡ length before)
     where
-      pub sheet_result : {m : ℕ} → length after ≡ length before → answer ≡ Result m → SheetOfPart bytes t number before after m
+      sheet_result : {m : ℕ} → answer ≡ Ok m → SheetOfPart bytes t number before after m
       unfolding answer_for buffer_after
-      sheet_result {m} kept e =
+      sheet_result {m} e =
           record {
-            within = omega (arith, (gives_held given).within m e);
+            within = omega (arith, (gives_held given).within m e, kept);
             sheet_is =
                 λ n l ps parted low high room short.
                 let gave = part_given begins stops given n l ps parted low high room short in
-                let lengths : Result m ≡ Result (length (get l (get_or ps (number - 1) []))) = sym e ∙ gave.answer_is in
+                let lengths : ◌≡◌ {A = Answer} (Ok m) (Ok (length (get l (get_or ps (number - 1) [])))) = sym e ∙ gave.answer_is in
                 (cc, gave.buffer_is);
           }
 
-      pub sheet_refusal : {number' node : ℕ} → answer ≡ Refusal number' node → SheetOfPart bytes t number before after 0
+      sheet_refusal : {r : Refusal} → answer ≡ Err r → SheetOfPart bytes t number before after 0
       unfolding answer_for
-      sheet_refusal {number'} {node} e =
+      sheet_refusal {r} e =
           record {
             within = omega arith;
             sheet_is =
                 λ n l ps parted low high room short.
                 let gave = part_given begins stops given n l ps parted low high room short in
-                let wrong : Refusal number' node ≡ Result (length (get l (get_or ps (number - 1) []))) = sym e ∙ gave.answer_is in
+                let wrong : ◌≡◌ {A = Answer} (Err r) (Ok (length (get l (get_or ps (number - 1) [])))) = sym e ∙ gave.answer_is in
                 never (cc);
           }
+
+      -- where get refuses, nothing is written
+      pub sheet_given : SheetOfPart bytes t number before after (result_unwrap_or answer 0)
+      sheet_given = go answer refl
+        where
+          go : (a : Answer) → answer ≡ a → SheetOfPart bytes t number before after (result_unwrap_or a 0)
+          go (Ok m) e = sheet_result e
+          go (Err r) e = sheet_refusal e
 
 -- ---- All chosen parts
 
@@ -204,19 +214,16 @@ pub put_made :
     {bytes t : Text} {start : Text} {r : Chosen}
     → start ≡ blank
     → GivesSource
-    (put_call bytes (take (r.length - 0) r.sheet) t (length start))
-    (put_tally bytes (take (r.length - 0) r.sheet) t)
+    (put_call bytes (take r.length r.sheet) t (length start))
+    (put_tally bytes (take r.length r.sheet) t)
     start
     r.given
     r.answer
     → PutMade bytes t r
 put_made {bytes} {t} {start} {r} is-blank given =
     let long : length start ≡ 4096 = ap length is-blank ∙ blank_length in
-    let whole : r.length - 0 ≡ r.length = omega arith in
-    let given' =
-    subst (λ k. GivesSource (put_call bytes (take k r.sheet) t (length start)) (put_tally bytes (take k r.sheet) t) start r.given r.answer) whole given in
     let sheet = take r.length r.sheet in
-    let given'' = subst (λ m. GivesSource (put_call bytes sheet t m) (put_tally bytes sheet t) start r.given r.answer) long given' in
+    let given'' = subst (λ m. GivesSource (put_call bytes sheet t m) (put_tally bytes sheet t) start r.given r.answer) long given in
     record { put_made = subst (λ b. GivesSource (put_call bytes sheet t 4096) (put_tally bytes sheet t) b r.given r.answer) is-blank given'' }
 
 pub sets_chosen :

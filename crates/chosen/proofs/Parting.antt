@@ -19,9 +19,10 @@ use Rattle.laws.specs.Cuts.{parts_is}
 use Rattle.laws.specs.WellTyped.{WellTyped}
 use Rattle.laws.specs.Accepted.{accepted}
 use Rattle.laws.specs.Demand3.{passing, with_program_lem, short}
-use Rattle.answers.specs.declared.Answer.{Answer}
-use Rattle.answers.specs.declared.Answer.TheVariants.{Result, Refusal}
-use Rattle.answers.specs.Outcomes.{answer_for, GivesText}
+use Rattle.std.specs.Prelude.{Ok, Err}
+use Rattle.table.specs.declared.Refusal.{Refusal}
+use Rattle.answers.specs.Outcomes.{Answer, answer_for, GivesText}
+use Rattle.answers.proofs.Parts.{refusal_parts}
 use Rattle.chosen.specs.Parting.{Parted, start_of, TellsSource, TellsCut, EndsPart, StartsPart}
 
 -- ---- Lists of parts
@@ -111,26 +112,26 @@ asked bytes t lent l p h =
     ∙ passing (too_long t) 12 (refuse_if (not_of source l t) 13 (output lent (get l t))) (short t h)
 
 -- a result says that it is one
-told_result : (b : Bool) (lent : ℕ) (u : Text) (n : ℕ) → Result n ≡ answer_for length (refuse_if (not b) 13 (output lent u)) → true ≡ b
+told_result : (b : Bool) (lent : ℕ) (u : Text) (n : ℕ) → Ok n ≡ answer_for length (refuse_if (not b) 13 (output lent u)) → true ≡ b
 unfolding refuse_if answer_for
 told_result true lent u n e = refl
 told_result false lent u n e = never (cc)
 
 -- a refusal says that it is none if its number is 13
 told_refusal :
-    (b : Bool) (lent : ℕ) (u : Text) (number node : ℕ)
-    → Refusal number node ≡ answer_for length (refuse_if (not b) 13 (output lent u))
-    → not (eqb number 13) ≡ b
+    (b : Bool) (lent : ℕ) (u : Text) (r : Refusal)
+    → Err r ≡ answer_for length (refuse_if (not b) 13 (output lent u))
+    → not (eqb r.number 13) ≡ b
 unfolding refuse_if answer_for output
-told_refusal false lent u number node e = let is : number ≡ 13 = cc in rw is
-told_refusal true lent u number node e = go (ltb (min lent 4096) (length u)) e
+told_refusal false lent u r e = rw (refusal_parts e).0
+told_refusal true lent u r e = go (ltb (min lent 4096) (length u)) e
   where
-    go : (long : Bool) → Refusal number node ≡ answer_for length (refuse_if long 16 (gives u)) → not (eqb number 13) ≡ true
-    go true h = let is : number ≡ 16 = cc in rw is
+    go : (long : Bool) → Err r ≡ answer_for length (refuse_if long 16 (gives u)) → not (eqb r.number 13) ≡ true
+    go true h = rw (refusal_parts h).0
     go false h = never (cc)
 
 module _ {bytes t before after : Text} {answer : Answer} (given : GivesText (get_call bytes t (length before)) before after answer) where
-  pub tells_result : {n : ℕ} → answer ≡ Result n → TellsSource bytes t true
+  pub tells_result : {n : ℕ} → answer ≡ Ok n → TellsSource bytes t true
   tells_result {n} e =
       record {
         tells_source =
@@ -138,12 +139,12 @@ module _ {bytes t before after : Text} {answer : Answer} (given : GivesText (get
             told_result _ (length before) (get l t) n (sym e ∙ given.answer_is ∙ ap (answer_for length) (asked bytes t (length before) l p h));
       }
 
-  pub tells_refusal : {number node : ℕ} → answer ≡ Refusal number node → TellsSource bytes t (not (eqb number 13))
-  tells_refusal {number} {node} e =
+  pub tells_refusal : {r : Refusal} → answer ≡ Err r → TellsSource bytes t (not (eqb r.number 13))
+  tells_refusal {r} e =
       record {
         tells_source =
             λ l p h.
-            told_refusal _ (length before) (get l t) number node (sym e ∙ given.answer_is ∙ ap (answer_for length) (asked bytes t (length before) l p h));
+            told_refusal _ (length before) (get l t) r (sym e ∙ given.answer_is ∙ ap (answer_for length) (asked bytes t (length before) l p h));
       }
 
 -- ---- Is it a cut
@@ -262,65 +263,52 @@ module _
 
 -- ---- The end of a part: the search passes the places before it
 
-pub record NotYet (bytes t : Text) (start end : ℕ) : Type 0 where
-  pub from_start : start ≤ end
-  pub within : end ≤ length t
-  pub not_yet : (n : ℕ) (l : Lens) (ps : List Text) (k : ℕ) → Parted bytes t n l ps → k < length ps → start ≡ start_of ps k → end < start_of ps (suc k)
+-- a part that begins at start ends there or behind it
+abbrev pub NotYet : Text → Text → ℕ → ℕ → Type 0
+NotYet bytes t start end =
+    (n : ℕ) (l : Lens) (ps : List Text) (k : ℕ) → Parted bytes t n l ps → k < length ps → start ≡ start_of ps k → end ≤ start_of ps (suc k)
 
 module _ {bytes t : Text} {start : ℕ} where
-  pub end_begins : start ≤ length t → NotYet bytes t start start
-  end_begins h =
-      record {
-        from_start = omega arith;
-        within = h;
-        not_yet =
-            λ n l ps k parted i at.
-            let p = part_at parted i at in
-            let some = not_empty (language source l) (repeated parted) (get_or ps k []) p.part_in in
-            omega (arith, p.end_is);
-      }
+  pub end_begins : NotYet bytes t start (start + 1)
+  end_begins n l ps k parted i at =
+      let p = part_at parted i at in
+      let some = not_empty (language source l) (repeated parted) (get_or ps k []) p.part_in in
+      omega (arith, p.end_is)
 
   module _ {end : ℕ} (passed : NotYet bytes t start end) where
-    -- no cut one further
-    pub end_later : {answer : Bool} → end < length t → answer ≡ false → TellsCut bytes t start (end + 1) answer → NotYet bytes t start (end + 1)
-    end_later {answer} h is_not_lem told =
-        record {
-          from_start = omega (arith, passed.from_start);
-          within = omega arith;
-          not_yet =
-              λ n l ps k parted i at.
-              let p = part_at parted i at in
-              let before = passed.not_yet n l ps k parted i at in
-              let other : end + 1 ≡ start_of ps (suc k) → ⊥ =
-              λ e. not_both (told.tells_cut (repeat (match n l)) parted.is_program parted.short ∙ rw e (cut_at_end parted i at)) is_not_lem in
-              omega arith;
-        }
+    -- no cut there
+    pub end_later : {answer : Bool} → answer ≡ false → TellsCut bytes t start end answer → NotYet bytes t start (end + 1)
+    end_later {answer} is_not_lem told n l ps k parted i at =
+        let before = passed n l ps k parted i at in
+        let other : end ≡ start_of ps (suc k) → ⊥ =
+        λ e. not_both (told.tells_cut (repeat (match n l)) parted.is_program parted.short ∙ rw e (cut_at_end parted i at)) is_not_lem in
+        omega arith
 
-    -- a cut one further
-    pub end_found : {answer : Bool} → end < length t → answer ≡ true → TellsCut bytes t start (end + 1) answer → EndsPart bytes t start (end + 1)
-    end_found {answer} h is-so told =
+    -- a cut there
+    pub end_found : {answer : Bool} → start < end → end < length t → answer ≡ true → TellsCut bytes t start end answer → EndsPart bytes t start end
+    end_found {answer} past h is-so told =
         record {
-          from_start = omega (arith, passed.from_start);
+          from_start = omega arith;
           within = omega arith;
           ends =
               λ n l ps k parted i at.
-              let before = passed.not_yet n l ps k parted i at in
+              let before = passed n l ps k parted i at in
               let cut = sym (told.tells_cut (repeat (match n l)) parted.is_program parted.short) ∙ is-so in
-              let least = no_cut_before parted i at (end + 1) (omega (arith, passed.from_start)) (omega arith) cut in
+              let least = no_cut_before parted i at end past (omega arith) cut in
               omega arith;
         }
 
-    -- there is always one
-    pub end_last : length t ≤ end → EndsPart bytes t start end
-    end_last h =
+    -- where none was found, it ends with the text
+    pub end_last : start ≤ length t → length t ≤ end → EndsPart bytes t start (length t)
+    end_last inside h =
         record {
-          from_start = passed.from_start;
-          within = passed.within;
+          from_start = inside;
+          within = omega arith;
           ends =
               λ n l ps k parted i at.
               let p = part_at parted i at in
-              let before = passed.not_yet n l ps k parted i at in
-              absurd (omega (arith, p.end_within));
+              let before = passed n l ps k parted i at in
+              omega (arith, p.end_within);
         }
 
 -- ---- The start of a part: one end after the other

@@ -6,8 +6,8 @@ ghost use Rattle.std.specs.Prelude.{◌≤◌, length};
 ghost use Rattle.demands.specs.Demands.{PutMade, SetsInOrder};
 ghost use Rattle.chosen.specs.Parting.{TellsSource, TellsCut, EndsPart, StartsPart, SheetOfPart, SheetOfParts};
 
-use answers::Answer;
-use demands::{Chosen, blank_buffer};
+use arrays::filled;
+use demands::Chosen;
 use engine::get::get;
 use engine::put::put;
 
@@ -16,10 +16,10 @@ pub fn put_chosen(bytes: &[u8], source: &[u8], choice: &[usize]) -> Chosen
     ensures made { PutMade bytes.now source.now result }
     ensures demand { SetsInOrder bytes.now source.now choice.now result }
 {
-    let mut sheet = blank_buffer();
-    let mut given = blank_buffer();
+    let mut sheet: [u8; 4096] = filled(0);
+    let mut given: [u8; 4096] = filled(0);
     let length = sheet_of_parts(bytes, source, choice, &mut sheet);
-    let answer = put(bytes, &sheet[0..length], source, &mut given);
+    let answer = put(bytes, &sheet[..length], source, &mut given);
     Chosen {
         sheet,
         length,
@@ -33,10 +33,8 @@ fn sheet_of_parts(bytes: &[u8], source: &[u8], choice: &[usize], out: &mut [u8])
     ensures { SheetOfParts bytes.now source.now choice.now out.new result }
 {
     let mut n = 0;
-    let mut i = 0;
-    while i < choice.len() {
-        n += sheet_of_part(bytes, source, choice[i], &mut out[n..]);
-        i += 1;
+    for number in choice {
+        n += sheet_of_part(bytes, source, *number, &mut out[n..]);
     }
     n
 }
@@ -47,11 +45,7 @@ fn sheet_of_part(bytes: &[u8], source: &[u8], number: usize, out: &mut [u8]) -> 
 {
     let start = part_start(bytes, source, number);
     let end = part_end(bytes, source, start);
-    let answer = get(bytes, &source[start..end], out);
-    match answer {
-        Answer::Result { length } => length,
-        Answer::Refusal { number: _, node: _ } => 0,
-    }
+    get(bytes, &source[start..end], out).unwrap_or(0)
 }
 
 // Where a part begins; the first has number 1.
@@ -59,10 +53,8 @@ fn part_start(bytes: &[u8], source: &[u8], number: usize) -> usize
     ensures { StartsPart bytes.now source.now number result }
 {
     let mut start = 0;
-    let mut k = 1;
-    while k < number {
+    for _part in 1..number {
         start = part_end(bytes, source, start);
-        k += 1;
     }
     start
 }
@@ -72,14 +64,12 @@ fn part_end(bytes: &[u8], source: &[u8], start: usize) -> usize
     requires { start ≤ length source.now }
     ensures { EndsPart bytes.now source.now start result }
 {
-    let mut end = start;
-    while end < source.len() {
-        end += 1;
+    for end in start + 1..source.len() {
         if is_cut(bytes, source, start, end) {
             return end;
         }
     }
-    end
+    source.len()
 }
 
 // Whether the text between the two places and the text behind them are sources.
@@ -88,20 +78,16 @@ fn is_cut(bytes: &[u8], source: &[u8], start: usize, end: usize) -> bool
     requires within { end ≤ length source.now }
     ensures { TellsCut bytes.now source.now start end result }
 {
-    if is_source(bytes, &source[start..end]) {
-        return is_source(bytes, &source[end..]);
-    }
-    false
+    is_source(bytes, &source[start..end]) && is_source(bytes, &source[end..])
 }
 
 // Get refuses what is no source with 13.
 fn is_source(bytes: &[u8], text: &[u8]) -> bool
     ensures { TellsSource bytes.now text.now result }
 {
-    let mut sheet = blank_buffer();
-    let answer = get(bytes, text, &mut sheet);
-    match answer {
-        Answer::Result { length: _ } => true,
-        Answer::Refusal { number, node: _ } => number != 13,
+    let mut sheet: [u8; 4096] = filled(0);
+    match get(bytes, text, &mut sheet) {
+        Ok(_) => true,
+        Err(refusal) => refusal.number != 13,
     }
 }

@@ -2,5 +2,6 @@
 pub mod Showing
 pub mod Rules
 pub mod Empty
+pub mod Others
 pub mod Lenses
 pub mod Answering

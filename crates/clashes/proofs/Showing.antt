@@ -3,8 +3,7 @@ use mathlib.Core.Path.{◌≡◌, refl, sym, ap, ◌∙◌, subst}
 use mathlib.Core.Bool.{Bool, true, false, ◌&&◌}
 use mathlib.Core.List.{List, [], ◌++◌}
 use mathlib.Core.Logic.{◌⊎◌, inl, inr}
-use Prim.Native.Nat.{ℕ, ◌*◌, ◌≤◌, ◌<◌}
-use native.Mathlib.Nat.{mul-le-mul_right}
+use Prim.Native.Nat.{ℕ, ◌≤◌, ◌<◌}
 use native.Mathlib.Omega.{arith}
 use lib.ListN.{length, take, drop}
 use lib.Seq.{take-append_seam}
@@ -32,8 +31,9 @@ use Rattle.clash.proofs.Given.{given_is, clash_given}
 use Rattle.automaton.specs.declared.Automaton.{Automaton}
 use Rattle.automaton.specs.Rows.{Room, Describes}
 use Rattle.search.specs.declared.patches.Quest.{Quest}
-use Rattle.quests.specs.Quests.{cut_quest, arm_quest, QuestOf, Asks, Answerable, Hunted}
-use Rattle.quests.proofs.Readings.{cut_asks, cut_quest_of, arm_asks, arm_quest_of}
+use Rattle.search.specs.Pairs.{QuestFits}
+use Rattle.quests.specs.Quests.{cut_quest, arm_quest, Rooms, Asks, Answerable, Hunted}
+use Rattle.quests.proofs.Readings.{cut_asks, cut_fits, arm_asks, arm_fits}
 use Rattle.clashes.specs.declared.shown_texts.Shown.{Shown}
 use Rattle.clashes.specs.Shows.{ShowsText, Shows, CutRule, CutAsked, ArmRule, ArmAsked}
 
@@ -91,20 +91,25 @@ shows_empty rule before e =
 
 module _ {prepared : List ℕ} {part whole rest : Automaton} (part_room : Room part prepared) (whole_room : Room whole prepared) (rest-room : Room rest prepared) where
   -- the quest finds the texts that break the rule
-  cut_rule_asks : (rule : Rule) → CutRule prepared part whole rest rule → Asks prepared part whole rest (cut_quest part whole rest) (breaks rule)
+  cut_rule_asks : (rule : Rule) → CutRule prepared part whole rest rule → Asks prepared (cut_quest part whole rest) (breaks rule)
   cut_rule_asks rule cut =
       let same : cut_twice cut.r cut.s ≡ breaks rule = λ j t. sym (cut.test_is t) j in
-      subst (Asks prepared part whole rest (cut_quest part whole rest)) same
+      subst (Asks prepared (cut_quest part whole rest)) same
       (cut_asks prepared part whole rest cut.r cut.s cut.w cut.is_whole cut.part_is cut.whole_is cut.rest_is
       part_room.few whole_room.few rest-room.few)
+
+  -- its automata have their rows,
+  pub cut_rooms : {q : Quest} → q ≡ cut_quest part whole rest → Rooms prepared q
+  unfolding cut_quest
+  cut_rooms same = rw same (record { part_room = part_room; whole_room = whole_room; rest_room = rest-room })
 
   -- and there is one
   pub cut_answerable :
       {q : Quest} → q ≡ cut_quest part whole rest → CutAsked prepared part whole rest
-      → QuestOf part whole rest q × Answerable prepared part whole rest q
+      → QuestFits q × Answerable prepared q
   cut_answerable same asked =
       rw same (
-        cut_quest_of part whole rest,
+        cut_fits part whole rest part_room.few,
         record {
           test = breaks asked.rule;
           asks = cut_rule_asks asked.rule asked.is_rule;
@@ -115,7 +120,7 @@ module _ {prepared : List ℕ} {part whole rest : Automaton} (part_room : Room p
 
   module _
       {q : Quest} {before after : Text} {size : ℕ} (same : q ≡ cut_quest part whole rest)
-      (found : (test : Text → Bool) → Asks prepared part whole rest q test → Hunted test before after size)
+      (found : (test : Text → Bool) → Asks prepared q test → Hunted test before after size)
     where
       -- the text that is found breaks the rule, and is the lowest shortest of these
       cut_hunted : (rule : Rule) → CutRule prepared part whole rest rule → Hunted (breaks rule) before after size
@@ -173,16 +178,21 @@ module _ {prepared : List ℕ} {left right : Automaton} where
       {q : Quest} (same : q ≡ arm_quest left right) (one-not : (left.nullable ≡ false) ⊎ (right.nullable ≡ false))
     where
       -- else the quest finds the texts of both,
-      arm_rule_asks : (r s : Pattern) → ArmRule prepared left right r s → Asks prepared left left right q (breaks (one_arm r s))
+      arm_rule_asks : (r s : Pattern) → ArmRule prepared left right r s → Asks prepared q (breaks (one_arm r s))
       arm_rule_asks r s arm =
           let not_empty : (nullable r && nullable s) ≡ false =
           one_false (nullable r) (nullable s) (rw (← arm.left_is.nullable_is, ← arm.right_is.nullable_is) one-not) in
           rw same (arm_asks prepared left right r s arm.left_is arm.right_is left-room.few right-room.few not_empty)
 
+      -- its automata have their rows,
+      pub arm_rooms : Rooms prepared q
+      unfolding arm_quest
+      arm_rooms = rw same (record { part_room = left-room; whole_room = left-room; rest_room = right-room })
+
       -- there is one,
-      pub arm_answerable : ArmAsked prepared left right → QuestOf left left right q × Answerable prepared left left right q
+      pub arm_answerable : ArmAsked prepared left right → QuestFits q × Answerable prepared q
       arm_answerable asked = (
-        rw same (arm_quest_of left right),
+        rw same (arm_fits left right left-room.few),
         record {
           test = breaks (one_arm asked.r asked.s);
           asks = arm_rule_asks asked.r asked.s asked.is_rule;
@@ -194,12 +204,6 @@ module _ {prepared : List ℕ} {left right : Automaton} where
       -- and what is found is the rule's text.
       pub shows_both :
           {before after : Text} {size : ℕ}
-          → ((test : Text → Bool) → Asks prepared left left right q test → Hunted test before after size)
+          → ((test : Text → Bool) → Asks prepared q test → Hunted test before after size)
           → (r s : Pattern) → ArmRule prepared left right r s → ShowsText (one_arm r s) before after size
       shows_both found r s arm = shows_text (one_arm r s) arm.few (found (breaks (one_arm r s)) (arm_rule_asks r s arm))
-
--- ---- Room
-
--- two automata have at most 16,384 pairs of positions
-pub pairs_most : {a b : Automaton} {prepared : List ℕ} → Room a prepared → Room b prepared → a.count * b.count ≤ 16384
-pairs_most {a} {b} room room' = omega (arith, mul-le-mul_right b.count room.few, room'.few)

@@ -11,12 +11,12 @@ ghost use Rattle.answers.specs.Answers.{IsRefused};
 ghost use Rattle.answers.specs.Outcomes.{GivesClash};
 ghost use Rattle.clashes.specs.Shows.{Shows, BrokenAt};
 
-use answers::ClashAnswer;
+use answers::{Clash, ClashAnswer};
 use automaton::Side;
 use nodes::{show_join, show_repeat, show_union};
-use shown_texts::{Shown, nothing};
+use shown_texts::Shown;
 use table::parts::operand;
-use table::{Kind, Table};
+use table::{Kind, Refusal, Table};
 
 mod nodes;
 mod rooms;
@@ -26,10 +26,10 @@ mod shown_texts;
 fn side_of(number: usize) -> Side
     ensures { side_of result ≡ S.side_of number }
 {
-    if number == 8 || number == 11 {
-        return Side::Sheet;
+    match number {
+        8 | 11 => Side::Sheet,
+        _ => Side::Source,
     }
-    Side::Source
 }
 
 // The text that shows how a node breaks its rule on that side: its length, and its two ends, or the two children of a union.
@@ -38,21 +38,7 @@ fn show(bytes: &[u8], prepared: &[u64], node: usize, side: Side, out: &mut [u8])
     requires broken_at { BrokenAt bytes.now node (side_of side) }
     ensures { Shows (rule_at (side_of side) (tree_at (trees bytes.now) node)) (node_at bytes.now node) out.old out.new result }
 {
-    let read = Table::node(bytes, prepared, node);
-    let kind = read.kind;
-    match kind {
-        Kind::Word { start: _, len: _ } => nothing(),
-        Kind::OneOf { at: _, runs: _ } => nothing(),
-        Kind::PatternJoin { left: _, right: _ } => nothing(),
-        Kind::PatternUnion { left: _, right: _ } => nothing(),
-        Kind::PatternRepeat { child: _ } => nothing(),
-        Kind::Copy { pattern: _ } => nothing(),
-        Kind::Const {
-            pattern: _,
-            sheet: _,
-            default: _,
-        } => nothing(),
-        Kind::Key { pattern: _ } => nothing(),
+    match Table::node(bytes, prepared, node).kind {
         Kind::LensJoin { left, right } => show_join(prepared, left, right, node, side, out),
         Kind::LensUnion { left, right } => Shown {
             length: show_union(prepared, left, right, side, out),
@@ -60,7 +46,7 @@ fn show(bytes: &[u8], prepared: &[u64], node: usize, side: Side, out: &mut [u8])
             second: operand(bytes, node, 1) as usize,
         },
         Kind::LensRepeat { child } => show_repeat(prepared, child, node, side, out),
-        Kind::Match { child: _ } => nothing(),
+        _ => Shown::empty(),
     }
 }
 
@@ -68,29 +54,28 @@ fn show(bytes: &[u8], prepared: &[u64], node: usize, side: Side, out: &mut [u8])
 pub fn clash_refused(
     bytes: &[u8],
     prepared: &[u64],
-    number: usize,
-    node: usize,
+    refusal: Refusal,
     out: &mut [u8],
 ) -> ClashAnswer
-    requires { IsRefused bytes.now prepared.now number node }
+    requires { IsRefused bytes.now prepared.now refusal.number refusal.node }
     ensures { GivesClash (clash_call bytes.now (length out.old)) out.old out.new result }
 {
-    if number < 7 {
-        return ClashAnswer::Refusal { number, node };
+    if refusal.number < 7 {
+        return Err(refusal);
     }
+    let Refusal { number, node } = refusal;
     let shown = show(bytes, prepared, node, side_of(number), out);
-    let length = shown.length;
-    if out.len() < length {
-        return ClashAnswer::Refusal {
+    if out.len() < shown.length {
+        return Err(Refusal {
             number: 17,
             node: 0,
-        };
+        });
     }
-    ClashAnswer::Clash {
+    Ok(Some(Clash {
         number,
         node,
-        length,
+        length: shown.length,
         first: shown.first,
         second: shown.second,
-    }
+    }))
 }

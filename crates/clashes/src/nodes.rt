@@ -6,7 +6,7 @@ ghost use Rattle.automaton.specs.Rows.{automaton_at};
 ghost use Rattle.typing.specs.Round.{Stands};
 ghost use Rattle.clashes.specs.Shows.{ShowsText, Shows, CutRule, CutAsked, ArmRule, ArmAsked, ListRule, ListAsked};
 
-use crate::shown_texts::{Shown, nothing, show_cut, show_overlap};
+use crate::shown_texts::{Shown, show_cut, show_overlap};
 use automaton::{Side, automaton_of};
 
 // A text of a join with two cuts.
@@ -36,7 +36,7 @@ pub fn show_repeat(prepared: &[u64], child: usize, node: usize, side: Side, out:
 {
     let part = automaton_of(prepared, child, side);
     if part.nullable {
-        return nothing();
+        return Shown::empty();
     }
     let whole = automaton_of(prepared, node, side);
     show_cut(prepared, part, whole, whole, out)

@@ -1,121 +1,48 @@
 // Room for the search, by the number of pairs of positions.
-ghost use Rattle.std.specs.Prelude.{◌≡◌, Bool, ◌+◌, ◌*◌, ◌≤◌, length};
+ghost use Rattle.std.specs.Prelude.{◌≡◌, Bool, ◌+◌, ◌*◌, ◌≤◌};
 ghost use Rattle.semantics.specs.Text.{Text};
-ghost use Rattle.automaton.specs.Rows as Rows;
-ghost use Rattle.quests.specs.Quests.{QuestOf, Asks, Answerable, Hunted};
+ghost use Rattle.search.specs.Pairs.{QuestFits};
+ghost use Rattle.quests.specs.Quests.{Rooms, Asks, Answerable, Hunted};
 
-use automaton::Automaton;
+use arrays::filled;
 use quests::hunt;
 use search::patches::Quest;
 
-// Room for 2,048 pairs, or for as many as there can be.
-#[derive(Clone, Copy)]
-pub enum Room {
-    Small,
-    Full,
-}
+// Room for few pairs, or for as many as there can be, and for the starts of their layers, of which there are two more.
+const FEW_PAIRS: usize = 2048;
 
-fn small_order() -> [u16; 2048]
-    ensures { 2048 ≡ length result }
-{
-    [0u16; 2048]
-}
+const FEW_STARTS: usize = 2050;
 
-fn small_starts() -> [u16; 2050]
-    ensures { 2050 ≡ length result }
-{
-    [0u16; 2050]
-}
+const ALL_PAIRS: usize = 32768;
 
-fn full_order() -> [u16; 32768]
-    ensures { 32768 ≡ length result }
-{
-    [0u16; 32768]
-}
+const ALL_STARTS: usize = 32770;
 
-fn full_starts() -> [u16; 32770]
-    ensures { 32770 ≡ length result }
-{
-    [0u16; 32770]
-}
-
+// The search in room for so many pairs. It is never made a part of its caller, so that the arrays of two rooms never lie on the stack together.
 #[inline(never)]
-fn find_small(
+fn find_in<const PAIRS: usize, const STARTS: usize>(
     prepared: &[u64],
-    quest: Quest,
-    part: Automaton,
-    whole: Automaton,
-    rest: Automaton,
+    quest: &Quest,
     out: &mut [u8],
 ) -> usize
-    requires room { (Rows.Room part prepared.now) × (Rows.Room whole prepared.now) × (Rows.Room rest prepared.now) }
-    requires quest_of { QuestOf part whole rest quest × Answerable prepared.now part whole rest quest }
-    requires count_bound { part.count * part.count + whole.count * rest.count ≤ 2048 }
-    ensures { (test : Text → Bool) → Asks prepared.now part whole rest quest test → Hunted test out.old out.new result }
+    requires rooms { Rooms prepared.now quest.now }
+    requires answerable { QuestFits quest.now × Answerable prepared.now quest.now }
+    requires count_bound { (quest.now.part.count * quest.now.part.count + quest.now.whole.count * quest.now.rest.count ≤ PAIRS) × (PAIRS ≤ 32768) × (PAIRS + 2 ≡ STARTS) }
+    ensures { (test : Text → Bool) → Asks prepared.now quest.now test → Hunted test out.old out.new result }
 {
-    let mut order = small_order();
-    let mut starts = small_starts();
-    hunt(
-        prepared,
-        quest,
-        part,
-        whole,
-        rest,
-        &mut order,
-        &mut starts,
-        out,
-    )
+    let mut order = filled::<u16, PAIRS>(0);
+    let mut starts = filled::<u16, STARTS>(0);
+    hunt(prepared, quest, &mut order, &mut starts, out)
 }
 
-#[inline(never)]
-fn find_full(
-    prepared: &[u64],
-    quest: Quest,
-    part: Automaton,
-    whole: Automaton,
-    rest: Automaton,
-    out: &mut [u8],
-) -> usize
-    requires room { (Rows.Room part prepared.now) × (Rows.Room whole prepared.now) × (Rows.Room rest prepared.now) }
-    requires quest_of { QuestOf part whole rest quest × Answerable prepared.now part whole rest quest }
-    ensures { (test : Text → Bool) → Asks prepared.now part whole rest quest test → Hunted test out.old out.new result }
+// The search in the room that its pairs need.
+pub fn find(prepared: &[u64], quest: &Quest, out: &mut [u8]) -> usize
+    requires rooms { Rooms prepared.now quest.now }
+    requires answerable { QuestFits quest.now × Answerable prepared.now quest.now }
+    ensures { (test : Text → Bool) → Asks prepared.now quest.now test → Hunted test out.old out.new result }
 {
-    let mut order = full_order();
-    let mut starts = full_starts();
-    hunt(
-        prepared,
-        quest,
-        part,
-        whole,
-        rest,
-        &mut order,
-        &mut starts,
-        out,
-    )
-}
-
-// The search in the room that its pairs need. It calls itself for the larger room, so that the arrays of the two never lie on the stack together.
-pub fn find(
-    room: Room,
-    prepared: &[u64],
-    quest: Quest,
-    part: Automaton,
-    whole: Automaton,
-    rest: Automaton,
-    out: &mut [u8],
-) -> usize
-    requires room { (Rows.Room part prepared.now) × (Rows.Room whole prepared.now) × (Rows.Room rest prepared.now) }
-    requires quest_of { QuestOf part whole rest quest × Answerable prepared.now part whole rest quest }
-    ensures { (test : Text → Bool) → Asks prepared.now part whole rest quest test → Hunted test out.old out.new result }
-{
-    match room {
-        Room::Small => {
-            let pairs = part.count * part.count + whole.count * rest.count;
-            if pairs <= 2048 {
-                return find_small(prepared, quest, part, whole, rest, out);
-            }
-            find(Room::Full, prepared, quest, part, whole, rest, out)
-        }
-        Room::Full => find_full(prepared, quest, part, whole, rest, out),
+    let pairs = quest.part.count * quest.part.count + quest.whole.count * quest.rest.count;
+    if pairs <= FEW_PAIRS {
+        return find_in::<FEW_PAIRS, FEW_STARTS>(prepared, quest, out);
     }
+    find_in::<ALL_PAIRS, ALL_STARTS>(prepared, quest, out)
 }

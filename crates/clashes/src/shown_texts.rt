@@ -3,11 +3,11 @@ ghost use Rattle.std.specs.Prelude.{◌≡◌, true, ◌≤◌, length};
 ghost use Rattle.semantics.specs.Pattern.{Pattern};
 ghost use Rattle.semantics.specs.Table.{Node};
 ghost use Rattle.clash.specs.Clash.{Rule, one_arm, cut_twice, first_end, second_end};
-ghost use Rattle.automaton.specs.Rows.{Describes};
-ghost use Rattle.automaton.specs.Rows as Rows;
+ghost use Rattle.automaton.specs.Rows.{Room, Describes};
 ghost use Rattle.clashes.specs.Shows.{ShowsText, Shows, CutRule, CutAsked, ArmRule, ArmAsked};
 
-use crate::rooms::{Room, find};
+use crate::rooms::find;
+use arrays::filled;
 use automaton::Automaton;
 use ends::ends_of;
 use quests::{arm_quest, cut_quest};
@@ -20,30 +20,28 @@ pub struct Shown {
     pub second: usize,
 }
 
-// The empty text, whose ends are 0.
-pub fn nothing() -> Shown
-    ensures { (result.length ≡ 0) × (result.first ≡ 0) × (result.second ≡ 0) }
-{
-    Shown {
-        length: 0,
-        first: 0,
-        second: 0,
+impl Shown {
+    // The empty text, whose ends are 0.
+    pub fn empty() -> Shown
+        ensures { (result.length ≡ 0) × (result.first ≡ 0) × (result.second ≡ 0) }
+    {
+        Shown {
+            length: 0,
+            first: 0,
+            second: 0,
+        }
     }
 }
 
-// A flag for each place of a text, of which none has more than 16,512 bytes.
-fn no_flags() -> [u8; 16513]
-    ensures { 16513 ≡ length result }
-{
-    [0u8; 16513]
-}
+// The places of a text, of which none has more than 16,512 bytes.
+const PLACES: usize = 16513;
 
-// The two smallest ends of a text with two cuts.
+// The two smallest ends of a text with two cuts. There is a flag for each place.
 fn with_ends(prepared: &[u64], part: Automaton, rest: Automaton, text: &[u8]) -> Shown
-    requires { (Rows.Room part prepared.now) × (Rows.Room rest prepared.now) × (length text.now ≤ 16512) }
+    requires { (Room part prepared.now) × (Room rest prepared.now) × (length text.now ≤ 16512) }
     ensures { (r s : Pattern) → Describes r part prepared.now → Describes s rest prepared.now → cut_twice r s text.now ≡ true → (result.length ≡ length text.now) × (result.first ≡ first_end r s text.now) × (result.second ≡ second_end r s text.now) }
 {
-    let mut flags = no_flags();
+    let mut flags = filled::<u8, PLACES>(0);
     let ends = ends_of(prepared, part, rest, text, &mut flags);
     Shown {
         length: text.len(),
@@ -60,15 +58,14 @@ pub fn show_cut(
     rest: Automaton,
     out: &mut [u8],
 ) -> Shown
-    requires room { (Rows.Room part prepared.now) × (Rows.Room whole prepared.now) × (Rows.Room rest prepared.now) }
+    requires room { (Room part prepared.now) × (Room whole prepared.now) × (Room rest prepared.now) }
     requires cut_asked { CutAsked prepared.now part whole rest }
     ensures { (rule : Rule) (n : Node) → CutRule prepared.now part whole rest rule → Shows rule n out.old out.new result }
 {
-    let quest = cut_quest(part, whole, rest);
-    let length = find(Room::Small, prepared, quest, part, whole, rest, out);
+    let length = find(prepared, &cut_quest(part, whole, rest), out);
     if out.len() < length {
         return Shown {
-            length: length,
+            length,
             first: 0,
             second: 0,
         };
@@ -78,13 +75,12 @@ pub fn show_cut(
 
 // The length of a text of both arms: 0, if the empty one belongs to both.
 pub fn show_overlap(prepared: &[u64], left: Automaton, right: Automaton, out: &mut [u8]) -> usize
-    requires room { (Rows.Room left prepared.now) × (Rows.Room right prepared.now) }
+    requires room { (Room left prepared.now) × (Room right prepared.now) }
     requires arm_asked { ArmAsked prepared.now left right }
     ensures { (r s : Pattern) → ArmRule prepared.now left right r s → ShowsText (one_arm r s) out.old out.new result }
 {
     if left.nullable && right.nullable {
         return 0;
     }
-    let quest = arm_quest(left, right);
-    find(Room::Small, prepared, quest, left, left, right, out)
+    find(prepared, &arm_quest(left, right), out)
 }

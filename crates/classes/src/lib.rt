@@ -47,11 +47,9 @@ impl Class {
     fn minus(self, other: Class) -> Class
         ensures { (byte : ℕ) → holds_byte result byte ≡ (holds_byte self byte && not (holds_byte other byte)) }
     {
-        let low = self.low;
-        let high = self.high;
         Class {
-            low: low.minus(other.low),
-            high: high.minus(other.high),
+            low: self.low.minus(other.low),
+            high: self.high.minus(other.high),
         }
     }
 
@@ -59,11 +57,9 @@ impl Class {
     fn union(self, other: Class) -> Class
         ensures { (byte : ℕ) → holds_byte result byte ≡ (holds_byte self byte || holds_byte other byte) }
     {
-        let low = self.low;
-        let high = self.high;
         Class {
-            low: low.union(other.low),
-            high: high.union(other.high),
+            low: self.low.union(other.low),
+            high: self.high.union(other.high),
         }
     }
 
@@ -79,28 +75,24 @@ impl Class {
     pub fn of(runs: &[u8]) -> Class
         ensures { (byte : ℕ) → holds_byte result byte ≡ in_class (runs_of runs.now) byte }
     {
-        let count = runs.len() / 2;
         let mut class = Class::empty();
-        let mut i = 0;
-        while i < count {
+        for i in 0..runs.len() / 2 {
             let next = Class::run(runs[2 * i], runs[2 * i + 1]);
             class = next.union(class);
-            i += 1;
         }
         class
     }
 
     // The lowest byte that the two share; 256 or more if there is none.
+    // Kept by hand: the crates above cite the promise `FirstShared`, which speaks of such a number and no Option.
     pub fn first_shared(self, other: Class) -> usize
         ensures { FirstShared self other result }
     {
-        let low = self.low;
-        let high = self.high;
-        let below = low.intersect(other.low).first_from(0);
+        let below = self.low.intersect(other.low).first_from(0);
         if below < Set::SIZE {
             return below;
         }
-        let above = high.intersect(other.high).first_from(0);
+        let above = self.high.intersect(other.high).first_from(0);
         if above < Set::SIZE {
             return Set::SIZE + above;
         }
@@ -111,8 +103,6 @@ impl Class {
     pub fn meets(self, other: Class) -> bool
         ensures { (result ≡ true) ↔ SharedByte self other }
     {
-        let low = self.low;
-        let high = self.high;
-        low.meets(other.low) || high.meets(other.high)
+        self.low.meets(other.low) || self.high.meets(other.high)
     }
 }

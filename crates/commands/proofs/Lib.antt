@@ -1,3 +1,2 @@
 -- What the proofs of several functions cite.
-mod CommandLines
 mod Outcomes

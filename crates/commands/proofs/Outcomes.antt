@@ -1,60 +1,54 @@
 -- From an answer of the engine to the reply.
 use mathlib.Core.Path.{◌≡◌, refl, sym, ap, ◌∙◌}
-use mathlib.Core.List.{[], ◌++◌}
+use mathlib.Core.List.{◌++◌}
 use Prim.Native.Nat.{ℕ}
 use native.Mathlib.Omega.{arith}
 use lib.ListN.{length, drop}
+use Rattle.std.specs.Prelude.{Option, Some, None, Ok, Err}
 use Rattle.semantics.specs.Text.{Text}
 use Rattle.semantics.specs.Lens.{Lens}
 use Rattle.semantics.specs.Table.{node_count}
 use Rattle.semantics.specs.Calls.{gives, refuses, program, with_program, check_call, lenscheck_line, buffer_after}
 use Rattle.semantics.specs.Calls.{Answer as Outcome}
-use Rattle.answers.specs.declared.Answer.{Answer}
-use Rattle.answers.specs.declared.Answer.TheVariants.{Result, Refusal}
-use Rattle.answers.specs.Outcomes.{answer_for, GivesText}
+use Rattle.table.specs.declared.Refusal.{Refusal}
+use Rattle.answers.proofs.Parts.{refusal_parts}
+use Rattle.answers.specs.Outcomes.{Answer, answer_for, GivesText}
 use Rattle.lines.specs.Line.{refused_line}
 use Rattle.readings.proofs.Lines.{refused_line_lem}
 use Rattle.commands.specs.Replies.{check_outcome, printed, number_of, answer_number, Replies, Finishes}
 
 -- a result
 pub finishes_result :
-    {answer : Answer} {buffer : Text} {n : ℕ} → answer ≡ Result n → Finishes answer buffer buffer (record { length = n; number = 0 })
+    {answer : Answer} {buffer : Text} {n : ℕ} → answer ≡ Ok n → Finishes answer buffer buffer (record { length = n; number = None })
 unfolding answer_for buffer_after printed number_of
 finishes_result {answer} {buffer} {n} e = record { finishes = go }
   where
-    go : (outcome : Outcome Text) (before : Text) → GivesText outcome before buffer answer → Replies outcome before buffer (record { length = n; number = 0 })
+    go : (outcome : Outcome Text) (before : Text) → GivesText outcome before buffer answer → Replies outcome before buffer (record { length = n; number = None })
     go (gives text) before g = record { text_is = g.buffer_is; length_is = cc g.answer_is; number_is = refl }
     go (refuses number node) before g = absurd (let z : ◌≡◌ {A = ℕ} 0 1 = cc g.answer_is in omega arith)
 
 -- a refusal, whose line was put into the buffer
 pub finishes_refusal :
-    {answer : Answer} {between after : Text} {number node n : ℕ}
-    → answer ≡ Refusal number node
-    → after ≡ refused_line number node ++ drop (length (refused_line number node)) between
-    → n ≡ length (refused_line number node)
-    → Finishes answer between after (record { length = n; number = number })
+    {answer : Answer} {between after : Text} {r : Refusal} {n : ℕ}
+    → answer ≡ Err r
+    → after ≡ refused_line r.number r.node ++ drop (length (refused_line r.number r.node)) between
+    → n ≡ length (refused_line r.number r.node)
+    → Finishes answer between after (record { length = n; number = Some r.number })
 unfolding answer_for buffer_after printed number_of
-finishes_refusal {answer} {between} {after} {number} {node} {n} e after_is n_is = record { finishes = go }
+finishes_refusal {answer} {between} {after} {r} {n} e after_is n_is = record { finishes = go }
   where
     go :
         (outcome : Outcome Text) (before : Text)
         → GivesText outcome before between answer
-        → Replies outcome before after (record { length = n; number = number })
+        → Replies outcome before after (record { length = n; number = Some r.number })
     go (gives text) before g = absurd (let z : ◌≡◌ {A = ℕ} 0 1 = cc g.answer_is in omega arith)
     go (refuses m k) before g =
-        let same : Refusal number node ≡ Refusal m k = sym e ∙ g.answer_is in
-        let number_is : number ≡ m = cc in
-        let node_is : node ≡ k = cc in
+        let (number_is, node_is) = refusal_parts (sym e ∙ g.answer_is) in
         record {
           text_is = rw (← number_is, ← node_is, ← g.buffer_is) after_is;
           length_is = rw (← number_is, ← node_is) n_is;
-          number_is = number_is;
+          number_is = ap Some number_is;
         }
-
--- nothing
-pub replies_nothing : (buffer : Text) → Replies (gives []) buffer buffer (record { length = 0; number = 0 })
-unfolding printed number_of
-replies_nothing buffer = record { text_is = refl; length_is = refl; number_is = refl }
 
 -- what is printed of Check is the line of `lenscheck`, whether the program is accepted or refused
 printed_check : (table : Text) → printed (check_outcome table) ≡ lenscheck_line table
@@ -77,7 +71,7 @@ number_check table = go (program table)
     go (refuses number node) = refl
 
 pub check_replies :
-    (table : Text) {before after : Text} {answer : Answer} {n number : ℕ}
+    (table : Text) {before after : Text} {answer : Answer} {n : ℕ} {number : Option ℕ}
     → after ≡ lenscheck_line table ++ drop (length (lenscheck_line table)) before
     → n ≡ length (lenscheck_line table)
     → answer ≡ answer_for (λ (m : ℕ). m) (check_call table)

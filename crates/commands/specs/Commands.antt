@@ -1,19 +1,19 @@
 -- The words of the command line.
-use Rattle.std.specs.Prelude.{Bool, cond, not, ◌&&◌, [], ◌∷◌, ℕ, eqb}
+use Rattle.std.specs.Prelude.{Bool, false, cond, List, [], ◌∷◌, length, ℕ, eqb, Option, Some, None}
 use Rattle.semantics.specs.Text.{Text, same_text}
 use Rattle.commands.specs.declared.command.Command.{Command}
-use Rattle.commands.specs.declared.command.Command.TheVariants.{Check, Get, Put, Create, Unknown}
+use Rattle.commands.specs.declared.command.Command.TheVariants.{Check, Get, Put, Create}
 
 -- `check`, `get`, `put` or `create`
-unfoldable pub command_of : Text → Command
+unfoldable pub command_of : Text → Option Command
 command_of word =
     cond
     (same_text word (99 ∷ 104 ∷ 101 ∷ 99 ∷ 107 ∷ []))
-    Check
+    (Some Check)
     (cond
     (same_text word (103 ∷ 101 ∷ 116 ∷ []))
-    Get
-    (cond (same_text word (112 ∷ 117 ∷ 116 ∷ [])) Put (cond (same_text word (99 ∷ 114 ∷ 101 ∷ 97 ∷ 116 ∷ 101 ∷ [])) Create Unknown)))
+    (Some Get)
+    (cond (same_text word (112 ∷ 117 ∷ 116 ∷ [])) (Some Put) (cond (same_text word (99 ∷ 114 ∷ 101 ∷ 97 ∷ 116 ∷ 101 ∷ [])) (Some Create) None)))
 
 -- `check TABLE`, `get TABLE SOURCE`, `put TABLE SHEET SOURCE`, `create TABLE SHEET`
 abbrev pub words_of : Command → ℕ
@@ -21,8 +21,13 @@ words_of Check = 2
 words_of Get = 3
 words_of Put = 4
 words_of Create = 3
-words_of Unknown = 0
+
+-- whether a command takes that many words
+abbrev pub takes : ℕ → Option Command → Bool
+takes count None = false
+takes count (Some command) = eqb count (words_of command)
 
 -- The first word is a command, and the command line has as many words as it takes.
-unfoldable pub understood : ℕ → Text → Bool
-understood count word = not (eqb count 0) && eqb count (words_of (command_of word))
+abbrev pub understood : List Text → Bool
+understood [] = false
+understood (word ∷ files) = takes (length (word ∷ files)) (command_of word)

@@ -1,5 +1,4 @@
 -- What the program `sheet` does with its words, and what it prints.
 pub mod Commands
-pub mod Files
 pub mod Replies
 pub mod Texts

@@ -1,15 +1,13 @@
 -- What a command prints on standard output.
-use Rattle.std.specs.Prelude.{◌≡◌, [], ◌++◌, ℕ, ◌≤◌, length, drop}
+use Rattle.std.specs.Prelude.{◌≡◌, ◌++◌, ℕ, ◌≤◌, length, drop, Option, Some, None, Ok, Err}
 use Rattle.std.proofs.Common.{ap, arith, length-append}
 use Rattle.semantics.specs.Text.{Text}
 use Rattle.semantics.specs.Calls.{gives, refuses, program, with_program, get_call, put_call, create_call, lenscheck_line}
 use Rattle.semantics.specs.Calls.{Answer as Outcome}
-use Rattle.answers.specs.declared.Answer.{Answer}
-use Rattle.answers.specs.declared.Answer.TheVariants.{Result, Refusal}
 use Rattle.lines.specs.Line.{refused_line}
-use Rattle.answers.specs.Outcomes.{GivesText}
+use Rattle.answers.specs.Outcomes.{Answer, GivesText}
 use Rattle.commands.specs.declared.command.Command.{Command}
-use Rattle.commands.specs.declared.command.Command.TheVariants.{Check, Get, Put, Create, Unknown}
+use Rattle.commands.specs.declared.command.Command.TheVariants.{Check, Get, Put, Create}
 use Rattle.commands.specs.declared.replies.Reply.{Reply}
 
 -- Check's result is printed as the line of `lenscheck`.
@@ -22,22 +20,21 @@ outcome_of Check table text old lent = check_outcome table
 outcome_of Get table text old lent = get_call table text lent
 outcome_of Put table text old lent = put_call table text old lent
 outcome_of Create table text old lent = create_call table text lent
-outcome_of Unknown table text old lent = gives []
 
 -- A result is printed byte for byte, a refusal as one line: `refused`, number, node.
 unfoldable pub printed : Outcome Text → Text
 printed (gives text) = text
 printed (refuses number node) = refused_line number node
 
--- The number of a refusal, and 0 for a result: of an outcome,
-unfoldable pub number_of : {A : Type 0} → Outcome A → ℕ
-number_of (gives x) = 0
-number_of (refuses number node) = number
+-- The number of a refusal, and none for a result: of an outcome,
+unfoldable pub number_of : {A : Type 0} → Outcome A → Option ℕ
+number_of (gives x) = None
+number_of (refuses number node) = Some number
 
 -- and of the answer for it.
-abbrev pub answer_number : Answer → ℕ
-answer_number (Result length) = 0
-answer_number (Refusal number node) = number
+abbrev pub answer_number : Answer → Option ℕ
+answer_number (Ok length) = None
+answer_number (Err r) = Some r.number
 
 -- What is printed stands at the start of the buffer, with the rest as it was; the reply has its length, and the number.
 pub record Replies (outcome : Outcome Text) (before after : Text) (reply : Reply) : Type 0 where

@@ -8,11 +8,11 @@ use answers::results::without_tally;
 use engine::lenscheck_line;
 use lines::put_refused;
 
-// How many bytes to print, and the number of the refusal, or 0 for a result.
+// How many bytes to print, and the number of the refusal, if it is one.
 #[derive(Clone, Copy)]
 pub struct Reply {
     pub length: usize,
-    pub number: usize,
+    pub number: Option<usize>,
 }
 
 // The reply to a command with the contents of its files, in the order of the command line. A file that the command does not take is empty.
@@ -28,22 +28,12 @@ pub fn reply_to(
 {
     match command {
         Command::Check => check(table, out),
-        Command::Get => {
-            let answer = engine::get::get(table, text, out);
-            finish(answer, out)
-        }
+        Command::Get => finish(engine::get::get(table, text, out), out),
         Command::Put => {
-            let answer = without_tally(engine::put::put(table, text, old_source, out));
-            finish(answer, out)
+            let answer = engine::put::put(table, text, old_source, out);
+            finish(without_tally(answer), out)
         }
-        Command::Create => {
-            let answer = engine::create::create(table, text, out);
-            finish(answer, out)
-        }
-        Command::Unknown => Reply {
-            length: 0,
-            number: 0,
-        },
+        Command::Create => finish(engine::create::create(table, text, out), out),
     }
 }
 
@@ -57,12 +47,12 @@ fn check(table: &[u8], out: &mut [u8]) -> Reply
     Reply { length, number }
 }
 
-fn number_of(answer: Answer) -> usize
+fn number_of(answer: Answer) -> Option<usize>
     ensures { result ≡ answer_number answer }
 {
     match answer {
-        Answer::Result { length: _ } => 0,
-        Answer::Refusal { number, node: _ } => number,
+        Ok(_) => None,
+        Err(refusal) => Some(refusal.number),
     }
 }
 
@@ -72,10 +62,13 @@ fn finish(answer: Answer, out: &mut [u8]) -> Reply
     ensures { Finishes answer out.old out.new result }
 {
     match answer {
-        Answer::Result { length } => Reply { length, number: 0 },
-        Answer::Refusal { number, node } => {
-            let length = put_refused(number, node, out);
-            Reply { length, number }
-        }
+        Ok(length) => Reply {
+            length,
+            number: None,
+        },
+        Err(refusal) => Reply {
+            length: put_refused(refusal.number, refusal.node, out),
+            number: Some(refusal.number),
+        },
     }
 }

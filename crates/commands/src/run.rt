@@ -1,35 +1,29 @@
 // A command from its words on: files are read, and what the reply says is written. Each file has a buffer of 65,536 bytes, far longer than any
 // table or text, so that the engine itself refuses what is too long for it; only a file that fills the buffer is turned down here.
-ghost use Rattle.std.specs.Prelude.{◌≡◌, ◌≤◌, length};
+ghost use Rattle.std.specs.Prelude.{◌≡◌, ◌≤◌, length, map};
 ghost use Rattle.commands.specs.Commands.{understood};
 
 use crate::command::{Command, command_of, words_of};
-use crate::files::{Contents, read, read_given};
+use crate::files::read_given;
 use crate::replies::{Reply, reply_to};
 use inputs::say;
 use meanings::explain_for;
 use std::rt::Files;
 
-// The command line: how many words it has, the command, and the names of its files. What is missing is empty. Says whether it is one of the four
-// command lines. What is read and written is left open, since no contract can say it.
-pub fn run<R: Files + Print + AllocGlobal, E: Print>(
-    rt: &R,
-    errors: &E,
-    count: usize,
-    word: &[u8],
-    first: &[u8],
-    second: &[u8],
-    third: &[u8],
-) -> bool
-    ensures { result ≡ understood count word.now }
+// The words of the command line: the command, and the names of its files. Says whether it is one of the four command lines. What is read and written
+// is left open, since no contract can say it.
+pub fn run<R: Files + Print + AllocGlobal, E: Print>(rt: &R, errors: &E, words: &[&[u8]]) -> bool
+    ensures { result ≡ understood (map (λ word. word.now) words.now) }
 {
-    let command = command_of(word);
-    if count == 0 || count != words_of(command) {
-        usage(errors);
-        return false;
+    if let [word, files @ ..] = words
+        && let Some(command) = command_of(word)
+        && words.len() == words_of(command)
+    {
+        answer(rt, errors, command, files);
+        return true;
     }
-    answer(rt, errors, command, count, first, second, third);
-    true
+    usage(errors);
+    false
 }
 
 fn usage<E: Print>(errors: &E) {
@@ -43,45 +37,33 @@ fn answer<R: Files + Print + AllocGlobal, E: Print>(
     rt: &R,
     errors: &E,
     command: Command,
-    count: usize,
-    first: &[u8],
-    second: &[u8],
-    third: &[u8],
+    files: &[&[u8]],
 ) {
-    let mut table = [0u8; 65536];
-    let contents = read(rt, errors, first, &mut table);
-    let Contents::Bytes(table_length) = contents else {
+    let mut buffer = [0u8; 65536];
+    let Some(table) = read_given(rt, errors, files.get(0).copied(), &mut buffer) else {
         return;
     };
-    let mut text = [0u8; 65536];
-    let contents = read_given(rt, errors, 2 < count, second, &mut text);
-    let Contents::Bytes(text_length) = contents else {
+    let mut buffer = [0u8; 65536];
+    let Some(text) = read_given(rt, errors, files.get(1).copied(), &mut buffer) else {
         return;
     };
-    let mut old_source = [0u8; 65536];
-    let contents = read_given(rt, errors, 3 < count, third, &mut old_source);
-    let Contents::Bytes(old_length) = contents else {
+    let mut buffer = [0u8; 65536];
+    let Some(old_source) = read_given(rt, errors, files.get(2).copied(), &mut buffer) else {
         return;
     };
     let mut out = [0u8; 4096];
-    let reply = reply_to(
-        command,
-        &table[0..table_length],
-        &text[0..text_length],
-        &old_source[0..old_length],
-        &mut out,
-    );
-    show(rt, errors, reply, &out, &table[0..table_length]);
+    let reply = reply_to(command, table, text, old_source, &mut out);
+    show(rt, errors, reply, &out, table);
 }
 
 // The reply to standard output, and to standard error what a refusal means, which depends on the table too.
 fn show<R: Print, E: Print>(rt: &R, errors: &E, reply: Reply, out: &[u8], table: &[u8])
     requires { reply.length ≤ length out.now }
 {
-    let length = reply.length;
-    let number = reply.number;
-    if rt.write_all(&out[0..length]).is_err() {
+    if rt.write_all(&out[..reply.length]).is_err() {
         say(errors, b"sheet: not all of the answer could be written\n");
     }
-    explain_for(errors, number, table);
+    if let Some(number) = reply.number {
+        explain_for(errors, number, table);
+    }
 }

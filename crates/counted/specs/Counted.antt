@@ -6,8 +6,8 @@ use Rattle.semantics.specs.Lens.{Lens}
 use Rattle.semantics.specs.Table.{trees, tree_at, lens}
 use Rattle.semantics.specs.Tally.{met}
 use Rattle.laws.specs.Bookless.{plain}
-use Rattle.texts.specs.declared.Wrote.{Wrote}
-use Rattle.texts.specs.declared.Wrote.TheVariants.{Count}
+use Rattle.texts.specs.Overlay.{Wrote}
+use Rattle.std.specs.Prelude.{Some}
 use Rattle.texts.specs.Overlay.{Writes}
 use Rattle.counted.specs.declared.Plain.{Plain}
 
@@ -17,7 +17,7 @@ pub record MeetsThere (bytes : Text) (node : ℕ) (old : Option Text) (new : Tex
 
 -- What was written lies within the buffer.
 pub record Fitted (wrote : Wrote) (out : Text) : Type 0 where
-  pub within : (n : ℕ) → wrote ≡ Count n → n ≤ length out
+  pub within : (n : ℕ) → wrote ≡ Some n → n ≤ length out
 
 -- What a node writes where no entry answers, behind whatever was written before.
 pub record WritesNext (bytes : Text) (node : ℕ) (old : Option Text) (new : Text) (wrote : Wrote) (mid after : Text) (r : Wrote) : Type 0 where

@@ -7,41 +7,37 @@ ghost use Rattle.bookless.specs.Bookless.{GivenOld};
 ghost use Rattle.counted.specs.Counted.{MeetsThere, Fitted, WritesNext, MeetsNext};
 
 use bookless::write;
-use books::Old;
+use books::Place;
 use std::num::wrapping_add_usize;
-use steps::{Spot, behind};
-use texts::Wrote;
+use steps::Spot;
 
 // What was written so far, and how many matches were met, modulo 2^64.
 #[derive(Clone, Copy)]
 pub struct Plain {
-    pub wrote: Wrote,
+    pub wrote: Option<usize>,
     pub met: usize,
 }
 
 // What a node writes behind what was written, with no book.
 pub fn next_plain(
-    wrote: Wrote,
+    wrote: Option<usize>,
     bytes: &[u8],
     prepared: &[u64],
     spot: Spot,
     new: &[u8],
     path: &mut [u8],
-    old: Old,
+    old: Option<Place>,
     deck: &[u8],
     out: &mut [u8],
-) -> Wrote
+) -> Option<usize>
     requires lens_node { LensNode bytes.now prepared.now spot.node }
     requires given_old { GivenOld bytes.now spot new.now path.old old deck.now }
     requires fitted { Fitted wrote out.old }
     ensures { WritesNext bytes.now spot.node (old_text deck.now old) new.now wrote out.old out.new result }
 {
-    let Wrote::Count(n) = wrote else {
-        return wrote;
-    };
-    let rest = &mut out[n..];
-    let more = write(bytes, prepared, spot, new, path, old, deck, rest);
-    behind(n, more)
+    let n = wrote?;
+    let m = write(bytes, prepared, spot, new, path, old, deck, &mut out[n..])?;
+    Some(n + m)
 }
 
 // The same of a node that meets so many matches.
@@ -53,7 +49,7 @@ pub fn next_counted(
     spot: Spot,
     new: &[u8],
     path: &mut [u8],
-    old: Old,
+    old: Option<Place>,
     deck: &[u8],
     out: &mut [u8],
 ) -> Plain
@@ -62,8 +58,17 @@ pub fn next_counted(
     requires fitted { Fitted plain.wrote out.old × MeetsThere bytes.now spot.node (old_text deck.now old) new.now matches }
     ensures { MeetsNext bytes.now spot.node (old_text deck.now old) new.now matches plain out.old out.new result }
 {
+    let wrote = next_plain(
+        plain.wrote,
+        bytes,
+        prepared,
+        spot,
+        new,
+        path,
+        old,
+        deck,
+        out,
+    );
     let met = wrapping_add_usize(plain.met, matches);
-    let wrote = plain.wrote;
-    let more = next_plain(wrote, bytes, prepared, spot, new, path, old, deck, out);
-    Plain { wrote: more, met }
+    Plain { wrote, met }
 }

@@ -1,21 +1,15 @@
--- The marks of the entries, one by one. Assumes nothing.
-use mathlib.Core.Path.{◌≡◌}
-use mathlib.Core.Bool.{Bool, true, false, cond}
-use mathlib.Core.List.{List, [], ◌∷◌}
-use Prim.Native.Nat.{ℕ, zero, suc, ◌+◌, ◌≤◌, ◌<◌}
-use native.Mathlib.Nat.{not-suc-le-zero}
-use native.Mathlib.Omega.{arith}
-use lib.ListN.{length, get_or, take}
+-- The marks of the entries. Assumes nothing.
+use Rattle.std.proofs.Common.{◌≡◌, refl, sym, ◌+◌, Bool, not, true, false, cond, List, ◌∷◌, zero-add}
+use Rattle.std.specs.List.{count_by}
+use Rattle.std.proofs.lemmas.List.Recursion.{is_count_by}
 use Rattle.counts.specs.Counts.{unused_of}
 
--- one mark more
-pub unused_next : (us : List Bool) (i : ℕ) → i < length us → unused_of (take (suc i) us) ≡ unused_of (take i us) + cond (get_or us i false) 0 1
+-- an entry that was not taken is one more
+unused_more : (u : Bool) (us : List Bool) → unused_of (u ∷ us) ≡ cond (not u) (1 + unused_of us) (unused_of us)
 unfolding unused_of
-unused_next [] i h = absurd (not-suc-le-zero h)
-unused_next (u ∷ us) zero h = omega arith
-unused_next (u ∷ us) (suc i) h = let later = unused_next us i (omega arith) in omega (arith, later)
+unused_more true us = zero-add (unused_of us)
+unused_more false us = refl
 
--- an entry counts for one at most
-pub one_at_most : (u : Bool) → cond u 0 1 ≤ 1
-one_at_most true = omega arith
-one_at_most false = omega arith
+pub unused_count : (us : List Bool) → count_by not us ≡ unused_of us
+unfolding unused_of
+unused_count us = sym (is_count_by unused_of not refl unused_more us)

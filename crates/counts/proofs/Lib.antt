@@ -1,2 +1,2 @@
--- What the proofs of several functions, here and in the crates of a put, cite.
-pub mod Counting
+-- What the proofs of the function that counts cites.
+mod Counting

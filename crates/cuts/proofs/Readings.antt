@@ -1,45 +1,40 @@
 -- What is read off a path, position by position: what the loops over a path cite. Assumes nothing.
-use mathlib.Core.Path.{◌≡◌, refl, sym, ap, ◌∙◌}
-use mathlib.Core.Bool.{Bool, true, false, ◌&&◌, cond, and-true, and-false}
+use mathlib.Core.Path.{◌≡◌, refl, ap, ◌∙◌}
+use mathlib.Core.Bool.{Bool, true, false, ◌&&◌, cond}
 use mathlib.Core.List.{List, [], ◌∷◌}
 use Prim.Native.Nat.{ℕ, suc, ◌+◌, ◌-◌, ◌≤◌, ◌<◌}
 use native.Mathlib.Numerals.{add-one}
 use native.Mathlib.Omega.{arith}
-use borrow.Author.Tests.{lt-ltb, le-ltb}
-use lib.Dec.{ltb}
+use borrow.Author.Tests.{lt-leb, le-leb, ltb-true, ltb-false}
+use lib.Dec.{ltb, leb}
+use Rattle.std.specs.Prelude.{Option, None, Some}
+use Rattle.std.specs.List.{position_or_len}
+use Rattle.std.proofs.lemmas.List.Recursion.{is_position_or_len}
+use Rattle.std.specs.Option.{unwrap_or}
 use lib.ListN.{length, get_or, drop, drop_of_length-le}
 use lib.Seq.{drop-cons}
 use Rattle.laws.specs.Basics.{cond_true, cond_false}
-use Rattle.laws.specs.Paths.{border, goes_left, until_loop, first_loop}
+use Rattle.laws.specs.Paths.{border, border_within, goes_left, until_loop, first_loop}
 
--- the border of a path whose first i positions are below n
-pub record Bordered (n : ℕ) (path : List ℕ) (i : ℕ) : Type 0 where
-  pub within : i ≤ length path
-  pub border_is : border n path ≡ i + border n (drop i path)
-
--- the border of a path that is not empty
-border_next : (n : ℕ) (path : List ℕ) (i : ℕ) → i < length path → border n (drop i path) ≡ cond (ltb (get_or path i 0) n) (suc (border n (drop (suc i) path))) 0
+-- the border is the place of the first position that is not below n, or the path's end
+border_place : (n : ℕ) (path : List ℕ) → border n path ≡ position_or_len (λ x. leb n x) path
 unfolding border
-border_next n path i h = ap (border n) (drop-cons path i 0 h)
+border_place n = is_position_or_len (border n) (λ x. leb n x) refl (λ q path. turn q (border n path) (ltb q n) refl)
+  where
+    turn : (q x : ℕ) (b : Bool) → ltb q n ≡ b → cond (ltb q n) (suc x) 0 ≡ cond (leb n q) 0 (1 + x)
+    turn q x true e = rw (e, lt-leb n q (ltb-true q n e)) (omega arith)
+    turn q x false e = rw (e, le-leb n q (ltb-false q n e))
 
-module _ {n : ℕ} {path : List ℕ} where
-  pub bordered_none : Bordered n path 0
-  bordered_none = record { within = omega arith; border_is = omega arith }
-
-  module _ {i : ℕ} (known : Bordered n path i) where
-    pub bordered_more : i < length path → get_or path i 0 < n → Bordered n path (i + 1)
-    bordered_more h below =
-        let next = border_next n path i h ∙ cond_true (ltb (get_or path i 0) n) (suc (border n (drop (suc i) path))) 0 (lt-ltb (get_or path i 0) n below) in
-        record { within = omega arith; border_is = rw add-one (omega (arith, known.border_is, next)) }
-
-    pub bordered_here : i < length path → n ≤ get_or path i 0 → i ≡ border n path
-    bordered_here h from =
-        let next = border_next n path i h ∙ cond_false (ltb (get_or path i 0) n) (suc (border n (drop (suc i) path))) 0 (le-ltb (get_or path i 0) n from) in
-        omega (arith, known.border_is, next)
-
-    pub bordered_all : length path ≤ i → i ≡ border n path
-    unfolding border
-    bordered_all h = let none : border n (drop i path) ≡ 0 = ap (border n) (drop_of_length-le path h) in omega (arith, known.border_is, none)
+-- so where that place was searched for, the answer is the border
+pub border_found :
+    (n : ℕ) (path : List ℕ) {found : Option ℕ}
+    → found ≡ cond (ltb (position_or_len (λ x. leb n x) path) (length path)) (Some (position_or_len (λ x. leb n x) path)) None
+    → unwrap_or found (length path) ≡ border n path
+border_found n path is = rw (is, ← border_place n path) (go (ltb (border n path) (length path)) refl)
+  where
+    go : (b : Bool) → ltb (border n path) (length path) ≡ b → unwrap_or (cond b (Some (border n path)) None) (length path) ≡ border n path
+    go true e = refl
+    go false e = let past = ltb-false (border n path) (length path) e in omega (arith, border_within n path)
 
 -- the arm of a path, by its first position
 pub goes_first : (n : ℕ) (empty : Bool) (path : List ℕ) → 0 < length path → ltb (get_or path 0 0) n ≡ goes_left n empty path
@@ -91,16 +86,9 @@ module _ {last first : ℕ → Bool} {path : List ℕ} where
         let next = loop_next last first p path i h ∙ cond_true (last p && first (get_or path i 0)) 0 (suc rest) told in
         omega (arith, known.loop_is, next)
 
-    pub unlooped_all : length path ≤ i → i ≡ first_loop last first path
+    pub unlooped_all : length path ≤ i → length path ≡ first_loop last first path
     unfolding until_loop
     unlooped_all h =
         let p = get_or path (i - 1) 0 in
         let none : until_loop last first p (drop i path) ≡ 0 = ap (until_loop last first p) (drop_of_length-le path h) in
-        omega (arith, known.loop_is, none)
-
--- two tests at once, the second asked first
-pub both_tests : {a c : Bool} (b : Bool) → c ≡ a → b ≡ true → c ≡ (a && b)
-both_tests {a} b is told = is ∙ sym (rw told (and-true a))
-
-pub second_fails : (a b : Bool) → b ≡ false → false ≡ (a && b)
-second_fails a b told = sym (rw told (and-false a))
+        omega (arith, known.loop_is, known.within, none)

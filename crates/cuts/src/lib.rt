@@ -12,24 +12,19 @@ use positions::Set;
 pub fn border(path: &[u8], n: usize) -> usize
     ensures { result ≡ border n path.now }
 {
-    let mut i = 0;
-    while i < path.len() {
-        if n <= path[i] as usize {
-            return i;
-        }
-        i += 1;
-    }
-    i
+    path.iter()
+        .position(|q| n <= usize::from(*q))
+        .unwrap_or(path.len())
 }
 
 // Whether the path of a union goes by the left arm, whose positions are those below n; `empty` tells whether that arm holds the empty text.
 pub fn goes_left(path: &[u8], n: usize, empty: bool) -> bool
     ensures { result ≡ goes_left n empty path.now }
 {
-    if path.len() == 0 {
-        return empty;
+    match path {
+        [] => empty,
+        [q, ..] => usize::from(*q) < n,
     }
-    (path[0] as usize) < n
 }
 
 // The length of the first part of a repeat: up to the first step from one of its child's last positions to one of the first.
@@ -37,24 +32,12 @@ pub fn first_loop(path: &[u8], last: Set, first: Set) -> usize
     requires { 0 < length path.now }
     ensures { result ≡ first_loop (holds last) (holds first) path.now }
 {
-    let mut i = 1;
-    while i < path.len() {
-        if loops(last, first, path[i - 1], path[i]) {
+    for i in 1..path.len() {
+        if last.has(usize::from(path[i - 1])) && first.has(usize::from(path[i])) {
             return i;
         }
-        i += 1;
     }
-    i
-}
-
-// Whether a step goes from a last position to a first one.
-fn loops(last: Set, first: Set, from: u8, to: u8) -> bool
-    ensures { result ≡ (holds last from && holds first to) }
-{
-    if first.has(to as usize) {
-        return last.has(from as usize);
-    }
-    false
+    path.len()
 }
 
 // The positions at which the parts of a repeat end, and those at which they begin.
@@ -68,10 +51,8 @@ pub struct Ends {
 pub fn ends_of(a: Automaton, base: usize) -> Ends
     ensures { Moved a.last base result.last × Moved a.first base result.first }
 {
-    let ends = a.last;
-    let begins = a.first;
     Ends {
-        last: ends.moved(base),
-        first: begins.moved(base),
+        last: a.last.moved(base),
+        first: a.first.moved(base),
     }
 }

@@ -1,28 +1,33 @@
 -- The rooms that the cards are dealt in, and when every entry has its card. Assumes nothing.
-use mathlib.Core.Path.{◌≡◌}
+use mathlib.Core.Path.{◌≡◌, ap, ◌∙◌}
 use mathlib.Core.List.{List}
-use Prim.Native.Nat.{ℕ, ◌≤◌, ◌<◌}
+use Prim.Native.Nat.{ℕ, ◌+◌, ◌*◌, ◌/◌, ◌≤◌, ◌<◌}
 use native.Mathlib.Omega.{arith}
-use lib.ListN.{length}
+use lib.ListN.{length, replicate, length-replicate}
 use Rattle.semantics.specs.Text.{Text}
 use Rattle.books.specs.declared.Book.{Book}
 use Rattle.books.specs.Looking.{Dealt}
 use Rattle.decks.specs.declared.deck.Dealing.{Dealing}
 use Rattle.decks.specs.Dealing.{PathRoom, DealtOn}
-use Rattle.dealing.specs.declared.Reach.{Reach}
-use Rattle.dealing.specs.declared.Reach.TheVariants.{Short, Long}
 
--- room for the path of an entry's sheet, as long as a text may be or as long as any
-pub short_room : {marks path : List ℕ} → 1 ≡ length marks → 4096 ≡ length path → PathRoom marks path
-short_room m p = record { least_room = omega arith; marks_room = record { bounded = omega arith; long_room = λ long. omega arith } }
+-- a room that was asked for has its length
+pub filled_length : {xs : List ℕ} {n : ℕ} → xs ≡ replicate n 0 → length xs ≡ n
+filled_length {n = n} e = ap length e ∙ length-replicate {A = ℕ} n 0
 
-pub long_room : {marks path : List ℕ} → 4096 ≡ length marks → 524288 ≡ length path → PathRoom marks path
-long_room m p = record { least_room = omega arith; marks_room = record { bounded = omega arith; long_room = λ long. omega arith } }
-
--- how many reaches there are after one, in the order in which they are tried
-abbrev pub reaches_after : Reach → ℕ
-reaches_after Short = 1
-reaches_after Long = 0
+-- room for the paths of entries' sheets of some length, and for the sets that finding them keeps
+pub paths_room :
+    {marks path : List ℕ} {m p : ℕ}
+    → marks ≡ replicate m 0
+    → path ≡ replicate p 0
+    → (4096 ≤ p) × (p < 1048576) × (4096 < p → 2 * ((p + 255) / 256) ≤ m) × (m < 1048576)
+    → PathRoom marks path
+paths_room {m = m} {p = p} marks-are path-is (least, small, long, few) =
+    let marks-long = filled_length marks-are in
+    let path-long = filled_length path-is in
+    record {
+      least_room = omega arith;
+      marks_room = record { bounded = omega arith; long_room = λ longer. rw (path-long, marks-long) (long (omega arith)) };
+    }
 
 module _ {room : ℕ} {bytes old trail : Text} {b : Book} {deck : Text} {d : Dealing} (on : DealtOn room bytes old trail b deck d) where
   -- where every entry has its card, more room would not have changed it

@@ -24,8 +24,8 @@ use Rattle.automaton.specs.declared.Side.TheVariants.{Sheet}
 use Rattle.automaton.specs.Rows.{side_of, automaton_at}
 use Rattle.automaton.specs.Built.{Built, tree_language}
 use Rattle.lens.specs.declared.Mode.TheVariants.{Get, Key, SourceKey}
-use Rattle.texts.specs.declared.Wrote.{Wrote}
-use Rattle.texts.specs.declared.Wrote.TheVariants.{Count, Full}
+use Rattle.texts.specs.Overlay.{Wrote}
+use Rattle.std.specs.Prelude.{Option, Some, None}
 use Rattle.texts.specs.Overlay.{Writes, overlay_length, overlay_fits, count_fits, full_over, writes_within, front_set}
 use Rattle.lens.specs.Reading.{reading}
 use Rattle.lens.specs.SourceKeys.{has_union, source_key_lem}
@@ -39,11 +39,9 @@ use Rattle.books.specs.Listed.{text_at, entry_at, InOrder}
 use Rattle.books.specs.Looking.{BookOver, EntriesParsed, place_at, part_at, card_place, Dealt, same_within, entry_dealt}
 use Rattle.cards.specs.declared.Card.{Card}
 use Rattle.decks.specs.declared.deck.Dealing.{Dealing}
-use Rattle.decks.specs.declared.deck.Tried.{Tried}
-use Rattle.decks.specs.declared.deck.Tried.TheVariants.{Made, Long}
 use Rattle.below.specs.Below.{union_at, BelowIs}
 use Rattle.cards.specs.Sealed.{Sealed}
-use Rattle.decks.specs.Dealing.{PathRoom, CardTried, HeadPut, CardIn, DealtTo}
+use Rattle.decks.specs.Dealing.{PathRoom, CardTried, HeadPut, CardIn, DealtTo, DealtOn}
 use Rattle.cards.proofs.Sealing.{behind_head, with_behind, sealed_at}
 use Rattle.decks.proofs.Heads.{head_long, head_front, head_behind, head_prints, head_places, head_print, head_place}
 
@@ -55,7 +53,7 @@ writes_begins {text} {before} w room =
     rw (w.buffer_is, overlay_fits text before room) (take-append_seam text (drop (length text) before))
 
 -- and is what was set, as it is lent
-writes_front : {text before after : Text} {n : ℕ} → Writes text before after (Count n) → take n after ≡ text
+writes_front : {text before after : Text} {n : ℕ} → Writes text before after (Some n) → take n after ≡ text
 writes_front {text} {before} {n = n} w = front_set w ∙ take_all (length before) text (count_fits text before n w.answer_is).1
 
 -- ---- The sheet of an entry
@@ -83,7 +81,7 @@ module _ {bytes : Text} {prepared : List ℕ} {child : ℕ} (known : LensNode by
       → Fits bytes child source_side text
       → length text ≤ 4096
       → most ≡ min (length path) (length room)
-      → Emits bytes child Get text (take (most - 0) room) after Full
+      → Emits bytes child Get text (take (most - 0) room) after None
       → 524288 ≤ length path
       → length room < 128 + 128 * length text
   unfolding reading
@@ -92,11 +90,11 @@ module _ {bytes : Text} {prepared : List ℕ} {child : ℕ} (known : LensNode by
       omega (arith, over, length-take (most - 0) room, sheet_size fits)
 
   -- It ends within the room that it was lent.
-  pub sheet_within : {text before after : Text} {n : ℕ} → Emits bytes child Get text before after (Count n) → n ≤ length after
+  pub sheet_within : {text before after : Text} {n : ℕ} → Emits bytes child Get text before after (Some n) → n ≤ length after
   sheet_within {text} {before} {after} {n} emits = writes_within (reading Get known.tree text) before after n (emits.writes known.tree known.tree_is)
 
   -- and within the whole room
-  pub sheet_ends : (rest : Text) {text before after : Text} {n : ℕ} → Emits bytes child Get text before after (Count n) → n ≤ length (after ++ rest)
+  pub sheet_ends : (rest : Text) {text before after : Text} {n : ℕ} → Emits bytes child Get text before after (Some n) → n ≤ length (after ++ rest)
   sheet_ends rest emits = rw length-append (omega (arith, sheet_within emits))
 
 -- the room is as long when the part of it for the sheet came back
@@ -109,14 +107,14 @@ pub sheet_back :
 sheet_back path room after {most} most-is kept = part_length_lem room after 0 most (omega arith) (omega (arith, most-is)) kept
 
 -- the sheet that was written, as it is lent, whatever stands behind it
-sheet_front : {sheet before after : Text} {n : ℕ} (rest : Text) → Writes sheet before after (Count n) → take (n - 0) (after ++ rest) ≡ sheet
+sheet_front : {sheet before after : Text} {n : ℕ} (rest : Text) → Writes sheet before after (Some n) → take (n - 0) (after ++ rest) ≡ sheet
 sheet_front {sheet} {before} {after} {n} rest w =
     rw sub-zero (take-append-le n after rest (writes_within sheet before after n w) ∙ writes_front w)
 
 -- It belongs to the entry's child.
 pub sheet_belongs :
     {bytes : Text} {child : ℕ} {text before after : Text} {n : ℕ} (rest : Text)
-    → Fits bytes child source_side text → Emits bytes child Get text before after (Count n) → Fits bytes child sheet (take (n - 0) (after ++ rest))
+    → Fits bytes child source_side text → Emits bytes child Get text before after (Some n) → Fits bytes child sheet (take (n - 0) (after ++ rest))
 unfolding reading
 sheet_belongs {text = text} rest fits emits =
     record {
@@ -185,7 +183,7 @@ pub sheet_card_made :
     {bytes : Text} {child : ℕ} {text before after rest sealed-card : Text} {n : ℕ} {wrote : Wrote} {r : Card}
     → length card ≡ 4098
     → length rest ≡ length (behind_head card)
-    → Emits bytes child Get text before after (Count n)
+    → Emits bytes child Get text before after (Some n)
     → Emits bytes child Key (take (n - 0) (after ++ behind)) (behind_head card) rest wrote
     → length sealed-card ≡ length (with_behind card rest)
     → Sealed (with_behind card rest) wrote sealed-card r
@@ -247,17 +245,17 @@ copied_card {card = card} {before = before} {size = size} within room w entry =
     entry_moves entry (omega (arith, after-long, room)) (rw (long, sub-zero) at front)
 
 module _ {bytes : Text} {child : ℕ} {text path room : Text} where
-  pub tried_made : {r : Card} → EntryCard bytes child text room r.len r.print → CardTried bytes child text path room (Made r)
+  pub tried_made : {r : Card} → EntryCard bytes child text room r.len r.print → CardTried bytes child text path room (Some r)
   tried_made {r} entry =
       record {
         made = λ c e l is. let same : c ≡ r = cc e in rw same (entry.made l is);
         too_long_lem = λ e. absurd (let z : ◌≡◌ {A = ℕ} 0 1 = cc e in omega arith);
       }
 
-  pub tried_long : (524288 ≤ length path → length room < 128 + 128 * length text) → CardTried bytes child text path room Long
+  pub tried_long : (524288 ≤ length path → length room < 128 + 128 * length text) → CardTried bytes child text path room None
   tried_long short = record { made = λ c e. absurd (let z : ◌≡◌ {A = ℕ} 0 1 = cc e in omega arith); too_long_lem = λ e. short }
 
-  pub made_entry : {r : Card} {tried : Tried} → CardTried bytes child text path room tried → tried ≡ Made r → EntryCard bytes child text room r.len r.print
+  pub made_entry : {r : Card} {tried : Option Card} → CardTried bytes child text path room tried → tried ≡ Some r → EntryCard bytes child text room r.len r.print
   made_entry {r} tried e = record { made = λ l is. tried.made r e l is }
 
 -- ---- An entry's text and path, as they are lent
@@ -601,3 +599,18 @@ module _ {bytes source trail : Text} {b : Book} where
               (card_tells (c.entry p.tree p.tree_is) c.here);
         };
       }
+
+  -- and so the cards were dealt up to the last entry's
+  pub dealt_end :
+      {room : ℕ} {deck : Text} {i at : ℕ}
+      → DealtTo bytes source trail b deck (record { entries = i; at = at })
+      → EntriesParsed bytes source trail b
+      → BookOver (length source) b
+      → b.count ≤ i
+      → DealtOn room bytes source trail b deck (record { entries = b.count; at = at })
+  dealt_end {room} {deck} {i} {at} dealt parsed over ended =
+      let last : i ≡ b.count = omega (arith, dealt.few, ended) in
+      subst
+      (λ (n : ℕ). DealtOn room bytes source trail b deck (record { entries = n; at = at }))
+      last
+      (record { dealt = dealt; all = λ e. dealt_all dealt parsed over e; stopped = λ h. absurd (omega arith) })

@@ -1,5 +1,5 @@
 -- The cards of old entries' keys, and the deck of them.
-use Rattle.std.specs.Prelude.{◌≡◌, List, ℕ, ◌+◌, ◌*◌, ◌/◌, ◌%◌, ◌≤◌, ◌<◌, length, take, drop, get_or, set}
+use Rattle.std.specs.Prelude.{Option, Some, None, ◌≡◌, List, ℕ, ◌+◌, ◌*◌, ◌/◌, ◌%◌, ◌≤◌, ◌<◌, length, take, drop, get_or, set}
 use Rattle.semantics.specs.Text.{Text}
 use Rattle.semantics.specs.Lens.{Lens, get, key_of}
 use Rattle.semantics.specs.Table.{trees, tree_at, lens}
@@ -10,8 +10,6 @@ use Rattle.books.specs.Listed.{text_at}
 use Rattle.books.specs.Looking.{trail_of, card_place, Dealt}
 use Rattle.cards.specs.declared.Card.{Card}
 use Rattle.decks.specs.declared.deck.Dealing.{Dealing}
-use Rattle.decks.specs.declared.deck.Tried.{Tried}
-use Rattle.decks.specs.declared.deck.Tried.TheVariants.{Made, Long}
 
 -- ---- The card of an old entry
 
@@ -22,9 +20,9 @@ pub record PathRoom (marks path : List ℕ) : Type 0 where
 
 -- The card of an entry's key, that of its own sheet, begins the room. Or the sheet, which has at most 128 bytes for each byte of the entry, and for an empty one, does not
 -- fit the room, or its path not the room for that.
-pub record CardTried (bytes : Text) (child : ℕ) (text path room : Text) (r : Tried) : Type 0 where
-  pub made : (c : Card) → r ≡ Made c → (l : Lens) → tree_at (trees bytes) child ≡ lens l → CardAt (key_of l (get l text)) room c.len c.print
-  pub too_long_lem : r ≡ Long → 524288 ≤ length path → length room < 128 + 128 * length text
+pub record CardTried (bytes : Text) (child : ℕ) (text path room : Text) (r : Option Card) : Type 0 where
+  pub made : (c : Card) → r ≡ Some c → (l : Lens) → tree_at (trees bytes) child ≡ lens l → CardAt (key_of l (get l text)) room c.len c.print
+  pub too_long_lem : r ≡ None → 524288 ≤ length path → length room < 128 + 128 * length text
 
 -- The four bytes of an entry's head were set.
 pub record HeadPut (before : Text) (i print at : ℕ) (after : Text) : Type 0 where

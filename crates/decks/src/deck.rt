@@ -1,6 +1,6 @@
 // The deck: the old source, in the first 4,096 bytes; its path, in the next 4,096; for each of 256 entries one byte of its key's fingerprint, and three for where
 // its card stands; and then the cards, one behind the other. A sheet that is made for its key stands, until it has its card, where the card will.
-ghost use Rattle.std.specs.Prelude.{◌≡◌, ◌+◌, ◌*◌, ◌≤◌, ◌<◌, min, length};
+ghost use Rattle.std.specs.Prelude.{◌≡◌, ◌+◌, ◌*◌, ◌≤◌, ◌<◌, length};
 ghost use Rattle.semantics.specs.Text.{Text};
 ghost use Rattle.semantics.specs.Lens.{source};
 ghost use Rattle.automaton.specs.Built.{Built};
@@ -17,7 +17,7 @@ use books::Book;
 use cards::{Card, seal};
 use lens::Mode;
 use lens::read::{emit, read_text};
-use texts::{Wrote, write_text};
+use texts::write_text;
 
 // How far the cards of a book have come: so many entries have theirs, and the last one ends at `at`.
 #[derive(Clone, Copy)]
@@ -26,20 +26,8 @@ pub struct Dealing {
     pub at: usize,
 }
 
-// What making the card of an old entry came to: the card, or there was no room for the entry's sheet or its path.
-#[derive(Clone, Copy)]
-enum Tried {
-    Made(Card),
-    Long,
-}
-
-fn smaller(a: usize, b: usize) -> usize
-    ensures { result ≡ min a b }
-{
-    if a < b { a } else { b }
-}
-
-// The card of an old entry's key, that of its own sheet. The sheet is made in the room first, and the card then put in its place.
+// The card of an old entry's key, that of its own sheet; none where there is no room for the sheet or its path. The sheet is made in the room first, and the card then put in its
+// place.
 fn sheet_card(
     bytes: &[u8],
     prepared: &[u64],
@@ -51,26 +39,22 @@ fn sheet_card(
     path: &mut [u8],
     card: &mut [u8],
     room: &mut [u8],
-) -> Tried
+) -> Option<Card>
     requires lens_node { LensNode bytes.now prepared.now child }
     requires parsed { Parsed bytes.now child source base trail.now text.now }
     requires text_len_bound { (length text.now ≤ 4096) × (length card.old ≡ 4098) × (4098 ≤ length room.old) }
     requires path_room { PathRoom marks.old path.old }
     ensures { CardTried bytes.now child text.now path.old room.new result }
 {
-    let most = smaller(path.len(), room.len());
+    let most = path.len().min(room.len());
     let sheet = &mut room[0..most];
-    let wrote = emit(bytes, prepared, child, Mode::Get, base, text, trail, sheet);
-    let Wrote::Count(n) = wrote else {
-        return Tried::Long;
-    };
+    let n = emit(bytes, prepared, child, Mode::Get, base, text, trail, sheet)?;
     let made = &room[0..n];
     let behind = &mut card[2..];
     let key = read_text(bytes, prepared, child, Mode::Key, made, marks, path, behind);
     let sealed = seal(card, key);
-    let len = sealed.len;
-    write_text(&card[0..len], room);
-    Tried::Made(sealed)
+    write_text(&card[0..sealed.len], room);
+    Some(sealed)
 }
 
 // The card of an old entry's key, at the beginning of the room. Where there is no union below, the key is read off the source and no sheet is made.
@@ -86,7 +70,7 @@ fn entry_card(
     path: &mut [u8],
     card: &mut [u8],
     room: &mut [u8],
-) -> Tried
+) -> Option<Card>
     requires lens_node { LensNode bytes.now prepared.now child }
     requires parsed { Parsed bytes.now child source base trail.now text.now }
     requires below_is { BelowIs bytes.now below.now }
@@ -111,8 +95,7 @@ fn entry_card(
         trail,
         behind,
     );
-    let sealed = seal(slot, key);
-    Tried::Made(sealed)
+    Some(seal(slot, key))
 }
 
 // The head of entry i: a byte of its key's fingerprint, and where its card stands.
@@ -146,8 +129,7 @@ pub fn move_deck(from: &[u8], dealt: Dealing, deck: &mut [u8])
     requires { (9216 ≤ dealt.at) × (dealt.at ≤ length from.now) × (dealt.at ≤ length deck.old) }
     ensures { (bytes source trail : Text) (b : Book) → MovedTo bytes source trail b from.now deck.new dealt }
 {
-    let at = dealt.at;
-    write_text(&from[0..at], deck);
+    write_text(&from[0..dealt.at], deck);
 }
 
 // The cards of the next entries are put behind those that are there, as long as there is room. The promise limits: how far it comes is left open where the deck, or the room
@@ -173,10 +155,8 @@ pub fn deal(
     requires dealt_to { DealtTo bytes.now source.now trail.now book deck.old dealt × (length deck.old < 16777216) }
     ensures { DealtOn (length path.old) bytes.now source.now trail.now book deck.new result }
 {
-    let count = book.count;
     let mut at = dealt.at;
-    let mut i = dealt.entries;
-    while i < count {
+    for i in dealt.entries..book.count {
         if deck.len() < at + Book::CARD {
             return Dealing { entries: i, at };
         }
@@ -187,15 +167,16 @@ pub fn deal(
         let text = &source[start..end];
         let track = &trail[start..end];
         let room = &mut deck[at..];
-        let tried = entry_card(
+        let Some(made) = entry_card(
             bytes, prepared, child, base, text, track, below, marks, path, card, room,
-        );
-        let Tried::Made(made) = tried else {
+        ) else {
             return Dealing { entries: i, at };
         };
         put_head(deck, i, made.print, at);
         at += made.len;
-        i += 1;
     }
-    Dealing { entries: i, at }
+    Dealing {
+        entries: book.count,
+        at,
+    }
 }

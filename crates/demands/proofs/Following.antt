@@ -1,6 +1,6 @@
 -- Two calls, one after the other: what the second gives, from what the first gave.
 use mathlib.Core.Path.{◌≡◌, refl, sym, ap, ◌∙◌, subst}
-use Prim.Native.Nat.{ℕ, ◌-◌, ◌≤◌}
+use Prim.Native.Nat.{ℕ, ◌≤◌}
 use native.Mathlib.Omega.{arith}
 use lib.ListN.{length, take, drop, length-append, length-replicate}
 use lib.Seq.{take-append_seam}
@@ -9,10 +9,10 @@ use Rattle.semantics.specs.Calls.{gives, refuses, buffer_after}
 use Rattle.semantics.specs.Calls.{Answer as Outcome}
 use Rattle.semantics.specs.Tally.{Tally}
 use Rattle.laws.specs.Basics.{never}
-use Rattle.answers.specs.declared.Answer.{Answer}
-use Rattle.answers.specs.declared.Answer.TheVariants.{Result, Refusal}
-use Rattle.answers.specs.declared.PutAnswer.{PutAnswer}
-use Rattle.answers.specs.Outcomes.{answer_for, GivesText, GivesSource, untallied}
+use Rattle.std.specs.Prelude.{replicate, Ok, Err}
+use Rattle.table.specs.declared.Refusal.{Refusal}
+use Rattle.table.specs.Prepared.{refusal}
+use Rattle.answers.specs.Outcomes.{Answer, PutAnswer, answer_for, GivesText, GivesSource, untallied}
 use Rattle.answers.specs.Replies.{gives_text}
 use Rattle.engine.specs.Demand3.{Gave, gave_of, of_gave}
 use Rattle.demands.specs.declared.trips.TwoCalls.{TwoCalls}
@@ -23,6 +23,11 @@ use Rattle.demands.specs.Following.{Held, Follows}
 pub blank_length : length blank ≡ 4096
 unfolding blank
 blank_length = length-replicate {A = ℕ} 4096 0
+
+-- the buffer that each call gets
+pub blank_is : {buffer : Text} → buffer ≡ replicate 4096 0 → buffer ≡ blank
+unfolding blank
+blank_is e = e
 
 -- put's answer without its counts, as the calls are made here
 pub gives_plain :
@@ -35,26 +40,26 @@ gives_plain given is = rw is (gives_text given)
 -- ---- The first call
 
 -- what it answered is its outcome
-result_is : (outcome : Outcome Text) (before after : Text) (answer : Answer) (n : ℕ) → GivesText outcome before after answer → answer ≡ Result n
+result_is : (outcome : Outcome Text) (before after : Text) (answer : Answer) (n : ℕ) → GivesText outcome before after answer → answer ≡ Ok n
     → (t : Text) × (outcome ≡ gives t) × (length t ≡ n)
 unfolding answer_for
 result_is (gives t) before after answer n given e =
-    let lengths : Result (length t) ≡ Result n = sym given.answer_is ∙ e in
+    let lengths : ◌≡◌ {A = Answer} (Ok (length t)) (Ok n) = sym given.answer_is ∙ e in
     (t, refl, (cc))
 result_is (refuses number node) before after answer n given e =
-    let wrong : Refusal number node ≡ Result n = sym given.answer_is ∙ e in
+    let wrong : ◌≡◌ {A = Answer} (Err (refusal number node)) (Ok n) = sym given.answer_is ∙ e in
     never (cc)
 
 refusal_is :
-    (outcome : Outcome Text) (before after : Text) (answer : Answer) (number node : ℕ) → GivesText outcome before after answer → answer ≡ Refusal number node
-    → outcome ≡ refuses number node
+    (outcome : Outcome Text) (before after : Text) (answer : Answer) (r : Refusal) → GivesText outcome before after answer → answer ≡ Err r
+    → outcome ≡ refuses r.number r.node
 unfolding answer_for
-refusal_is (gives t) before after answer number node given e =
-    let wrong : Result (length t) ≡ Refusal number node = sym given.answer_is ∙ e in
+refusal_is (gives t) before after answer r given e =
+    let wrong : ◌≡◌ {A = Answer} (Ok (length t)) (Err r) = sym given.answer_is ∙ e in
     never (cc)
-refusal_is (refuses number' node') before after answer number node given e =
-    let same : Refusal number' node' ≡ Refusal number node = sym given.answer_is ∙ e in
-    cc
+refusal_is (refuses number node) before after answer r given e =
+    let same : ◌≡◌ {A = Refusal} (refusal number node) r = let errs : ◌≡◌ {A = Answer} (Err (refusal number node)) (Err r) = sym given.answer_is ∙ e in cc in
+    ap (λ (x : Refusal). refuses x.number x.node) same
 
 -- a text that was given is at the start of the buffer
 pub given_text : (t before after : Text) → after ≡ buffer_after (gives t) before → (take (length t) after ≡ t) × (length t ≤ length after)
@@ -77,7 +82,7 @@ gives_held {outcome} {before} {after} {answer} given =
 module _ {given : Text} {first : Answer} {second : Text → Outcome Text} {before after : Text} {answer : Answer} where
   -- it got the first one's result
   pub follows_result :
-      {n : ℕ} → first ≡ Result n → GivesText (second (take (n - 0) given)) before after answer
+      {n : ℕ} → first ≡ Ok n → GivesText (second (take n given)) before after answer
       → Follows given first second before after answer
   unfolding then_call
   follows_result {n} e made =
@@ -86,19 +91,18 @@ module _ {given : Text} {first : Answer} {second : Text → Outcome Text} {befor
             λ outcome start h.
             let (t, is, long) = result_is outcome start given first n h e in
             let text = (given_text t start given (h.buffer_is ∙ ap (λ o. buffer_after o start) is)).0 in
-            let whole : n - 0 ≡ length t = omega arith in
-            let same : take (n - 0) given ≡ t = ap (λ k. take k given) whole ∙ text in
+            let same : take n given ≡ t = ap (λ k. take k given) (sym long) ∙ text in
             rw is (subst (λ u. GivesText (second u) before after answer) same made);
       }
 
   -- the first one's refusal stands for both
   pub follows_refusal :
-      {number node : ℕ} → first ≡ Refusal number node → after ≡ before → answer ≡ Refusal number node
+      {r : Refusal} → first ≡ Err r → after ≡ before → answer ≡ Err r
       → Follows given first second before after answer
   unfolding then_call answer_for buffer_after
-  follows_refusal {number} {node} e unchanged stands =
+  follows_refusal {r} e unchanged stands =
       record {
-        follows = λ outcome start h. rw (refusal_is outcome start given first number node h e) (record { answer_is = stands; buffer_is = unchanged });
+        follows = λ outcome start h. rw (refusal_is outcome start given first r h e) (record { answer_is = stands; buffer_is = unchanged });
       }
 
 -- ---- Both

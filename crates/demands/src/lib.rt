@@ -4,9 +4,6 @@
 // back what is declared here: `chosen` has put of chosen entries, and `afresh` the linked calls.
 #![tactic(auto)]
 
-ghost use Rattle.std.specs.Prelude.{◌≡◌};
-ghost use Rattle.demands.specs.Demands.{blank};
-
 use answers::PutAnswer;
 use noontrough::{Numbers, PutNumbers};
 
@@ -28,11 +25,4 @@ pub struct LinkedCalls {
     pub given: [u8; 4096],
     pub second: PutNumbers,
     pub again: [u8; 4096],
-}
-
-// The buffer that each call gets.
-pub fn blank_buffer() -> [u8; 4096]
-    ensures { result ≡ blank }
-{
-    [0u8; 4096]
 }

@@ -4,9 +4,9 @@ ghost use Rattle.semantics.specs.Calls.{get_call, put_call, create_call};
 ghost use Rattle.demands.specs.Demands.{Made, Restores, TakesBack};
 ghost use Rattle.demands.specs.Following.{Held, Follows};
 
-use crate::blank_buffer;
 use answers::Answer;
 use answers::results::without_tally;
+use arrays::filled;
 use engine::create::create;
 use engine::get::get;
 use engine::put::put;
@@ -24,8 +24,8 @@ pub fn get_then_put(bytes: &[u8], source: &[u8]) -> TwoCalls
     ensures made { Made (get_call bytes.now source.now 4096) (λ a. put_call bytes.now a source.now 4096) result }
     ensures demand { Restores bytes.now source.now result }
 {
-    let mut given = blank_buffer();
-    let mut again = blank_buffer();
+    let mut given: [u8; 4096] = filled(0);
+    let mut again: [u8; 4096] = filled(0);
     let first = get(bytes, source, &mut given);
     let second = put_of(bytes, first, &given, source, &mut again);
     TwoCalls {
@@ -40,8 +40,8 @@ pub fn put_then_get(bytes: &[u8], sheet: &[u8], old: &[u8]) -> TwoCalls
     ensures made { Made (put_call bytes.now sheet.now old.now 4096) (λ t. get_call bytes.now t 4096) result }
     ensures demand { TakesBack sheet.now result }
 {
-    let mut given = blank_buffer();
-    let mut again = blank_buffer();
+    let mut given: [u8; 4096] = filled(0);
+    let mut again: [u8; 4096] = filled(0);
     let first = without_tally(put(bytes, sheet, old, &mut given));
     let second = get_of(bytes, first, &given, &mut again);
     TwoCalls {
@@ -56,8 +56,8 @@ pub fn create_then_get(bytes: &[u8], sheet: &[u8]) -> TwoCalls
     ensures made { Made (create_call bytes.now sheet.now 4096) (λ t. get_call bytes.now t 4096) result }
     ensures demand { TakesBack sheet.now result }
 {
-    let mut given = blank_buffer();
-    let mut again = blank_buffer();
+    let mut given: [u8; 4096] = filled(0);
+    let mut again: [u8; 4096] = filled(0);
     let first = create(bytes, sheet, &mut given);
     let second = get_of(bytes, first, &given, &mut again);
     TwoCalls {
@@ -73,10 +73,8 @@ fn put_of(bytes: &[u8], first: Answer, given: &[u8], source: &[u8], again: &mut 
     requires { Held given.now first }
     ensures { Follows given.now first (λ a. put_call bytes.now a source.now (length again.old)) again.old again.new result }
 {
-    match first {
-        Answer::Result { length } => { without_tally(put(bytes, &given[0..length], source, again)) }
-        Answer::Refusal { number, node } => Answer::Refusal { number, node },
-    }
+    let length = first?;
+    without_tally(put(bytes, &given[..length], source, again))
 }
 
 // Get of the source that a first call gave.
@@ -84,8 +82,6 @@ fn get_of(bytes: &[u8], first: Answer, given: &[u8], again: &mut [u8]) -> Answer
     requires { Held given.now first }
     ensures { Follows given.now first (λ t. get_call bytes.now t (length again.old)) again.old again.new result }
 {
-    match first {
-        Answer::Result { length } => get(bytes, &given[0..length], again),
-        Answer::Refusal { number, node } => Answer::Refusal { number, node },
-    }
+    let length = first?;
+    get(bytes, &given[..length], again)
 }

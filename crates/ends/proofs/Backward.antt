@@ -1,6 +1,7 @@
 -- The pass backward: a byte put in front of a text, and the flags that are set place by place. Assumes nothing.
 use mathlib.Core.Path.{◌≡◌, refl, sym, ap, ◌∙◌}
-use mathlib.Core.Bool.{Bool, true}
+use mathlib.Core.Bool.{Bool, true, false}
+use mir.Val.{bool_byte}
 use mathlib.Core.List.{List, ◌∷◌}
 use mathlib.Core.Logic.Iff
 use mathlib.Core.Logic.{◌↔◌, ◌≢◌, ⊎_elim}
@@ -68,6 +69,14 @@ retreated {c = c} {begins = begins} room stood told step =
     }
 
 -- ---- The flags
+
+-- a test as a flag
+pub flag_is : {here : Bool} {v : ℕ} → v ≡ bool_byte here → eqb v 1 ≡ here
+flag_is {here} is = rw is (go here)
+  where
+    go : (b : Bool) → eqb (bool_byte b) 1 ≡ b
+    go true = refl
+    go false = refl
 
 module _ (flags : List ℕ) (i v : ℕ) where
   -- the flag that is written

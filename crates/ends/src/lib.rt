@@ -9,8 +9,9 @@ ghost use Rattle.automaton.specs.Rows.{Room, Describes};
 ghost use Rattle.language.specs.Sets.{Leads};
 ghost use Rattle.ends.specs.Places.{Retreated, flagged, Flagged, ReadTo, NextEnd, TwoEnds};
 
+use arrays::filled;
 use automaton::Automaton;
-use language::{Run, advance, fill_leads, no_leads, standing, step_back};
+use language::{LEADS, Run, advance, fill_leads, standing, step_back};
 use positions::Set;
 
 // The two smallest ends that the first half can have in a cut of a text.
@@ -35,18 +36,11 @@ fn retreat(prepared: &[u64], b: Automaton, leads: &[u64], behind: Set, byte: u8)
     requires leads { Leads prepared.now b leads.now }
     ensures { Retreated prepared.now b byte behind result }
 {
-    let begins = b.first;
     let here = standing(prepared, b, behind, byte);
     Run {
-        here: begins.meets(here),
+        here: b.first.meets(here),
         set: step_back(prepared, b, leads, behind, byte),
     }
-}
-
-fn flag(here: bool) -> u8
-    ensures { eqb result 1 ≡ here }
-{
-    if here { 1 } else { 0 }
 }
 
 // The flag of each place tells whether the rest of the text belongs.
@@ -57,12 +51,10 @@ fn flag_rests(prepared: &[u64], b: Automaton, leads: &[u64], text: &[u8], flags:
     ensures { Flagged prepared.now b text.now 0 flags.new }
 {
     let mut behind = b.last;
-    let mut i = text.len();
-    flags[i] = flag(b.nullable);
-    while 0 < i {
-        i -= 1;
+    flags[text.len()] = u8::from(b.nullable);
+    for i in (0..text.len()).rev() {
         let run = retreat(prepared, b, leads, behind, text[i]);
-        flags[i] = flag(run.here);
+        flags[i] = u8::from(run.here);
         behind = run.set;
     }
 }
@@ -74,12 +66,7 @@ fn may_end(place: Place, flags: &[u8]) -> bool
     requires { place.at < length flags.now }
     ensures { result ≡ (place.run.here && flagged flags.now place.at) }
 {
-    let run = place.run;
-    let at = place.at;
-    if run.here {
-        return flags[at] == 1;
-    }
-    false
+    place.run.here && flags[place.at] == 1
 }
 
 // The next place.
@@ -89,15 +76,14 @@ fn pass(prepared: &[u64], a: Automaton, text: &[u8], place: Place) -> Place
     requires read_to { ReadTo prepared.now a text.now place }
     ensures { (result.at ≡ place.at + 1) × ReadTo prepared.now a text.now result }
 {
-    let run = place.run;
-    let at = place.at;
     Place {
-        at: at + 1,
-        run: advance(prepared, a, run, text[at]),
+        at: place.at + 1,
+        run: advance(prepared, a, place.run, text[place.at]),
     }
 }
 
 // The first place from a given one on at which the first half may end; the text's length where it may end at none before.
+// Kept by hand as a `while`: the place itself counts.
 fn next_end(prepared: &[u64], a: Automaton, text: &[u8], flags: &[u8], from: Place) -> Place
     requires room { Room a prepared.now }
     requires text_in_bounds { length text.now < length flags.now }
@@ -120,24 +106,22 @@ fn two_ends(prepared: &[u64], a: Automaton, text: &[u8], flags: &[u8]) -> Ends
     requires text_in_bounds { length text.now < length flags.now }
     ensures { TwoEnds prepared.now a text.now flags.now result }
 {
-    let begins = a.first;
     let run = Run {
         here: a.nullable,
-        set: begins,
+        set: a.first,
     };
-    let start = Place { at: 0, run: run };
-    let place = next_end(prepared, a, text, flags, start);
+    let place = next_end(prepared, a, text, flags, Place { at: 0, run });
     let first = place.at;
     if text.len() <= first {
         return Ends {
-            first: first,
+            first,
             second: first,
         };
     }
     let behind = pass(prepared, a, text, place);
     let other = next_end(prepared, a, text, flags, behind);
     Ends {
-        first: first,
+        first,
         second: other.at,
     }
 }
@@ -149,7 +133,7 @@ pub fn ends_of(prepared: &[u64], a: Automaton, b: Automaton, text: &[u8], flags:
     requires text_in_bounds { length text.now < length flags.old }
     ensures { (r s : Pattern) → Describes r a prepared.now → Describes s b prepared.now → cut_twice r s text.now ≡ true → (result.first ≡ first_end r s text.now) × (result.second ≡ second_end r s text.now) }
 {
-    let mut leads = no_leads();
+    let mut leads: [u64; LEADS] = filled(0);
     fill_leads(prepared, b, &mut leads);
     flag_rests(prepared, b, &leads, text, flags);
     two_ends(prepared, a, text, flags)

@@ -42,25 +42,26 @@ use Rattle.clash.specs.Clash.{
 }
 use Rattle.clash.proofs.Given.{given_broken}
 use Rattle.clash.proofs.Calls.{no_clash_iff, clash_checks, clash_shows, check_clashes, other_refusals, refused_is, long_iff, text_given, ends_smallest}
-use Rattle.answers.specs.declared.ClashAnswer.{ClashAnswer}
-use Rattle.answers.specs.declared.ClashAnswer.TheVariants.{Accepted, Clash, Refusal}
-use Rattle.answers.specs.Outcomes.{clash_answer_for, GivesClash}
+use Rattle.std.specs.Prelude.{Some, None, Ok, Err}
+use Rattle.table.specs.Prepared.{refusal}
+use Rattle.answers.specs.Outcomes.{ClashAnswer, clash_found, clash_answer_for, GivesClash}
+use Rattle.answers.proofs.Parts.{refusal_parts, clash_parts}
 
 -- ---- What each answer says of the outcome
 
--- Accepted says that there is no clash
-accepted_told : (o : Outcome) → (clash_answer_for o ≡ Accepted) ↔ (o ≡ no_clash)
+-- `Ok None` says that there is no clash
+accepted_told : (o : Outcome) → (clash_answer_for o ≡ Ok None) ↔ (o ≡ no_clash)
 unfolding clash_answer_for
 accepted_told no_clash = (λ e. refl, λ e. refl)
 accepted_told (clash number node t ends) = (λ e. never (cc), λ e. never (cc))
 accepted_told (refused number node) = (λ e. never (cc), λ e. never (cc))
 
 -- a refusal says that there is that one
-refusal_told : (o : Outcome) (number node : ℕ) → (clash_answer_for o ≡ Refusal number node) ↔ (o ≡ refused number node)
+refusal_told : (o : Outcome) (number node : ℕ) → (clash_answer_for o ≡ Err (refusal number node)) ↔ (o ≡ refused number node)
 unfolding clash_answer_for
 refusal_told no_clash number node = (λ e. never (cc), λ e. never (cc))
 refusal_told (clash m k t ends) number node = (λ e. never (cc), λ e. never (cc))
-refusal_told (refused m k) number node = (λ e. cc, λ e. cc)
+refusal_told (refused m k) number node = (λ e. let (numbers, nodes) = refusal_parts e in cc, λ e. ap clash_answer_for e)
 
 -- The outcome is a clash with these numbers.
 record Told (o : Outcome) (number node n first second : ℕ) : Type 0 where
@@ -72,11 +73,12 @@ record Told (o : Outcome) (number node n first second : ℕ) : Type 0 where
   second_is : second ≡ ends.1
 
 -- so where a clash is answered
-clash_told : (o : Outcome) {number node n first second : ℕ} → clash_answer_for o ≡ Clash number node n first second → Told o number node n first second
+clash_told : (o : Outcome) {number node n first second : ℕ} → clash_answer_for o ≡ Ok (Some (clash_found number node n first second)) → Told o number node n first second
 unfolding clash_answer_for
 clash_told no_clash e = never (cc)
 clash_told (clash m k t ends) e =
-    record { text = t; ends = ends; outcome_is = cc; length_is = cc; first_is = cc; second_is = cc }
+    let (numbers, nodes, lengths, firsts, seconds) = clash_parts e in
+    record { text = t; ends = ends; outcome_is = cc; length_is = sym lengths; first_is = sym firsts; second_is = sym seconds }
 clash_told (refused m k) e = never (cc)
 
 -- ---- The rule of a number at a node
@@ -138,19 +140,19 @@ module _ (bytes before after : Text) (answer : ClashAnswer) (given : GivesClash 
   answered = (λ e. sym given.answer_is ∙ e, λ e. given.answer_is ∙ e)
 
   -- so a refusal is the outcome's
-  refusal_iff : (number node : ℕ) → (answer ≡ Refusal number node) ↔ (clash_call bytes (length before) ≡ refused number node)
+  refusal_iff : (number node : ℕ) → (answer ≡ Err (refusal number node)) ↔ (clash_call bytes (length before) ≡ refused number node)
   refusal_iff number node = Iff.trans answered (refusal_told (clash_call bytes (length before)) number node)
 
   -- 'Accepted programs answer that no clash exists'
-  pub accepted_iff : (answer ≡ Accepted) ↔ ((n : ℕ) × (check_call bytes ≡ gives n))
+  pub accepted_iff : (answer ≡ Ok None) ↔ ((n : ℕ) × (check_call bytes ≡ gives n))
   accepted_iff = Iff.trans answered (Iff.trans (accepted_told (clash_call bytes (length before))) (no_clash_iff bytes (length before)))
 
   -- 'other refusals come through': 1 to 6, and those that do are Check's
-  pub comes_through_iff : (number node : ℕ) → number ≤ 6 → (answer ≡ Refusal number node) ↔ (check_call bytes ≡ refuses number node)
+  pub comes_through_iff : (number node : ℕ) → number ≤ 6 → (answer ≡ Err (refusal number node)) ↔ (check_call bytes ≡ refuses number node)
   comes_through_iff number node h = Iff.trans (refusal_iff number node) (other_refusals bytes (length before) number node h)
 
   -- 17 is the call's only own refusal, and 'gives node 0'
-  pub own_refusal : (number node : ℕ) → answer ≡ Refusal number node → (number ≤ 6) ⊎ ((number ≡ 17) × (node ≡ 0))
+  pub own_refusal : (number node : ℕ) → answer ≡ Err (refusal number node) → (number ≤ 6) ⊎ ((number ≡ 17) × (node ≡ 0))
   own_refusal number node e = refused_is bytes (length before) number node ((refusal_iff number node).0 e)
 
   -- 'A house that gets 7 to 11': it gets a clash, or 17
@@ -158,7 +160,7 @@ module _ (bytes before after : Text) (answer : ClashAnswer) (given : GivesClash 
       (number node : ℕ)
       → check_call bytes ≡ refuses number node
       → 7 ≤ number
-      → ((n : ℕ) × (first : ℕ) × (second : ℕ) × (answer ≡ Clash number node n first second)) ⊎ (answer ≡ Refusal 17 0)
+      → ((n : ℕ) × (first : ℕ) × (second : ℕ) × (answer ≡ Ok (Some (clash_found number node n first second)))) ⊎ (answer ≡ Err (refusal 17 0))
   unfolding clash_answer_for
   clash_or_long number node e h =
       ⊎_elim
@@ -168,7 +170,7 @@ module _ (bytes before after : Text) (answer : ClashAnswer) (given : GivesClash 
 
   -- 'It refuses with 17 .. only when the shortest text is longer than the lent buffer', and always then
   pub too_long_iff :
-      (answer ≡ Refusal 17 0)
+      (answer ≡ Err (refusal 17 0))
       ↔ ((number : ℕ)
       × (node : ℕ)
       × (check_call bytes ≡ refuses number node)
@@ -179,7 +181,7 @@ module _ (bytes before after : Text) (answer : ClashAnswer) (given : GivesClash 
   -- so no text that breaks the rule fits the buffer
   pub none_fits :
       All IsByte bytes
-      → answer ≡ Refusal 17 0
+      → answer ≡ Err (refusal 17 0)
       → (number : ℕ)
       × (node : ℕ)
       × (check_call bytes ≡ refuses number node)
@@ -191,26 +193,26 @@ module _ (bytes before after : Text) (answer : ClashAnswer) (given : GivesClash 
       (number, node, c, h, λ u b. omega (arith, g.shortest u b, l))
 
   -- a buffer of 16,512 bytes never gets 17
-  pub always_enough : All IsByte bytes → 16512 ≤ length before → ¬ (answer ≡ Refusal 17 0)
+  pub always_enough : All IsByte bytes → 16512 ≤ length before → ¬ (answer ≡ Err (refusal 17 0))
   always_enough all enough e =
       let (number, node, c, h, l) = too_long_iff.0 e in
       omega (arith, (text_given bytes all number node c h).1, l, enough)
 
   -- no clash leaves the buffer as it was
-  pub accepted_unchanged : answer ≡ Accepted → after ≡ before
+  pub accepted_unchanged : answer ≡ Ok None → after ≡ before
   unfolding buffer_after
   accepted_unchanged e =
       let o = (accepted_told (clash_call bytes (length before))).0 (answered.0 e) in
       given.buffer_is ∙ ap (λ o. buffer_after o before) o
 
   -- and so does a refusal
-  pub refusal_unchanged : (number node : ℕ) → answer ≡ Refusal number node → after ≡ before
+  pub refusal_unchanged : (number node : ℕ) → answer ≡ Err (refusal number node) → after ≡ before
   unfolding buffer_after
   refusal_unchanged number node e = given.buffer_is ∙ ap (λ o. buffer_after o before) ((refusal_iff number node).0 e)
 
   -- ---- A clash
 
-  module _ (number node n first second : ℕ) (shown : answer ≡ Clash number node n first second) where
+  module _ (number node n first second : ℕ) (shown : answer ≡ Ok (Some (clash_found number node n first second))) where
     -- the outcome is a clash
     here : Told (clash_call bytes (length before)) number node n first second
     here = clash_told (clash_call bytes (length before)) (answered.0 shown)

@@ -1,7 +1,7 @@
 -- Demand 3, and document 02 (iv), about the calls as they are: what their contracts say (`GivesText`, and for put `GivesSource`: the answer, and the whole buffer
 -- afterwards) with the theorems of `laws` about the definitions of the calls. Put's answer is taken without its counts. `Gave` is document 01's 'What such a call gives is the text of the answered length at the
 -- start of its buffer'; every buffer is 4,096 bytes long; the second call of a pair gets the same table, and the text that the first one gave.
-use Rattle.std.specs.Prelude.{◌≡◌, List, map, ℕ, ◌≤◌, length, take, drop}
+use Rattle.std.specs.Prelude.{◌≡◌, List, map, ℕ, ◌≤◌, length, take, drop, Ok, Err}
 use Rattle.std.proofs.Common.{sym, ap, ◌∙◌, arith}
 use Rattle.std.proofs.Math.Seq.{take-append_seam}
 use Rattle.semantics.specs.Text.{Text, joined, All, Different}
@@ -12,15 +12,13 @@ use Rattle.semantics.specs.Calls.{Answer as Outcome}
 use Rattle.semantics.specs.Tally.{put_tally}
 use Rattle.laws.specs.Demand3.{OneRepeatedEntry, unedited, put_then_get, create_then_get, reordered, found_by_key}
 use Rattle.laws.specs.Shuffle.{selected, PartNumbers, SameKeys, put_each}
-use Rattle.answers.specs.declared.Answer.{Answer}
-use Rattle.answers.specs.declared.Answer.TheVariants.{Result, Refusal}
-use Rattle.answers.specs.declared.PutAnswer.{PutAnswer}
-use Rattle.answers.specs.Outcomes.{answer_for, GivesText, GivesSource, untallied}
+use Rattle.table.specs.Prepared.{refusal}
+use Rattle.answers.specs.Outcomes.{Answer, PutAnswer, answer_for, GivesText, GivesSource, untallied}
 use Rattle.answers.specs.Replies.{gives_text}
 
 -- The call answered a result, whose text is that.
 pub record Gave (after : Text) (answer : Answer) (text : Text) : Type 0 where
-  pub answered : answer ≡ Result (length text)
+  pub answered : answer ≡ Ok (length text)
   pub at_start : take (length text) after ≡ text
 
 -- A call whose definition gives a text gave that text.
@@ -38,12 +36,12 @@ gave_of outcome text before after answer e given =
 pub of_gave : (outcome : Outcome Text) (text before after : Text) (answer : Answer) → GivesText outcome before after answer → Gave after answer text → outcome ≡ gives text
 unfolding answer_for buffer_after
 of_gave (gives t) text before after answer given gave =
-    let lengths : Result (length t) ≡ Result (length text) = sym given.answer_is ∙ gave.answered in
+    let lengths : ◌≡◌ {A = Answer} (Ok (length t)) (Ok (length text)) = sym given.answer_is ∙ gave.answered in
     let same : length t ≡ length text = cc in
     let from : take (length t) after ≡ t = ap (take (length t)) given.buffer_is ∙ take-append_seam t (drop (length t) before) in
     ap gives (sym from ∙ ap (λ n. take n after) same ∙ gave.at_start)
 of_gave (refuses number node) text before after answer given gave =
-    let wrong : Refusal number node ≡ Result (length text) = sym given.answer_is ∙ gave.answered in
+    let wrong : ◌≡◌ {A = Answer} (Err (refusal number node)) (Ok (length text)) = sym given.answer_is ∙ gave.answered in
     absurd (let z : ◌≡◌ {A = ℕ} 0 1 = cc in omega arith)
 
 -- Two calls, one after the other, with buffers of 4,096 bytes: if the definitions lead from what the first gives to what the second gives,

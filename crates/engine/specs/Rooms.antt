@@ -1,20 +1,14 @@
 -- What each call owes, and what came of it in a room.
-use Rattle.std.specs.Prelude.{◌≡◌, ℕ, length}
+use Rattle.std.specs.Prelude.{◌≡◌, ℕ, length, Option, Some, None}
 use Rattle.semantics.specs.Text.{Text}
 use Rattle.semantics.specs.Calls.{check_call, get_call, put_call, create_call}
 use Rattle.semantics.specs.Tally.{put_tally}
-use Rattle.answers.specs.declared.Answer.{Answer}
 use Rattle.answers.specs.declared.Reply.{Reply}
 use Rattle.clash.specs.Clash.{clash_call}
-use Rattle.answers.specs.Outcomes.{answer_for, GivesText, RepliesSource, GivesClash}
+use Rattle.answers.specs.Outcomes.{Answer, answer_for, GivesText, RepliesSource, GivesClash}
 use Rattle.answers.specs.Answers.{TooSmall}
 use Rattle.engine.specs.declared.rooms.Call.{Call}
 use Rattle.engine.specs.declared.rooms.Call.TheVariants.{Check, Get, Put, Create, Line, Clash}
-use Rattle.engine.specs.declared.rooms.Room.{Room}
-use Rattle.engine.specs.declared.rooms.Room.TheVariants.{Small, Middle, Full}
-use Rattle.engine.specs.declared.rooms.Tried.{Tried}
-use Rattle.engine.specs.declared.rooms.Tried.TheVariants.{Done}
-use Rattle.engine.specs.declared.rooms.Tried.TheVariants as T
 use Rattle.readings.specs.Line.{line_call}
 
 -- Check answers, and changes no buffer.
@@ -40,16 +34,10 @@ pub record NoRoom (bytes : Text) (size : ℕ) (before after : Text) : Type 0 whe
   pub too_small : TooSmall bytes size
   pub unchanged : after ≡ before
 
-unfoldable pub TriedIs : ℕ → Call → Text → Text → Text → Text → Text → Tried → Type 0
-TriedIs size call bytes sheet source before after (Done reply) = Owes call bytes sheet source before after reply
-TriedIs size call bytes sheet source before after T.Small = NoRoom bytes size before after
+unfoldable pub TriedIs : ℕ → Call → Text → Text → Text → Text → Text → Option Reply → Type 0
+TriedIs size call bytes sheet source before after (Some reply) = Owes call bytes sheet source before after reply
+TriedIs size call bytes sheet source before after None = NoRoom bytes size before after
 
 -- That came of the call in a room of that size.
-pub record Tries (size : ℕ) (call : Call) (bytes sheet source before after : Text) (tried : Tried) : Type 0 where
+pub record Tries (size : ℕ) (call : Call) (bytes sheet source before after : Text) (tried : Option Reply) : Type 0 where
   pub tried_is : TriedIs size call bytes sheet source before after tried
-
--- how many rooms are larger
-abbrev pub larger : Room → ℕ
-larger Small = 2
-larger Middle = 1
-larger Full = 0

@@ -1,6 +1,6 @@
 -- Document 02, (i), about put's calls as they are: what their contract says (`GivesSource`) with the theorems of `laws` about the counts of a put. A
 -- result's four numbers are its length and the entries kept, made and dropped.
-use Rattle.std.specs.Prelude.{◌≡◌, refl, map, ℕ, ◌+◌, length, take, drop}
+use Rattle.std.specs.Prelude.{◌≡◌, refl, map, ℕ, ◌+◌, length, take, drop, Ok, Err}
 use Rattle.std.proofs.Common.{sym, ap, ◌∙◌}
 use Rattle.std.proofs.Math.Option.{some}
 use Rattle.std.proofs.Math.Seq.{take-append_seam}
@@ -12,10 +12,9 @@ use Rattle.semantics.specs.Tally.{Tally, met, put_tally}
 use Rattle.laws.specs.Basics.{never}
 use Rattle.laws.specs.WellTyped.{stamp}
 use Rattle.laws.specs.Tally.{new_entries, tally_old, tally_new, tally_unedited}
-use Rattle.answers.specs.declared.Answer.{Answer}
-use Rattle.answers.specs.declared.PutAnswer.{PutAnswer}
-use Rattle.answers.specs.declared.PutAnswer.TheVariants.{Result, Refusal}
-use Rattle.answers.specs.Outcomes.{put_answer_for, GivesText, GivesSource}
+use Rattle.table.specs.Prepared.{refusal}
+use Rattle.answers.specs.Outcomes.{Answer, PutAnswer, sourced, put_answer_for, GivesText, GivesSource}
+use Rattle.answers.proofs.Parts.{sourced_parts}
 use Rattle.engine.specs.Demand3.{Gave, of_gave}
 
 -- The source that put gave stands at the start of its buffer, and the numbers are its length and its counts.
@@ -30,22 +29,21 @@ record Counted (outcome : Outcome Text) (tally : Tally) (after : Text) (n kept m
 counted :
     (outcome : Outcome Text) (tally : Tally) (before after : Text) (answer : PutAnswer) {n kept made dropped : ℕ}
     → GivesSource outcome tally before after answer
-    → answer ≡ Result n kept made dropped
+    → answer ≡ Ok (sourced n kept made dropped)
     → Counted outcome tally after n kept made dropped
 unfolding put_answer_for buffer_after
 counted (gives t) tally before after answer {n} {kept} {made} {dropped} given result =
-    let same : Result n kept made dropped ≡ Result (length t) tally.kept tally.made tally.dropped = sym result ∙ given.answer_is in
-    let long : n ≡ length t = cc in
+    let (long, kept_is, made_is, dropped_is) = sourced_parts (sym result ∙ given.answer_is) in
     record {
       text = t;
       gave = refl;
       at_start = rw long (ap (take (length t)) given.buffer_is ∙ take-append_seam t (drop (length t) before));
-      kept_is = cc;
-      made_is = cc;
-      dropped_is = cc;
+      kept_is = kept_is;
+      made_is = made_is;
+      dropped_is = dropped_is;
     }
 counted (refuses number node) tally before after answer {n} {kept} {made} {dropped} given result =
-    let wrong : Result n kept made dropped ≡ Refusal number node = sym result ∙ given.answer_is in
+    let wrong : ◌≡◌ {A = PutAnswer} (Ok (sourced n kept made dropped)) (Err (refusal number node)) = sym result ∙ given.answer_is in
     never (cc)
 
 module _
@@ -55,7 +53,7 @@ module _
     (n kept made dropped : ℕ)
     (is_program : program bytes ≡ gives l)
     (given : GivesSource (put_call bytes a old (length before)) (put_tally bytes a old) before after answer)
-    (result : answer ≡ Result n kept made dropped) where
+    (result : answer ≡ Ok (sourced n kept made dropped)) where
   here : Counted (put_call bytes a old (length before)) (put_tally bytes a old) after n kept made dropped
   here = counted (put_call bytes a old (length before)) (put_tally bytes a old) before after answer given result
 
@@ -78,7 +76,7 @@ pub unedited_counts :
     → GivesText (get_call bytes t (length before)) before after first
     → Gave after first a
     → GivesSource (put_call bytes a t (length before')) (put_tally bytes a t) before' after' second
-    → second ≡ Result n kept made dropped
+    → second ≡ Ok (sourced n kept made dropped)
     → (kept ≡ length (entries l t)) × (made ≡ 0) × (dropped ≡ 0)
 unedited_counts bytes t a before after before' after' first second l n kept made dropped is_program got gave given result =
     let sheet = of_gave (get_call bytes t (length before)) a before after first got gave in

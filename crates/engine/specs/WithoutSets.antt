@@ -8,9 +8,7 @@ use Rattle.semantics.specs.Calls.{check_call, get_call, put_call, create_call}
 use Rattle.semantics.specs.Tally.{put_tally}
 use Rattle.laws.specs.Before as was
 use Rattle.laws.specs.WithoutSets.{NoSets, check_as_before, get_as_before, put_as_before, create_as_before, counts_as_before}
-use Rattle.answers.specs.declared.Answer.{Answer}
-use Rattle.answers.specs.declared.PutAnswer.{PutAnswer}
-use Rattle.answers.specs.Outcomes.{answer_for, GivesText, GivesSource}
+use Rattle.answers.specs.Outcomes.{Answer, PutAnswer, answer_for, GivesText, GivesSource}
 
 module _ (bytes : Text) (without : NoSets (nodes bytes)) where
   pub check_had : (answer : Answer) → answer ≡ answer_for (λ (n : ℕ). n) (check_call bytes) → answer ≡ answer_for (λ (n : ℕ). n) (was.check_call bytes)

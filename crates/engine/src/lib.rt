@@ -7,7 +7,7 @@ ghost use Rattle.answers.specs.Outcomes.{answer_for};
 
 use answers::Answer;
 use lines::put_refused;
-use rooms::{Call, Room, answer_in};
+use rooms::{Call, answer_in};
 
 pub mod create;
 pub mod get;
@@ -19,10 +19,7 @@ pub mod show;
 pub fn check(bytes: &[u8]) -> Answer
     ensures { result ≡ answer_for (λ (n : ℕ). n) (check_call bytes.now) }
 {
-    let none = &bytes[0..0];
-    let mut nothing = [0u8; 1];
-    let reply = answer_in(Room::Small, Call::Check, bytes, none, none, &mut nothing);
-    reply.answer
+    answer_in(Call::Check, bytes, &[], &[], &mut []).answer
 }
 
 // The line that `lenscheck` prints, at the start of a buffer, and its length.
@@ -32,11 +29,8 @@ pub fn lenscheck_line(bytes: &[u8], out: &mut [u8]) -> usize
     ensures answers { result ≡ length (lenscheck_line bytes.now) }
     ensures short { result ≤ 64 }
 {
-    let none = &bytes[0..0];
-    let reply = answer_in(Room::Small, Call::Line, bytes, none, none, out);
-    let answer = reply.answer;
-    match answer {
-        Answer::Result { length } => length,
-        Answer::Refusal { number, node } => put_refused(number, node, out),
+    match answer_in(Call::Line, bytes, &[], &[], out).answer {
+        Ok(length) => length,
+        Err(refusal) => put_refused(refusal.number, refusal.node, out),
     }
 }

@@ -3,13 +3,11 @@ ghost use Rattle.std.specs.Prelude.{length};
 ghost use Rattle.clash.specs.Clash.{clash_call};
 ghost use Rattle.answers.specs.Outcomes.{GivesClash};
 
-use crate::rooms::{Call, Room, answer_in};
+use crate::rooms::{Call, answer_in};
 use answers::ClashAnswer;
 
 pub fn clash(bytes: &[u8], out: &mut [u8]) -> ClashAnswer
     ensures { GivesClash (clash_call bytes.now (length out.old)) out.old out.new result }
 {
-    let none = &bytes[0..0];
-    let reply = answer_in(Room::Small, Call::Clash, bytes, none, none, out);
-    reply.clash
+    answer_in(Call::Clash, bytes, &[], &[], out).clash
 }

@@ -2,6 +2,7 @@
 use mathlib.Core.Path.{◌≡◌, ap, ◌∙◌, subst}
 use Prim.Native.Nat.{ℕ}
 use lib.ListN.{length, length-replicate}
+use Rattle.std.specs.Prelude.{replicate}
 use Rattle.semantics.specs.Text.{Text}
 use Rattle.semantics.specs.Calls.{gives}
 use Rattle.semantics.specs.Calls.{Answer as Outcome}
@@ -16,6 +17,11 @@ use Rattle.exchange.specs.Exchange.{blank, Made}
 blank_length : length blank ≡ 65535
 unfolding blank
 blank_length = length-replicate {A = ℕ} 65535 0
+
+-- the buffer that each call gets
+pub blank_is : {buffer : Text} → buffer ≡ replicate 65535 0 → buffer ≡ blank
+unfolding blank
+blank_is e = e
 
 -- a call that got a blank buffer
 blank_made :

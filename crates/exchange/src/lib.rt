@@ -3,14 +3,15 @@
 // contract they could not be proved.
 #![tactic(auto)]
 
-ghost use Rattle.std.specs.Prelude.{◌≡◌, length};
+ghost use Rattle.std.specs.Prelude.{length};
 ghost use Rattle.sections.specs.Afm.{import_call, export_call};
 ghost use Rattle.demands.specs.Following.{Held, Follows};
-ghost use Rattle.exchange.specs.Exchange.{blank, Made, SameSheet, KeepsPairs};
+ghost use Rattle.exchange.specs.Exchange.{Made, SameSheet, KeepsPairs};
 
 use afm::export::export;
 use afm::import::import;
 use answers::Answer;
+use arrays::filled;
 
 // The answers of two calls, one after the other, and their whole buffers afterwards.
 #[derive(Clone, Copy)]
@@ -25,8 +26,8 @@ pub fn export_then_import(sheet: &[u8]) -> Exchange
     ensures made { Made (export_call sheet.now 65535) (λ x. import_call x 65535) result }
     ensures same_sheet { SameSheet sheet.now result }
 {
-    let mut given = blank_buffer();
-    let mut again = blank_buffer();
+    let mut given: [u8; 65535] = filled(0);
+    let mut again: [u8; 65535] = filled(0);
     let first = export(sheet, &mut given);
     let second = import_of(first, &given, &mut again);
     Exchange {
@@ -41,8 +42,8 @@ pub fn import_then_export(section: &[u8]) -> Exchange
     ensures made { Made (import_call section.now 65535) (λ s. export_call s 65535) result }
     ensures kept { KeepsPairs section.now result }
 {
-    let mut given = blank_buffer();
-    let mut again = blank_buffer();
+    let mut given: [u8; 65535] = filled(0);
+    let mut again: [u8; 65535] = filled(0);
     let first = import(section, &mut given);
     let second = export_of(first, &given, &mut again);
     Exchange {
@@ -58,10 +59,8 @@ fn import_of(first: Answer, given: &[u8], again: &mut [u8]) -> Answer
     requires { Held given.now first }
     ensures { Follows given.now first (λ x. import_call x (length again.old)) again.old again.new result }
 {
-    match first {
-        Answer::Result { length } => import(&given[0..length], again),
-        Answer::Refusal { number, node } => Answer::Refusal { number, node },
-    }
+    let length = first?;
+    import(&given[..length], again)
 }
 
 // Export of the sheet that a first call gave.
@@ -69,15 +68,6 @@ fn export_of(first: Answer, given: &[u8], again: &mut [u8]) -> Answer
     requires { Held given.now first }
     ensures { Follows given.now first (λ s. export_call s (length again.old)) again.old again.new result }
 {
-    match first {
-        Answer::Result { length } => export(&given[0..length], again),
-        Answer::Refusal { number, node } => Answer::Refusal { number, node },
-    }
-}
-
-// The buffer that each call gets.
-fn blank_buffer() -> [u8; 65535]
-    ensures { result ≡ blank }
-{
-    [0u8; 65535]
+    let length = first?;
+    export(&given[..length], again)
 }

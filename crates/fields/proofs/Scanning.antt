@@ -1,77 +1,41 @@
--- The start of a text, asked byte by byte. Assumes nothing.
+-- The start of a text: names, numbers and values. Assumes nothing.
 use mathlib.Core.Path.{◌≡◌, refl, sym, ap, ◌∙◌}
 use mathlib.Core.Bool.{Bool, true, false, not, ◌&&◌, cond}
 use mathlib.Core.List.{[], ◌∷◌}
 use Prim.Native.Nat.{ℕ, suc, ◌+◌, ◌-◌, ◌*◌, ◌≤◌, ◌<◌}
 use native.Mathlib.Omega.{arith}
-use native.Mathlib.Nat.{zero-add, sub-zero}
 use lib.Dec.{eqb, leb, ltb}
 use native.Mathlib.Numerals.{add-one}
 use lib.ListN.{length, take, drop, get_or, drop_of_length-le}
-use lib.Seq.{drop-cons}
-use borrow.Author.Tests.{lt-ltb, le-ltb, le-leb, leb-true, leb-false, ne_eqb}
-use Rattle.semantics.specs.Text.{Text, same_text}
+use lib.Seq.{drop-cons, drop-drop}
+use Rattle.std.proofs.Common.{nat_eq, Bor, inr}
+use Rattle.std.specs.Cmp.Lexicographic.{pointwise}
+use borrow.Author.Tests.{lt-ltb, le-ltb, le-leb, ltb-true, eq-eqb, ne_eqb}
+use Rattle.std.specs.Prelude.{Option, Some, None, MatchOption}
+use Rattle.std.specs.List.{prefix_len}
+use Rattle.std.specs.Char.{is_ascii_graphic}
+use Rattle.semantics.specs.Text.{Text}
 use Rattle.laws.specs.Basics.{cond_true, cond_false, and_of, not_both, false_of_not_true}
-use Rattle.sections.specs.Afm.{semicolon, nought, begins_with, each, is_name_byte, is_name, is_digit, number_from, number_of, leading_zero, is_number, is_value}
-use Rattle.sections.proofs.Splitting.{and_left, and_right, each_both, name_of, number_of_lem, is_number_lem, value_none, value_plain, value_minus, digit_range}
+use Rattle.sections.specs.Afm.{semicolon, kpx_word, nought, begins_with, each, is_name_byte, is_name, is_digit, number_from, number_of, leading_zero, is_number, is_value}
+use Rattle.sections.proofs.Splitting.{is_space, and_left, and_right, each_both, name_of, number_of_lem, is_number_lem, value_none, value_plain, value_minus, digit_range}
 use Rattle.fields.specs.declared.Digits.{Digits}
-use Rattle.fields.specs.declared.Line.{Line}
-use Rattle.fields.specs.declared.Form.TheVariants.{Sheet}
-use Rattle.fields.specs.Scan.{run, front, length_if, name_length, grown, capped_from, number_in, value_front, value_length, separator_length, ends_at, is_pair}
-use Rattle.fields.specs.Runs.{run_more, run_over, run_none, front_length, front_each, length_if_true, length_if_false, word_within, number_in_is}
+use Rattle.fields.specs.declared.Form.TheVariants.{Kpx, Sheet}
+use Rattle.fields.specs.Scan.{run, front, name_length, number_in, value_front, value_length, separator_length, lead_length, IsBehind, NoWord, HasWord, NoLead}
+use Rattle.fields.specs.Runs.{front_length, front_each, length_if_true, length_if_false, number_in_is, number_in_none, number_in_some, byte_same, pairs_same, none_some, word_length_true}
 use Rattle.fields.specs.Lines.{begins_one}
 
--- ---- One byte
+-- ---- One byte, and a run of them
 
-pub byte_first : (t : Text) (b : ℕ) → 0 < length t → begins_with b t ≡ eqb (get_or t 0 0) b
-unfolding begins_with
-byte_first [] b h = absurd (omega arith)
-byte_first (c ∷ t) b h = refl
-
-pub byte_none : (t : Text) (b : ℕ) → length t ≤ 0 → ltb 0 (length t) ≡ begins_with b t
-unfolding begins_with
-byte_none [] b h = refl
-byte_none (c ∷ t) b h = absurd (omega arith)
-
-pub marked : (t : Text) → begins_with 59 t ≡ true → 1 ≡ separator_length Sheet t
-unfolding separator_length
-marked t e = sym (cond_true (begins_with semicolon t) 1 0 e)
-
-pub unmarked : (t : Text) → begins_with 59 t ≡ false → 0 ≡ separator_length Sheet t
-unfolding separator_length
-unmarked t e = sym (cond_false (begins_with semicolon t) 1 0 e)
-
--- ---- A run: the first i bytes pass
-
-pub record RunsOn (test : ℕ → Bool) (t : Text) (i : ℕ) : Type 0 where
-  pub runs_on : run test t ≡ i + run test (drop i t)
-
-pub run_start : (test : ℕ → Bool) (t : Text) → RunsOn test t 0
-run_start test t = record { runs_on = rw (zero-add (run test t)) refl }
-
-module _ {test : ℕ → Bool} {t : Text} {i : ℕ} (inv : RunsOn test t i) where
-  pub run_passed : i < length t → test (get_or t i 0) ≡ true → RunsOn test t (i + 1)
-  run_passed h e = record { runs_on = omega (arith, inv.runs_on, run_more test t i h e) }
-
-  pub run_stopped : i < length t → test (get_or t i 0) ≡ false → i ≡ run test t
-  run_stopped h e = omega (arith, inv.runs_on, run_over test t i h e)
-
-  pub run_ended : length t ≤ i → i ≡ run test t
-  run_ended h = omega (arith, inv.runs_on, run_none test t i h)
-
--- ---- Classes
-
-and-true : (b : Bool) → b && true ≡ b
-and-true true = refl
-and-true false = refl
-
-pub name_byte_mark : (b : ℕ) → b ≡ 59 → false ≡ is_name_byte b
+pub graphic : (b : ℕ) → is_ascii_graphic b && not (eqb b 59) ≡ is_name_byte b
 unfolding is_name_byte
-name_byte_mark b e = rw e refl
+graphic b = refl
 
-pub name_byte_plain : (b : ℕ) → ¬ (b ≡ 59) → is_name_byte b ≡ leb 33 b && leb b 126
-unfolding is_name_byte
-name_byte_plain b e = ap (λ x. (leb 33 b && leb b 126) && not x) (ne_eqb b 59 e) ∙ and-true (leb 33 b && leb b 126)
+pub run_prefix : (test : ℕ → Bool) (t : Text) → prefix_len test t ≡ run test t
+unfolding run
+run_prefix test [] = refl
+run_prefix test (b ∷ t) =
+    let more : 1 + prefix_len test t ≡ suc (run test t) = omega (arith, run_prefix test t) in
+    ap (λ (n : ℕ). cond (test b) n 0) more
 
 -- ---- A name
 
@@ -81,171 +45,124 @@ is_name_lem t some short bytes =
     and_of (leb 1 (length t) && leb (length t) 63) (each is_name_byte t) (and_of (leb 1 (length t)) (leb (length t) 63) (le-leb 1 (length t) some) (le-leb (length t) 63 short)) bytes
 
 module _ (t : Text) where
-  pub name_long : 63 < run is_name_byte t → 0 ≡ name_length t
+  pub name_short : 1 ≤ run is_name_byte t → run is_name_byte t ≤ 63 → run is_name_byte t ≡ name_length t
   unfolding name_length
-  name_long h = sym (length_if_false is_name (front is_name_byte t) (false_of_not_true _ (λ e. absurd (omega (arith, (name_of (front is_name_byte t) e).short, front_length is_name_byte t)))))
+  name_short some short =
+      let is = is_name_lem (front is_name_byte t) (omega (arith, front_length is_name_byte t)) (omega (arith, front_length is_name_byte t)) (front_each is_name_byte t) in
+      sym (length_if_true is_name (front is_name_byte t) is ∙ front_length is_name_byte t)
 
-  pub name_short : run is_name_byte t ≤ 63 → run is_name_byte t ≡ name_length t
+  pub name_none : (1 ≤ run is_name_byte t → run is_name_byte t ≤ 63 → ⊥) → name_length t ≡ 0
   unfolding name_length
-  name_short h = go (leb 1 (run is_name_byte t)) refl
-    where
-      none : is_name (front is_name_byte t) ≡ true → run is_name_byte t < 1 → ⊥
-      none e k = absurd (omega (arith, (name_of (front is_name_byte t) e).some, front_length is_name_byte t))
+  name_none h =
+      length_if_false is_name (front is_name_byte t)
+      (false_of_not_true _ (λ e. h (omega (arith, (name_of (front is_name_byte t) e).some, front_length is_name_byte t)) (omega (arith, (name_of (front is_name_byte t) e).short, front_length is_name_byte t))))
 
-      go : (b : Bool) → leb 1 (run is_name_byte t) ≡ b → run is_name_byte t ≡ length_if is_name (front is_name_byte t)
-      go true e =
-          let some = leb-true 1 (run is_name_byte t) e in
-          sym (length_if_true is_name (front is_name_byte t) (is_name_lem (front is_name_byte t) (omega (arith, front_length is_name_byte t)) (omega (arith, front_length is_name_byte t)) (front_each is_name_byte t)) ∙ front_length is_name_byte t)
-      go false e =
-          let few = leb-false 1 (run is_name_byte t) e in
-          let nothing : run is_name_byte t ≡ 0 = omega arith in
-          nothing ∙ sym (length_if_false is_name (front is_name_byte t) (false_of_not_true _ (λ k. none k few)))
-
--- ---- A number
-
-pub grown_over : (n d : ℕ) → 65535 < n → n ≡ grown n d
-unfolding grown
-grown_over n d h = sym (cond_true (ltb 65535 n) n (10 * n + (d - nought)) (lt-ltb 65535 n h))
-
-pub grown_within : (n d : ℕ) → n ≤ 65535 → 10 * n + (d - 48) ≡ grown n d
-unfolding grown
-grown_within n d h = sym (cond_false (ltb 65535 n) n (10 * n + (d - nought)) (le-ltb 65535 n h))
-
-capped_cons : (n d : ℕ) (t : Text) → capped_from n (d ∷ t) ≡ capped_from (grown n d) t
-unfolding capped_from
-capped_cons n d t = refl
-
-capped_over : (n : ℕ) (t : Text) → 65535 < n → capped_from n t ≡ n
-unfolding capped_from
-capped_over n [] h = refl
-capped_over n (d ∷ t) h = ap (λ m. capped_from m t) (sym (grown_over n d h)) ∙ capped_over n t h
+-- ---- A number: the digits from i on are still to come
 
 number_grows : (n : ℕ) (t : Text) → n ≤ number_from n t
 unfolding number_from
 number_grows n [] = omega arith
 number_grows n (d ∷ t) = omega (arith, number_grows (10 * n + (d - nought)) t)
 
--- Digits write the same number with and without the cap, or both are over 65,535.
-data Agree (capped number : ℕ) : Type 0 where
-  same : capped ≡ number → Agree capped number
-  over : 65535 < capped → 65535 < number → Agree capped number
+number_more : (n d : ℕ) (t : Text) → number_from n (d ∷ t) ≡ number_from (10 * n + (d - 48)) t
+unfolding number_from
+number_more n d t = refl
 
-agree_from : (n : ℕ) (t : Text) → n ≤ 65535 → Agree (capped_from n t) (number_from n t)
-unfolding capped_from number_from
-agree_from n [] h = same refl
-agree_from n (d ∷ t) h = go (leb m 65535) refl (agree_from m t)
-  where
-    m : ℕ
-    m = 10 * n + (d - 48)
-
-    start : capped_from (grown n d) t ≡ capped_from m t
-    start = ap (λ k. capped_from k t) (sym (grown_within n d h))
-
-    go : (b : Bool) → leb m 65535 ≡ b → (m ≤ 65535 → Agree (capped_from m t) (number_from m t)) → Agree (capped_from (grown n d) t) (number_from m t)
-    go true e rest = rw start (rest (leb-true m 65535 e))
-    go false e rest =
-        let large = leb-false m 65535 e in
-        over (omega (arith, start, capped_over m t large)) (omega (arith, number_grows m t))
-
-pub number_capped : (limit : ℕ) (t : Text) → limit ≤ 65535 → capped_from 0 t ≤ limit → capped_from 0 t ≡ number_of t
-unfolding number_of
-number_capped limit t h k = go (agree_from 0 t (omega arith))
-  where
-    go : Agree (capped_from 0 t) (number_from 0 t) → capped_from 0 t ≡ number_from 0 t
-    go (same e) = e
-    go (over p q) = absurd (omega arith)
-
-pub number_over : (limit : ℕ) (t : Text) → limit ≤ 65535 → limit < capped_from 0 t → limit < number_of t
-unfolding number_of
-number_over limit t h k = go (agree_from 0 t (omega arith))
-  where
-    go : Agree (capped_from 0 t) (number_from 0 t) → limit < number_from 0 t
-    go (same e) = omega arith
-    go (over p q) = omega arith
-
--- the digits from i on are still to come
-pub record Counts (t : Text) (i number : ℕ) : Type 0 where
-  pub goes_on : capped_from 0 t ≡ capped_from number (drop i t)
+pub record Counts (limit : ℕ) (t : Text) (i number : ℕ) : Type 0 where
+  pub goes_on : number_of t ≡ number_from number (drop i t)
   pub digits : each is_digit (drop i t) ≡ true
+  pub small : number ≤ limit
 
-pub counts_start : (t : Text) → each is_digit t ≡ true → Counts t 0 0
-counts_start t h = record { goes_on = refl; digits = h }
+pub counts_start : (limit : ℕ) (t : Text) → each is_digit t ≡ true → Counts limit t 0 0
+unfolding number_of
+counts_start limit t h = record { goes_on = refl; digits = h; small = omega arith }
 
-module _ {t : Text} {i number : ℕ} (inv : Counts t i number) (inside : i < length t) where
-  next : (is_digit (get_or t i 0) ≡ true) × (each is_digit (drop (suc i) t) ≡ true)
-  next = each_both is_digit (get_or t i 0) (drop (suc i) t) (ap (each is_digit) (sym (drop-cons t i 0 inside)) ∙ inv.digits)
+module _ {limit : ℕ} {t : Text} {i number : ℕ} (inv : Counts limit t i number) where
+  module _ (inside : i < length t) where
+    next : (is_digit (get_or t i 0) ≡ true) × (each is_digit (drop (suc i) t) ≡ true)
+    next = each_both is_digit (get_or t i 0) (drop (suc i) t) (ap (each is_digit) (sym (drop-cons t i 0 inside)) ∙ inv.digits)
 
-  pub counts_digit : is_digit (get_or t i 0) ≡ true
-  counts_digit = next.0
+    pub counts_digit : 48 ≤ get_or t i 0 × get_or t i 0 ≤ 57
+    counts_digit = digit_range (get_or t i 0) next.0
 
-  pub counts_more : (grew : ℕ) → grew ≡ grown number (get_or t i 0) → Counts t (i + 1) grew
-  counts_more grew e = record {
-    goes_on =
-        inv.goes_on
-        ∙ ap (capped_from number) (drop-cons t i 0 inside)
-        ∙ capped_cons number (get_or t i 0) (drop (suc i) t)
-        ∙ rw (add-one, e) refl;
-    digits = rw add-one next.1;
-  }
+    grows : number_of t ≡ number_from (10 * number + (get_or t i 0 - 48)) (drop (suc i) t)
+    grows = inv.goes_on ∙ ap (number_from number) (drop-cons t i 0 inside) ∙ number_more number (get_or t i 0) (drop (suc i) t)
 
-pub counts_all : {t : Text} {i number : ℕ} → Counts t i number → length t ≤ i → number ≡ capped_from 0 t
-unfolding capped_from
-counts_all {t} {i} {number} inv h = sym (inv.goes_on ∙ ap (capped_from number) (drop_of_length-le t h))
+    pub counts_more : 10 * number + (get_or t i 0 - 48) ≤ limit → Counts limit t (i + 1) (10 * number + (get_or t i 0 - 48))
+    counts_more small = rw add-one (record { goes_on = grows; digits = next.1; small = small })
+
+    pub counts_over : limit < 10 * number + (get_or t i 0 - 48) → limit < number_of t
+    counts_over large = omega (arith, grows, number_grows (10 * number + (get_or t i 0 - 48)) (drop (suc i) t))
+
+  pub counts_all : length t ≤ i → number ≡ number_of t
+  unfolding number_from
+  counts_all h = sym (inv.goes_on ∙ ap (number_from number) (drop_of_length-le t h))
 
 -- ---- Whether digits are a number up to a limit
 
-pub zero_leads : (t : Text) → 1 < length t → eqb (get_or t 0 0) 48 ≡ leading_zero t
+zero_leads : (t : Text) → 1 < length t → get_or t 0 0 ≡ 48 → leading_zero t ≡ true
 unfolding leading_zero
-zero_leads [] h = absurd (omega arith)
-zero_leads (d ∷ t) h =
-    sym (ap (λ x. eqb d 48 && x) (lt-ltb 0 (length t) (omega arith)) ∙ and-true (eqb d 48))
+zero_leads [] h e = absurd (omega arith)
+zero_leads (d ∷ t) h e = and_of (eqb d 48) (ltb 0 (length t)) (eq-eqb d 48 e) (lt-ltb 0 (length t) (omega arith))
 
-pub zero_alone : (t : Text) → length t ≤ 1 → false ≡ leading_zero t
+no_zero_leads : (t : Text) → (1 < length t → ¬ (get_or t 0 0 ≡ 48)) → leading_zero t ≡ false
 unfolding leading_zero
-zero_alone [] h = refl
-zero_alone (d ∷ t) h = sym (and_right (eqb d 48) (ltb 0 (length t)) (le-ltb 0 (length t) (omega arith)))
-
-capped_none : capped_from 0 [] ≡ 0
-unfolding capped_from
-capped_none = refl
-
-length_none : (t : Text) → length t ≡ 0 → t ≡ []
-length_none [] e = refl
-length_none (b ∷ t) e = absurd (omega arith)
+no_zero_leads [] h = refl
+no_zero_leads (d ∷ t) h = go (ltb 0 (length t)) refl
+  where
+    go : (b : Bool) → ltb 0 (length t) ≡ b → eqb d 48 && ltb 0 (length t) ≡ false
+    go true e = and_left (eqb d 48) (ltb 0 (length t)) (ne_eqb d 48 (h (omega (arith, ltb-true 0 (length t) e))))
+    go false e = and_right (eqb d 48) (ltb 0 (length t)) e
 
 module _ (limit : ℕ) (t : Text) where
-  none_in : is_number limit t ≡ false → record { count = 0; number = 0 } ≡ number_in limit t
-  unfolding number_in
-  none_in e = sym (cond_false (is_number limit t) (record { count = length t; number = number_of t }) (record { count = 0; number = 0 }) e)
+  none_in : (is_number limit t ≡ true → ⊥) → None ≡ number_in limit t
+  none_in h = sym (number_in_none limit t (false_of_not_true _ h))
+
+  -- there are none,
+  pub number_empty : length t < 1 → None ≡ number_in limit t
+  number_empty h = none_in (λ is. absurd (omega (arith, (number_of_lem limit t is).some)))
 
   -- a nought stands in front of others,
-  pub number_zero : leading_zero t ≡ true → record { count = 0; number = 0 } ≡ number_in limit t
-  number_zero e = none_in (false_of_not_true _ (λ is. not_both e (number_of_lem limit t is).no_zero))
+  pub number_zero : 1 < length t → get_or t 0 0 ≡ 48 → None ≡ number_in limit t
+  number_zero h e = none_in (λ is. not_both (zero_leads t h e) (number_of_lem limit t is).no_zero)
 
-  module _ (small : limit ≤ 65535) (capped : ℕ) (capped_is : capped ≡ capped_from 0 t) where
-    -- they write more than the limit,
-    pub number_large : limit < capped → record { count = 0; number = 0 } ≡ number_in limit t
-    number_large h =
-        none_in (false_of_not_true _ (λ is. absurd (omega (arith, (number_of_lem limit t is).within, number_over limit t small (omega (arith, capped_is))))))
+  -- they write more than the limit,
+  pub number_large : limit < number_of t → None ≡ number_in limit t
+  number_large h = none_in (λ is. absurd (omega (arith, (number_of_lem limit t is).within)))
 
-    -- or they are a number, unless there are none: then both are 0
-    pub number_is : each is_digit t ≡ true → leading_zero t ≡ false → capped ≤ limit → record { count = length t; number = capped } ≡ number_in limit t
-    number_is digits plain h = go (leb 1 (length t)) refl
-      where
-        e : capped ≡ number_of t
-        e = capped_is ∙ number_capped limit t small (omega (arith, capped_is))
+  -- or they are a number
+  pub number_is :
+      (count number : ℕ)
+      → each is_digit t ≡ true
+      → count ≡ length t
+      → 1 ≤ count
+      → (1 < count → ¬ (get_or t 0 0 ≡ 48))
+      → (number ≡ number_of t) × (number ≤ limit)
+      → Some (record { count = count; number = number }) ≡ number_in limit t
+  number_is count number digits count_is some plain (n, small) =
+      let no_zero = no_zero_leads t (λ h. plain (omega arith)) in
+      rw (count_is, n)
+      (sym (number_in_is limit t (is_number_lem limit t (record { some = omega arith; digits = digits; no_zero = no_zero; within = omega arith }))))
 
-        go : (b : Bool) → leb 1 (length t) ≡ b → record { count = length t; number = capped } ≡ number_in limit t
-        go true k =
-            rw e
-            (sym (number_in_is limit t
-            (is_number_lem limit t (record { some = leb-true 1 (length t) k; digits = digits; no_zero = plain; within = omega (arith, e) }))))
-        go false k =
-            let few = leb-false 1 (length t) k in
-            let nothing : t ≡ [] = length_none t (omega arith) in
-            rw (capped_is, nothing, capped_none) (rw nothing at (none_in (false_of_not_true _ (λ is. absurd (omega (arith, (number_of_lem limit t is).some))))))
+  -- what is known of digits that are none, and of digits that are one
+  pub in_none : None ≡ number_in limit t → is_number limit t ≡ false
+  in_none e = go (is_number limit t) refl
+    where
+      go : (b : Bool) → is_number limit t ≡ b → b ≡ false
+      go true is = absurd (none_some (e ∙ number_in_is limit t is))
+      go false is = refl
 
 -- ---- A value
+
+pub begins_first : (b : ℕ) (t : Text) → 0 < length t → get_or t 0 0 ≡ b → begins_with b t ≡ true
+unfolding begins_with
+begins_first b [] h e = absurd (omega arith)
+begins_first b (c ∷ t) h e = eq-eqb c b e
+
+pub begins_other : (b : ℕ) (t : Text) → (0 < length t → ¬ (get_or t 0 0 ≡ b)) → begins_with b t ≡ false
+unfolding begins_with
+begins_other b [] h = refl
+begins_other b (c ∷ t) h = ne_eqb c b (h (omega arith))
 
 -- digits are a value as they are a number
 digits_value : (d : Text) → each is_digit d ≡ true → is_value d ≡ is_number 32767 d
@@ -264,124 +181,103 @@ front_minus : (t : Text) → value_front (45 ∷ t) ≡ 45 ∷ front is_digit t
 unfolding value_front
 front_minus t = refl
 
-count_in : (limit : ℕ) (d : Text) → (number_in limit d).count ≡ length_if (is_number limit) d
-unfolding number_in length_if
-count_in limit d = go (is_number limit d)
-  where
-    go : (b : Bool) → (cond {A = Digits} b (record { count = length d; number = number_of d }) (record { count = 0; number = 0 })).count ≡ cond b (length d) 0
-    go true = refl
-    go false = refl
+module _ (t : Text) where
+  module _ (plain : begins_with 45 t ≡ false) where
+    abbrev digits : Text
+    digits = front is_digit t
 
-length_if_same : (is is' : Text → Bool) (t : Text) → is t ≡ is' t → length_if is t ≡ length_if is' t
-unfolding length_if
-length_if_same is is' t e = ap (λ b. cond b (length t) 0) e
+    is_same : is_value (value_front t) ≡ is_number 32767 digits
+    is_same = ap is_value (front_plain t plain) ∙ digits_value digits (front_each is_digit t)
 
-pub value_plain_length : (t : Text) → begins_with 45 t ≡ false → (number_in 32767 (front is_digit t)).count ≡ value_length t
-unfolding value_length
-value_plain_length t e =
-    count_in 32767 (front is_digit t)
-    ∙ sym (ap (length_if is_value) (front_plain t e) ∙ length_if_same is_value (is_number 32767) (front is_digit t) (digits_value (front is_digit t) (front_each is_digit t)))
+    pub plain_none : None ≡ number_in 32767 digits → value_length t ≡ 0
+    unfolding value_length
+    plain_none e = length_if_false is_value (value_front t) (is_same ∙ in_none 32767 digits e)
 
-minus_length : (t : Text) → begins_with 45 t ≡ true → value_length t ≡ length_if is_value (45 ∷ front is_digit (drop 1 t))
-unfolding value_length
-minus_length t e = ap (length_if is_value) (ap value_front (begins_one 45 t e).0 ∙ front_minus (drop 1 t))
+    pub plain_some : (found : Digits) → Some found ≡ number_in 32767 digits → (found.count ≡ value_length t) × (0 < found.count)
+    unfolding value_length
+    plain_some found e =
+        let (is, count, number) = number_in_some 32767 digits found e in
+        (count ∙ sym (length_if_true is_value (value_front t) (is_same ∙ is) ∙ ap length (front_plain t plain)), omega (arith, (number_of_lem 32767 digits is).some))
 
--- what is known of a number that is not 0, and of one that is
-in_some : (limit : ℕ) (d : Text) → ¬ ((number_in limit d).number ≡ 0) → (is_number limit d ≡ true) × (0 < number_of d) × ((number_in limit d).count ≡ length d)
-unfolding number_in
-in_some limit d h = go (is_number limit d) refl h
-  where
-    go :
-        (b : Bool)
-        → is_number limit d ≡ b
-        → ¬ ((cond {A = Digits} b (record { count = length d; number = number_of d }) (record { count = 0; number = 0 })).number ≡ 0)
-        → (is_number limit d ≡ true)
-        × (0 < number_of d)
-        × ((cond {A = Digits} b (record { count = length d; number = number_of d }) (record { count = 0; number = 0 })).count ≡ length d)
-    go true e k = (e, omega arith, refl)
-    go false e k = absurd (k refl)
+  module _ (negative : begins_with 45 t ≡ true) where
+    abbrev behind : Text
+    behind = front is_digit (drop 1 t)
 
-in_none : (limit : ℕ) (d : Text) → (number_in limit d).number ≡ 0 → is_number limit d && ltb 0 (number_of d) ≡ false
-unfolding number_in
-in_none limit d h = go (is_number limit d) refl h
-  where
-    go :
-        (b : Bool)
-        → is_number limit d ≡ b
-        → (cond {A = Digits} b (record { count = length d; number = number_of d }) (record { count = 0; number = 0 })).number ≡ 0
-        → b && ltb 0 (number_of d) ≡ false
-    go true e k = le-ltb 0 (number_of d) (omega arith)
-    go false e k = refl
+    minus_front : value_front t ≡ 45 ∷ behind
+    minus_front = ap value_front (begins_one 45 t negative).0 ∙ front_minus (drop 1 t)
 
-module _ (t : Text) (negative : begins_with 45 t ≡ true) (found : Digits) (found_is : found ≡ number_in 32768 (front is_digit (drop 1 t))) where
-  abbrev digits : Text
-  digits = front is_digit (drop 1 t)
+    is_minus : is_value (value_front t) ≡ is_number 32768 behind && ltb 0 (number_of behind)
+    is_minus = ap is_value minus_front ∙ value_minus behind
 
-  pub value_nought : found.number ≡ 0 → 0 ≡ value_length t
-  value_nought e =
-      let none = value_minus digits ∙ in_none 32768 digits (ap (λ f. f.number) (sym found_is) ∙ e) in
-      sym (minus_length t negative ∙ length_if_false is_value (45 ∷ digits) none)
+    pub minus_none : None ≡ number_in 32768 behind → value_length t ≡ 0
+    unfolding value_length
+    minus_none e = length_if_false is_value (value_front t) (is_minus ∙ and_left (is_number 32768 behind) (ltb 0 (number_of behind)) (in_none 32768 behind e))
 
-  known : ¬ (found.number ≡ 0) → (is_number 32768 digits ≡ true) × (0 < number_of digits) × ((number_in 32768 digits).count ≡ length digits)
-  known h = in_some 32768 digits (λ e. h (ap (λ f. f.number) found_is ∙ e))
+    pub minus_nought : (found : Digits) → Some found ≡ number_in 32768 behind → found.number ≡ 0 → value_length t ≡ 0
+    unfolding value_length
+    minus_nought found e zero =
+        let (is, count, number) = number_in_some 32768 behind found e in
+        length_if_false is_value (value_front t) (is_minus ∙ and_right (is_number 32768 behind) (ltb 0 (number_of behind)) (le-ltb 0 (number_of behind) (omega arith)))
 
-  pub value_negative : ¬ (found.number ≡ 0) → 1 + found.count ≡ value_length t
-  value_negative h =
-      let (is, some, count) = known h in
-      let true-value = value_minus digits ∙ and_of (is_number 32768 digits) (ltb 0 (number_of digits)) is (lt-ltb 0 (number_of digits) some) in
-      let all : 1 + found.count ≡ length (45 ∷ digits) = omega (arith, ap (λ f. f.count) found_is ∙ count) in
-      all ∙ sym (minus_length t negative ∙ length_if_true is_value (45 ∷ digits) true-value)
+    pub minus_some : (found : Digits) → Some found ≡ number_in 32768 behind → ¬ (found.number ≡ 0) → 1 + found.count ≡ value_length t
+    unfolding value_length
+    minus_some found e some =
+        let (is, count, number) = number_in_some 32768 behind found e in
+        let true_value = and_of (is_number 32768 behind) (ltb 0 (number_of behind)) is (lt-ltb 0 (number_of behind) (omega arith)) in
+        let all : 1 + found.count ≡ length (45 ∷ behind) = omega arith in
+        all ∙ sym (length_if_true is_value (value_front t) (is_minus ∙ true_value) ∙ ap length minus_front)
 
--- ---- A word, and the digits at the start
+-- ---- Answers of nothing
 
-pub word_none : (word t : Text) → length t < length word → false ≡ same_text (take (length word) t) word
-word_none word t h = sym (false_of_not_true _ (λ e. absurd (omega (arith, word_within word t e))))
+pub nothing : {X : Type 0} {r : Option X} {P : Type 0} (Q : X → Type 0) → r ≡ None → P → MatchOption r P Q
+nothing {X} {r} {P} Q e p = rw e p
 
-pub digits_front : (t : Text) (n : ℕ) → n ≡ run is_digit t → take (n - 0) t ≡ front is_digit t
+pub digits_front : (t : Text) (n : ℕ) → n ≡ run is_digit t → take n t ≡ front is_digit t
 unfolding front
-digits_front t n e = ap (λ (k : ℕ). take k t) (sub-zero n ∙ e)
+digits_front t n e = ap (λ (k : ℕ). take k t) e
 
--- ---- Whether all of a line is there, asked part by part
+-- ---- What is behind spaces, a separator, a word and a lead
 
-first_fails : (a b c : Bool) → a ≡ false → false ≡ a && b && c
-first_fails a b c e = sym (and_left (a && b) c (and_left a b e))
+pub marked : (t : Text) → pointwise nat_eq (take 1 t) (59 ∷ []) ≡ true → 1 ≡ separator_length Sheet t
+unfolding separator_length
+marked t e = sym (cond_true (begins_with semicolon t) 1 0 (sym (byte_same 59 t) ∙ e))
 
-second_fails : (a b c : Bool) → b ≡ false → false ≡ a && b && c
-second_fails a b c e = sym (and_left (a && b) c (and_right a b e))
+pub unmarked : (t : Text) → pointwise nat_eq (take 1 t) (59 ∷ []) ≡ false → separator_length Sheet t ≡ 0
+unfolding separator_length
+unmarked t e = cond_false (begins_with semicolon t) 1 0 (sym (byte_same 59 t) ∙ e)
 
-third_tells : (a b c : Bool) → a ≡ true → b ≡ true → c ≡ a && b && c
-third_tells a b c p q = rw (p, q) refl
+pub separator_of_mark :
+    (t : Text) (r : Option (Bor Text))
+    → MatchOption r (pointwise nat_eq (take 1 t) (59 ∷ []) ≡ false) (λ x. (pointwise nat_eq (take 1 t) (59 ∷ []) ≡ true) × (x.now ≡ drop 1 t) × (length x.now + 1 ≡ length t))
+    → MatchOption r (separator_length Sheet t ≡ 0) (λ rest. IsBehind (separator_length Sheet t) t rest.now)
+separator_of_mark t None e = unmarked t e
+separator_of_mark t (Some x) (e, rest, n) = let one = marked t e in (omega arith, rest ∙ ap (λ (k : ℕ). drop k t) one)
 
-module _ (t : Text) (line : Line) where
-  -- the left name and what separates it, the right one, and the value with the newline
-  abbrev lefts : Bool
-  lefts = ltb line.left line.between && ltb line.between line.right
+pub separator_of_spaces :
+    (t : Text) (r : Option (Bor Text))
+    → MatchOption r (run is_space t ≡ 0) (λ rest. IsBehind (run is_space t) t rest.now)
+    → MatchOption r (separator_length Kpx t ≡ 0) (λ rest. IsBehind (separator_length Kpx t) t rest.now)
+unfolding separator_length
+separator_of_spaces t r h = h
 
-  abbrev rights : Bool
-  rights = ltb line.right line.behind && ltb line.behind line.value
+pub word_behind :
+    (word t : Text) (rest : Text) (r : Option (Bor Text))
+    → pointwise nat_eq (take (length word) t) word ≡ true
+    → rest ≡ drop (length word) t
+    → MatchOption r (run is_space rest ≡ 0) (λ x. IsBehind (run is_space rest) rest x.now)
+    → MatchOption r (NoWord word t) (λ x. HasWord word t x.now)
+word_behind word t rest None e is h = inr (ap (run is_space) (sym is) ∙ h)
+word_behind word t rest (Some x) e is h =
+    let starts = sym (pairs_same (take (length word) t) word) ∙ e in
+    let some : 0 < run is_space (drop (length word) t) = rw (sym is) h.0 in
+    let whole : x.now ≡ drop (length word + run is_space (drop (length word) t)) t =
+    h.1 ∙ ap (λ (u : Text). drop (run is_space u) u) is ∙ drop-drop (run is_space (drop (length word) t)) (length word) t in
+    (starts, some, whole ∙ ap (λ (k : ℕ). drop k t) (sym (word_length_true word t starts some)))
 
-  abbrev values : Bool
-  values = ends_at t line.value line.end
-
-  pub no_left : lefts ≡ false → false ≡ is_pair t line
-  unfolding is_pair
-  no_left e = first_fails lefts rights values e
-
-  pub no_right : rights ≡ false → false ≡ is_pair t line
-  unfolding is_pair
-  no_right e = second_fails lefts rights values e
-
-  pub value_tells : lefts ≡ true → rights ≡ true → values ≡ is_pair t line
-  unfolding is_pair
-  value_tells l r = third_tells lefts rights values l r
-
-module _ (t : Text) (from end : ℕ) where
-  pub nothing_between : end ≤ from → ltb from end ≡ ends_at t from end
-  unfolding ends_at
-  nothing_between h =
-      let e = le-ltb from end h in
-      e ∙ ap (λ b. b && begins_with 10 (drop end t)) (sym e)
-
-  pub newline_tells : from < end → begins_with 10 (drop end t) ≡ ends_at t from end
-  unfolding ends_at
-  newline_tells h = ap (λ b. b && begins_with 10 (drop end t)) (sym (lt-ltb from end h))
+pub lead_of_word :
+    (t : Text) (r : Option (Bor Text))
+    → MatchOption r (NoWord kpx_word t) (λ x. HasWord kpx_word t x.now)
+    → MatchOption r (NoLead Kpx t) (λ rest. rest.now ≡ drop (lead_length Kpx t) t)
+unfolding NoLead lead_length
+lead_of_word t None h = h
+lead_of_word t (Some x) h = h.2

@@ -13,9 +13,9 @@ use Rattle.sections.specs.Afm.{newline, space, semicolon, minus, begins_with, ea
 use Rattle.sections.proofs.Splitting.{is_not, is_space, not_is, space_is, each_join, each_weaker, each_both, name_of, name_clean, value_clean, name_some, value_some, value_minus, value_plain, value_none, number_of_lem, name_begins, value_begins, begins_at, begins_none, newline_no_name, space_no_name, semicolon_no_name, lines_first, lines_ended}
 use Rattle.fields.specs.declared.Form.{Form}
 use Rattle.fields.specs.declared.Form.TheVariants.{Kpx, Sheet}
-use Rattle.fields.specs.declared.Line.{Line}
-use Rattle.fields.specs.Scan.{run, front, length_if, name_length, value_front, value_length, separator_length, word_length, lead_length, LineAt, ends_at, is_pair}
-use Rattle.fields.specs.Runs.{run_passes, run_ends, run_within, front_length, run_each, length_if_true, length_if_false, word_length_true, word_length_false}
+use Rattle.fields.specs.declared.PairLine.{PairLine}
+use Rattle.fields.specs.Scan.{run, front, length_if, name_length, value_front, value_length, separator_length, word_length, lead_length, Line, LineAt, ends_at, is_pair}
+use Rattle.fields.specs.Runs.{run_passes, run_ends, run_within, front_length, run_each, length_if_true, length_if_false, word_length_true, word_length_false, lead_within, name_within, value_within, separator_within}
 use Rattle.fields.specs.Shapes.{form_of, Separates, AfterWord, Leads, Body, body_of, Shape, shape_read, read_shape}
 
 -- ---- What is found in front of other text
@@ -479,3 +479,92 @@ module _ (form : Form) (t : Text) (at : Line) (places : LineAt form t at) where
       go : (lines : List Text) → (lines_of t).ended ≡ lines → pairs_of (form_of form) lines ≡ record { pairs = []; behind = lines }
       go [] e = refl
       go (line ∷ lines) e = first_none line lines (form_of form line) e refl
+
+-- ---- The line with a pair at the start of a text, as it is answered
+
+-- the places of its fields, one behind the other
+unfoldable pub places : Form → Text → Line
+places form t =
+    let left = lead_length form t in
+    let between = left + name_length (drop left t) in
+    let right = between + separator_length form (drop between t) in
+    let behind = right + name_length (drop right t) in
+    let value = behind + separator_length form (drop behind t) in
+    record {
+      left = left;
+      between = between;
+      right = right;
+      behind = behind;
+      value = value;
+      end = value + value_length (drop value t);
+    }
+
+-- one place more lies in the text
+further : (t : Text) (a n : ℕ) → a ≤ length t → n ≤ length (drop a t) → a + n ≤ length t
+further t a n h k = omega (arith, length-drop a t)
+
+pub places_at : (form : Form) (t : Text) → LineAt form t (places form t)
+unfolding places
+places_at form t =
+    let at = places form t in
+    let between = further t at.left _ (lead_within form t) (name_within (drop at.left t)) in
+    let right = further t at.between _ between (separator_within form (drop at.between t)) in
+    let behind = further t at.right _ right (name_within (drop at.right t)) in
+    let value = further t at.behind _ behind (separator_within form (drop at.behind t)) in
+    record {
+      left_is = refl;
+      between_is = refl;
+      right_is = refl;
+      behind_is = refl;
+      value_is = refl;
+      end_is = refl;
+      within = further t at.value _ value (value_within (drop at.value t));
+    }
+
+-- no line with a pair stands there
+abbrev pub NoPair : Form → Text → Type 0
+NoPair form t = is_pair t (places form t) ≡ false
+
+abbrev pub pair_in : PairLine → Pair
+pair_in line = record { left = line.left.now; right = line.right.now; value = line.value.now }
+
+-- The line is there, with its fields and the text behind it.
+pub record IsPairLine (form : Form) (t : Text) (line : PairLine) : Type 0 where
+  pub is : is_pair t (places form t) ≡ true
+  pub pair_is : pair_in line ≡ pair_at t (places form t)
+  pub rest_is : line.rest.now ≡ drop ((places form t).end + 1) t
+
+-- ---- What is read from a text, line by line
+
+-- where no line with a pair stands first, no pair is read
+pub no_pairs : (form : Form) (t : Text) → NoPair form t → pairs_in form t ≡ record { pairs = []; behind = (lines_of t).ended }
+no_pairs form t h = no_pair form t (places form t) (places_at form t) h
+
+-- a line with that pair stands first, and behind it the rest
+pub record ReadsPair (form : Form) (t : Text) (p : Pair) (rest : Text) : Type 0 where
+  pub pairs_are : (pairs_in form t).pairs ≡ p ∷ (pairs_in form rest).pairs
+  pub behind_are : (pairs_in form t).behind ≡ (pairs_in form rest).behind
+  pub lines_rest : (lines_of t).rest ≡ (lines_of rest).rest
+  pub room : length p.left + length p.right + length p.value + 3 + length rest ≤ length t
+
+-- a part is as long as its places are apart
+part_long : (t : Text) (a b : ℕ) → a ≤ b → b ≤ length t → length (take (b - a) (drop a t)) ≡ b - a
+part_long t a b h k = length-take-le (b - a) (drop a t) (omega (arith, length-drop a t))
+
+pub reads_pair : {form : Form} {t : Text} {line : PairLine} → IsPairLine form t line → ReadsPair form t (pair_in line) line.rest.now
+reads_pair {form} {t} {line} found =
+    let at = places form t in
+    let rises = pair_rises t at found.is in
+    let first = first_pair form t at (places_at form t) rises in
+    let rest = sym found.rest_is in
+    let left = part_long t at.left at.between (omega (arith, rises.left_rises)) (omega (arith, first.within, rises.between_rises, rises.right_rises, rises.behind_rises, rises.value_rises)) in
+    let right = part_long t at.right at.behind (omega (arith, rises.right_rises)) (omega (arith, first.within, rises.behind_rises, rises.value_rises)) in
+    let value = part_long t at.value at.end (omega (arith, rises.value_rises)) (omega (arith, first.within)) in
+    record {
+      pairs_are = first.pairs_are ∙ ap (λ (p : Pair). p ∷ (pairs_in form (drop (at.end + 1) t)).pairs) (sym found.pair_is) ∙ ap (λ (u : Text). pair_in line ∷ (pairs_in form u).pairs) rest;
+      behind_are = first.behind_are ∙ ap (λ (u : Text). (pairs_in form u).behind) rest;
+      lines_rest = first.rest_is ∙ ap (λ (u : Text). (lines_of u).rest) rest;
+      room =
+          omega
+          (arith, ap (λ (p : Pair). length p.left) found.pair_is ∙ left, ap (λ (p : Pair). length p.right) found.pair_is ∙ right, ap (λ (p : Pair). length p.value) found.pair_is ∙ value, rises.left_rises, rises.between_rises, rises.right_rises, rises.behind_rises, rises.value_rises, first.within, ap length found.rest_is, length-drop (at.end + 1) t);
+    }

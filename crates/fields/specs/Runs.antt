@@ -1,5 +1,5 @@
 -- Runs of bytes at the start of a text.
-use Rattle.std.specs.Prelude.{◌≡◌, Bool, ◌&&◌, ◌⊎◌, eqb, ltb, take, drop, get_or}
+use Rattle.std.specs.Prelude.{◌≡◌, Bool, ◌&&◌, ◌⊎◌, eqb, ltb, take, drop, get_or, Some, None}
 use Rattle.std.proofs.Math.Path.{refl, ap}
 use Rattle.std.proofs.Common.{sym, ◌∙◌, true≢false, inl, inr, add-one, length-take, length-drop, drop_of_length-le, drop-cons, lt-ltb, le-ltb, ltb-true, ltb-false}
 use Rattle.std.proofs.Math.Bool.{true, false, cond}
@@ -10,13 +10,13 @@ use Rattle.std.proofs.Math.ListN.{length}
 use Rattle.std.proofs.Math.Seq.{length-take-le}
 use Rattle.semantics.specs.Text.{Text, same_text}
 use Rattle.laws.specs.Basics.{and_both, and_of, cond_true, cond_false, same_text_eq}
-use Rattle.sections.specs.Afm.{semicolon, minus, begins_with, each, is_name_byte, is_name, is_digit, number_of, is_number, is_value}
+use Rattle.sections.specs.Afm.{semicolon, minus, begins_with, each, is_name_byte, is_name, is_digit, number_of, is_number, is_value, kpx_word}
 use Rattle.sections.proofs.Splitting.{is_space, and_left, and_right, begins_none}
-use Rattle.fields.specs.declared.Part.{Part}
-use Rattle.fields.specs.declared.Part.TheVariants as P
+use Rattle.std.specs.Cmp.Lexicographic.{pointwise}
+use Rattle.fields.specs.declared.Digits.{Digits}
 use Rattle.fields.specs.declared.Form.{Form}
 use Rattle.fields.specs.declared.Form.TheVariants.{Kpx, Sheet}
-use Rattle.fields.specs.Scan.{run, front, length_if, no_number, number_in, name_length, value_front, value_length, separator_length, word_length, part_length}
+use Rattle.fields.specs.Scan.{run, front, length_if, number_in, name_length, value_front, value_length, separator_length, word_length, lead_length}
 
 module _ (test : ℕ → Bool) where
   run_cons : (b : ℕ) (t : Text) → run test (b ∷ t) ≡ cond (test b) (suc (run test t)) 0
@@ -191,14 +191,53 @@ word_length_within word t = go (same_text (take (length word) t) word) refl (ltb
         omega (arith, word_length_false word t (inr (omega arith)))
     go false e b h = omega (arith, word_length_false word t (inl e))
 
--- what a line has next lies in the text
-pub part_within : (part : Part) (form : Form) (t : Text) → part_length part form t ≤ length t
-unfolding part_length
-part_within P.Name form t = name_within t
-part_within P.Separator form t = separator_within form t
-part_within P.Value form t = value_within t
+pub lead_within : (form : Form) (t : Text) → lead_length form t ≤ length t
+unfolding lead_length
+lead_within Kpx t = word_length_within kpx_word t
+lead_within Sheet t = omega arith
 
 -- digits that are a number up to the limit
-pub number_in_is : (limit : ℕ) (digits : Text) → is_number limit digits ≡ true → number_in limit digits ≡ record { count = length digits; number = number_of digits }
+pub number_in_is : (limit : ℕ) (digits : Text) → is_number limit digits ≡ true → number_in limit digits ≡ Some (record { count = length digits; number = number_of digits })
 unfolding number_in
-number_in_is limit digits e = cond_true (is_number limit digits) (record { count = length digits; number = number_of digits }) no_number e
+number_in_is limit digits e = cond_true (is_number limit digits) (Some (record { count = length digits; number = number_of digits })) None e
+
+pub number_in_none : (limit : ℕ) (digits : Text) → is_number limit digits ≡ false → number_in limit digits ≡ None
+unfolding number_in
+number_in_none limit digits e = cond_false (is_number limit digits) (Some (record { count = length digits; number = number_of digits })) None e
+
+pub none_some : {X : Type 0} {x : X} → None ≡ Some x → ⊥
+none_some e = cc
+
+some_same : {X : Type 0} {x y : X} → Some x ≡ Some y → x ≡ y
+some_same e = cc
+
+-- what is known of digits that are one
+pub number_in_some :
+    (limit : ℕ) (t : Text) (found : Digits)
+    → Some found ≡ number_in limit t
+    → (is_number limit t ≡ true) × (found.count ≡ length t) × (found.number ≡ number_of t)
+number_in_some limit t found e = go (is_number limit t) refl
+  where
+    go : (b : Bool) → is_number limit t ≡ b → (b ≡ true) × (found.count ≡ length t) × (found.number ≡ number_of t)
+    go true is =
+        let f = some_same (e ∙ number_in_is limit t is) in
+        (refl, ap (λ (d : Digits). d.count) f, ap (λ (d : Digits). d.number) f)
+    go false is = absurd (none_some (sym (e ∙ number_in_none limit t is)))
+
+-- one byte that a text begins with, as `strip_prefix` asks for it
+pub byte_same : (b : ℕ) (t : Text) → pointwise eqb (take 1 t) (b ∷ []) ≡ begins_with b t
+unfolding begins_with
+byte_same b [] = refl
+byte_same b (c ∷ t) = and-true (eqb c b)
+  where
+    and-true : (x : Bool) → x && true ≡ x
+    and-true true = refl
+    and-true false = refl
+
+-- two texts that are compared as lists of bytes
+pub pairs_same : (a b : Text) → pointwise eqb a b ≡ same_text a b
+unfolding same_text
+pairs_same [] [] = refl
+pairs_same [] (y ∷ b) = refl
+pairs_same (x ∷ a) [] = refl
+pairs_same (x ∷ a) (y ∷ b) = ap (λ rest. eqb x y && rest) (pairs_same a b)

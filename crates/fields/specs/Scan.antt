@@ -1,21 +1,11 @@
 -- What stands at the start of a text: a run of bytes, a name, a number, a value, a separator, and the places of a line with a pair.
-use Rattle.std.specs.Prelude.{◌≡◌, Bool, ◌&&◌, cond, [], ◌∷◌, ℕ, suc, ◌+◌, ◌*◌, ◌-◌, ◌≤◌, eqb, ltb, length, take, drop}
+use Rattle.std.specs.Prelude.{◌≡◌, Bool, true, false, ◌&&◌, cond, ◌⊎◌, [], ◌∷◌, ℕ, suc, ◌+◌, ◌≤◌, ◌<◌, eqb, ltb, length, take, drop, Option, Some, None, MatchOption}
 use Rattle.semantics.specs.Text.{Text, same_text}
-use Rattle.sections.specs.Afm.{newline, semicolon, minus, nought, begins_with, is_name_byte, is_name, is_digit, number_of, is_number, is_value, kpx_word}
+use Rattle.sections.specs.Afm.{newline, semicolon, minus, begins_with, is_name_byte, is_name, is_digit, number_of, is_number, is_value, kpx_word}
 use Rattle.sections.proofs.Splitting.{is_space}
-use Rattle.fields.specs.declared.Class.{Class}
-use Rattle.fields.specs.declared.Class.TheVariants.{Name, Space, Digit}
-use Rattle.fields.specs.declared.Part.{Part}
-use Rattle.fields.specs.declared.Part.TheVariants as P
 use Rattle.fields.specs.declared.Form.{Form}
 use Rattle.fields.specs.declared.Form.TheVariants.{Kpx, Sheet}
 use Rattle.fields.specs.declared.Digits.{Digits}
-use Rattle.fields.specs.declared.Line.{Line}
-
-unfoldable pub is_of : Class → ℕ → Bool
-is_of Name = is_name_byte
-is_of Space = is_space
-is_of Digit = is_digit
 
 -- how many bytes at the start pass the test
 unfoldable pub run : (ℕ → Bool) → Text → ℕ
@@ -33,21 +23,9 @@ length_if is t = cond (is t) (length t) 0
 unfoldable pub name_length : Text → ℕ
 name_length t = length_if is_name (front is_name_byte t)
 
--- A number with one digit more; one over 65,535 stays as it is.
-unfoldable pub grown : ℕ → ℕ → ℕ
-grown n d = cond (ltb 65535 n) n (10 * n + (d - nought))
-
--- the number that digits write, behind those that write n, or one over 65,535 in place of a larger one
-unfoldable pub capped_from : ℕ → Text → ℕ
-capped_from n [] = n
-capped_from n (d ∷ t) = capped_from (grown n d) t
-
-abbrev pub no_number : Digits
-no_number = record { count = 0; number = 0 }
-
 -- the length of digits and their number, if they are one up to the limit
-unfoldable pub number_in : ℕ → Text → Digits
-number_in limit digits = cond (is_number limit digits) (record { count = length digits; number = number_of digits }) no_number
+unfoldable pub number_in : ℕ → Text → Option Digits
+number_in limit digits = cond (is_number limit digits) (Some (record { count = length digits; number = number_of digits })) None
 
 -- a minus, if there is one, and the digits behind it
 unfoldable pub value_front : Text → Text
@@ -73,11 +51,14 @@ unfoldable pub lead_length : Form → Text → ℕ
 lead_length Kpx t = word_length kpx_word t
 lead_length Sheet t = 0
 
--- what a line has next
-unfoldable pub part_length : Part → Form → Text → ℕ
-part_length P.Name form t = name_length t
-part_length P.Separator form t = separator_length form t
-part_length P.Value form t = value_length t
+-- Where the fields of a line and what separates them begin, and where the line ends.
+pub record Line : Type 0 where
+  pub left : ℕ
+  pub between : ℕ
+  pub right : ℕ
+  pub behind : ℕ
+  pub value : ℕ
+  pub end : ℕ
 
 -- where the names and the value of a line begin and end, whether or not they are there
 pub record LineAt (form : Form) (t : Text) (line : Line) : Type 0 where
@@ -99,3 +80,29 @@ is_pair t line =
     (ltb line.left line.between && ltb line.between line.right)
     && (ltb line.right line.behind && ltb line.behind line.value)
     && ends_at t line.value line.end
+
+-- ---- What the functions answer
+
+-- the length that was found at the start of a text, or nothing where it is 0
+abbrev pub Finds : ℕ → Text → Option ℕ → Type 0
+Finds n t found = MatchOption found (n ≡ 0) (λ m. (m ≡ n) × (0 < m) × (m ≤ length t))
+
+-- a number up to a limit, or nothing where it is larger
+abbrev pub IsWithin : ℕ → ℕ → Option ℕ → Type 0
+IsWithin limit n found = MatchOption found (limit < n) (λ m. (m ≡ n) × (m ≤ limit))
+
+-- what is behind n bytes of a text, and there are some
+abbrev pub IsBehind : ℕ → Text → Text → Type 0
+IsBehind n t rest = (0 < n) × (rest ≡ drop n t)
+
+-- The word is missing, or the spaces behind it are.
+abbrev pub NoWord : Text → Text → Type 0
+NoWord word t = (same_text (take (length word) t) word ≡ false) ⊎ (run is_space (drop (length word) t) ≡ 0)
+
+-- Both are there, and the rest is what is behind them.
+abbrev pub HasWord : Text → Text → Text → Type 0
+HasWord word t rest = (same_text (take (length word) t) word ≡ true) × (0 < run is_space (drop (length word) t)) × (rest ≡ drop (word_length word t) t)
+
+unfoldable pub NoLead : Form → Text → Type 0
+NoLead Kpx t = NoWord kpx_word t
+NoLead Sheet t = ⊥

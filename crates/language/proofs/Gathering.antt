@@ -1,14 +1,14 @@
 -- Sets that are gathered position by position: what the loops over the positions cite. Assumes nothing.
-use mathlib.Core.Path.{◌≡◌, refl, sym, subst, ◌∙◌}
-use mathlib.Core.Bool.{Bool, true, false, not, ◌&&◌, ◌||◌}
+use mathlib.Core.Path.{◌≡◌, sym, subst, ◌∙◌}
+use mathlib.Core.Bool.{Bool, true, ◌||◌}
 use mathlib.Core.Logic.{◌↔◌, inl, inr, ⊎_elim}
 use Prim.Native.Nat.{ℕ, ◌+◌, ◌≤◌, ◌<◌}
 use native.Mathlib.Omega.{arith}
-use borrow.Author.Tests.{eqb-true, eqb-false, eq-eqb, ne_eqb, ltb-true, ltb-false}
+use borrow.Author.Tests.{eqb-true, eqb-false, eq-eqb, ltb-true, ltb-false}
 use lib.Dec.{eqb, ltb}
 use Rattle.laws.specs.Basics.{bool_cases, not_both, or_either, or_left, or_right}
 use Rattle.positions.specs.declared.Set.{Set}
-use Rattle.positions.specs.Positions.{holds, Empty, Added, Removed, FirstFrom}
+use Rattle.positions.specs.Positions.{holds, Empty, Added}
 use Rattle.language.specs.Sets.{Gathered, Grown}
 
 -- A set grew by a test's positions where the test is true exactly of what was given.
@@ -76,79 +76,3 @@ module _ (gives : ℕ → ℕ → Type 0) where
   -- The same, where the number of positions is written otherwise.
   pub gathered_at : {n m : ℕ} {s : Set} → n ≡ m → Gathered gives n s → Gathered gives m s
   gathered_at {s = s} e = subst (λ (k : ℕ). Gathered gives k s) e
-
--- ---- From one position of a set to the next
-
--- The place is a position of the set or past all, and none from count on to before it is one.
-pub record Going (due : Set) (count p : ℕ) : Type 0 where
-  pub at_one : p < 128 → holds due p ≡ true
-  pub none_past : (q : ℕ) → count ≤ q → q < p → holds due q ≡ false
-
-pub going_begins : {due : Set} {count p : ℕ} → FirstFrom due 0 p → Going due count p
-going_begins first = record { at_one = first.held; none_past = λ q h l. first.skipped q (omega arith) l }
-
-pub going_on : {due : Set} {count n p : ℕ} → n < count → FirstFrom due (n + 1) p → Going due count p
-going_on below first = record { at_one = first.held; none_past = λ q h l. first.skipped q (omega arith) l }
-
--- What is left of a set from the position p on.
-pub record LeftFrom (due : Set) (p : ℕ) (left : Set) : Type 0 where
-  pub gone : (q : ℕ) → q < p → holds left q ≡ false
-  pub stays : (q : ℕ) → p ≤ q → holds left q ≡ holds due q
-
-pub left_begins : {due : Set} {p : ℕ} → FirstFrom due 0 p → LeftFrom due p due
-left_begins first = record { gone = λ q l. first.skipped q (omega arith) l; stays = λ q h. refl }
-
--- The first of it goes, and the next of the set is the first of what is then left.
-module _ {due left : Set} {n : ℕ} (known : LeftFrom due n left) (below : n < 128) (there : holds due n ≡ true) where
-  pub left_first : FirstFrom left 0 n
-  left_first =
-      record {
-        from = omega arith;
-        skipped = λ q h l. known.gone q l;
-        held = λ l. known.stays n (omega arith) ∙ there;
-      }
-
-  module _ {rest : Set} {p : ℕ} (removed : Removed left n rest) (first : FirstFrom rest 0 p) where
-    -- nothing up to n is left
-    none_to : (q : ℕ) → q < n + 1 → holds rest q ≡ false
-    none_to q l = removed q ∙ go (eqb q n) refl
-      where
-        go : (same : Bool) → eqb q n ≡ same → (not same && holds left q) ≡ false
-        go true e = refl
-        go false e = let other = eqb-false q n e in known.gone q (omega arith)
-
-    -- what is behind n is as it was
-    same_past : (q : ℕ) → n + 1 ≤ q → holds rest q ≡ holds due q
-    same_past q h = removed q ∙ rw (ne_eqb q n (omega arith)) (known.stays q (omega arith))
-
-    past : n + 1 ≤ p
-    past = go (ltb p (n + 1)) refl
-      where
-        go : (less : Bool) → ltb p (n + 1) ≡ less → n + 1 ≤ p
-        go true e = let l = ltb-true p (n + 1) e in absurd (not_both (first.held (omega arith)) (none_to p l))
-        go false e = ltb-false p (n + 1) e
-
-    pub left_next : FirstFrom due (n + 1) p
-    left_next =
-        record {
-          from = past;
-          skipped = λ q h l. sym (same_past q h) ∙ first.skipped q (omega arith) l;
-          held = λ l. sym (same_past p past) ∙ first.held l;
-        }
-
-    pub left_on : LeftFrom due p rest
-    left_on = record { gone = λ q l. first.skipped q (omega arith) l; stays = λ q h. same_past q (omega (arith, past)) }
-
--- What only positions of the set give is gathered from these alone.
-module _ {gives : ℕ → ℕ → Type 0} {due : Set} (only : (p q : ℕ) → gives p q → holds due p ≡ true) where
-  from_first : {n p : ℕ} {s : Set} → FirstFrom due n p → Gathered gives n s → Gathered gives p s
-  from_first {n} {p} {s} first = (gathered_skip gives n p s first.from (λ k q l m g. not_both (only k q g) (first.skipped k l m))).0
-
-  pub gathered_first : {p : ℕ} {s : Set} → Empty s → FirstFrom due 0 p → Gathered gives p s
-  gathered_first {s} none first = from_first first (gathered_none gives s none)
-
-  pub gathered_next : {n p : ℕ} {s t : Set} → Gathered gives n s → Grown (gives n) s t → FirstFrom due (n + 1) p → Gathered gives p t
-  gathered_next {n} {s} {t} before grown first = from_first first (gathered_more gives n s t before grown)
-
-  pub gathered_all : {count p : ℕ} {s : Set} → Going due count p → count ≤ p → Gathered gives p s → Gathered gives count s
-  gathered_all {count} {p} {s} going h = (gathered_skip gives count p s h (λ k q l m g. not_both (only k q g) (going.none_past k l m))).1

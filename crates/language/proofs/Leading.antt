@@ -6,14 +6,17 @@ use mathlib.Core.List.{List}
 use mathlib.Core.Logic.{◌↔◌, ◌≢◌, inl, inr, ⊎_elim}
 use Prim.Native.Nat.{ℕ, ◌+◌, ◌*◌, ◌≤◌, ◌<◌}
 use native.Mathlib.Omega.{arith}
-use borrow.Author.Tests.{eqb-true, eqb-false, eq-eqb, ltb-true, ltb-false}
-use lib.Dec.{eqb, ltb}
+use borrow.Author.Tests.{eqb-true, eqb-false, eq-eqb}
+use lib.Dec.{eqb}
 use lib.ListN.{length, get_or, set, replicate, length-set, length-replicate, get_or-replicate}
 use lib.Seq.{get_or-set_same, get_or-set_other}
 use Rattle.laws.specs.Basics.{bool_cases, not_both, or_either, or_left, or_right}
 use Rattle.positions.specs.declared.Set.{Set}
-use Rattle.positions.specs.Positions.{holds, Empty, Added, FirstFrom}
+use Rattle.positions.specs.declared.Below.{Below}
+use Rattle.positions.specs.Positions.{holds, Empty, Added}
+use Rattle.positions.specs.Below.{Taken, Done}
 use Rattle.positions.proofs.Bits.{bit_zero, holds_by}
+use Rattle.positions.proofs.Walk.{taken_before, taken_gone, taken_other}
 use Rattle.automaton.specs.declared.Automaton.{Automaton}
 use Rattle.automaton.specs.Rows.{Room, set_at, follow_of}
 use Rattle.language.specs.Sets.{Gathered, Grown, Standing, Back, Meeting, Stored, NoLeads, LedFrom, Led, Leads}
@@ -69,56 +72,69 @@ grown_same same known =
       );
     }
 
+-- The sets of the positions of `next` that have come on the walk have q as well, the others stay.
+pub record LedOn (count : ℕ) (next : Set) (q : ℕ) (walk : Below) (before after : List ℕ) : Type 0 where
+  pub same_end : walk.end ≡ count
+  pub left_next : (p : ℕ) → holds walk.left p ≡ true → holds next p ≡ true
+  pub same_length : length after ≡ length before
+  pub grown : (p : ℕ) → p < count → Grown (λ k. (k ≡ q) × (holds walk.left p ≡ false) × (holds next p ≡ true)) (set_at before (2 * p)) (set_at after (2 * p))
+
 module _ {count : ℕ} {next : Set} {q : ℕ} where
-  pub from_begins : {leads : List ℕ} → LedFrom count next q 0 leads leads
-  from_begins = record { same_length = refl; grown = λ p l. record { grown_iff = λ k. (λ e. inl e, λ e. ⊎_elim (λ old. old) (λ (x, n, h). absurd (omega arith)) e) } }
+  pub on_begins : {walk of : Below} {leads : List ℕ} → walk ≡ of → of ≡ record { left = next; end = count } → LedOn count next q walk leads leads
+  on_begins {leads = leads} same begun = subst (λ w. LedOn count next q w leads leads) (sym (same ∙ begun)) begins
+    where
+      begins : LedOn count next q (record { left = next; end = count }) leads leads
+      begins =
+          record {
+            same_end = refl;
+            left_next = λ p h. h;
+            same_length = refl;
+            grown = λ p l. record { grown_iff = λ k. (λ e. inl e, λ e. ⊎_elim (λ old. old) (λ (x, gone, h). absurd (not_both h gone)) e) };
+          }
 
-  -- Between two places there is none that may follow it.
-  from_same :
-      {n m : ℕ} {before after : List ℕ} → ((p : ℕ) → p < count → holds next p ≡ true → (p < n) ↔ (p < m)) → LedFrom count next q n before after
-      → LedFrom count next q m before after
-  from_same same known =
+  pub on_more :
+      {walk on : Below} {n : ℕ} {s : Set} {before mid after : List ℕ} → LedOn count next q walk before mid → Taken walk n on → Added (set_at mid (2 * n)) q s
+      → Stored mid n s after → LedOn count next q on before after
+  on_more {walk} {on} {n} {s} {before} {mid} {after} known taken added stored =
       record {
-        same_length = known.same_length;
-        grown = λ p l. grown_same (λ k. (λ (x, n, h). (x, (same p l h).0 n, h), λ (x, m, h). (x, (same p l h).1 m, h))) (known.grown p l);
-      }
-
-  pub from_first : {n m : ℕ} {before after : List ℕ} → FirstFrom next n m → LedFrom count next q n before after → LedFrom count next q m before after
-  from_first {n} {m} first =
-      from_same (λ p l h. (λ k. omega (arith, first.from), λ k. ⊎_elim (λ e. ltb-true p n e) (λ e. absurd (not_both h (first.skipped p (ltb-false p n e) k))) (bool_cases (ltb p n))))
-
-  pub from_all : {n : ℕ} {before after : List ℕ} → count ≤ n → LedFrom count next q n before after → LedFrom count next q (count) before after
-  from_all all = from_same (λ p l h. (λ k. l, λ k. omega arith))
-
-  pub from_more :
-      {n : ℕ} {s : Set} {before mid after : List ℕ} → n < count → holds next n ≡ true → LedFrom count next q n before mid → Added (set_at mid (2 * n)) q s
-      → Stored mid n s after → LedFrom count next q (n + 1) before after
-  from_more {n} {s} {before} {mid} {after} inside held known added stored =
-      record {
+        same_end = taken.same_end ∙ known.same_end;
+        left_next = λ p h. known.left_next p (taken_before taken p h);
         same_length = stored.same_length ∙ known.same_length;
         grown = λ p l.
             ⊎_elim
             (λ e. rw (eqb-true p n e, stored.stored) here)
-            (λ e. let ne = eqb-false p n e in rw (stored.kept p ne) (grown_same (λ k. (λ (x, m, h). (x, omega arith, h), λ (x, m, h). (x, omega arith, h))) (known.grown p l)))
+            (λ e.
+            let ne = eqb-false p n e in
+            rw (stored.kept p ne) (grown_same (λ k. (λ (x, m, h). (x, taken_other taken p ne ∙ m, h), λ (x, m, h). (x, sym (taken_other taken p ne) ∙ m, h))) (known.grown p l)))
             (bool_cases (eqb p n));
       }
     where
-      here : Grown (λ k. (k ≡ q) × (n < n + 1) × (holds next n ≡ true)) (set_at before (2 * n)) s
+      held : holds next n ≡ true
+      held = known.left_next n (taken.first.held taken.small)
+
+      here : Grown (λ k. (k ≡ q) × (holds on.left n ≡ false) × (holds next n ≡ true)) (set_at before (2 * n)) s
       here =
           record {
             grown_iff = λ k. (
               λ e.
                   ⊎_elim
-                  (λ new. inr (eqb-true k q new, omega arith, held))
-                  (λ old. ⊎_elim (λ o. inl o) (λ (x, m, h). absurd (omega arith)) (((known.grown n inside).grown_iff k).0 old))
+                  (λ new. inr (eqb-true k q new, taken_gone taken, held))
+                  (λ old. ⊎_elim (λ o. inl o) (λ (x, gone, h). absurd (not_both (taken.first.held taken.small) gone)) (((known.grown n (omega (arith, taken.inside, known.same_end))).grown_iff k).0 old))
                   (or_either (eqb k q) (holds (set_at mid (2 * n)) k) (sym (added k) ∙ e)),
               λ e.
                   added k ∙ ⊎_elim
-                  (λ old. or_right (eqb k q) (holds (set_at mid (2 * n)) k) (((known.grown n inside).grown_iff k).1 (inl old)))
+                  (λ old. or_right (eqb k q) (holds (set_at mid (2 * n)) k) (((known.grown n (omega (arith, taken.inside, known.same_end))).grown_iff k).1 (inl old)))
                   (λ (x, m, h). or_left (eqb k q) (holds (set_at mid (2 * n)) k) (eq-eqb k q x))
                   e,
             );
           }
+
+  pub on_all : {walk : Below} {before after : List ℕ} → LedOn count next q walk before after → Done walk → LedFrom count next q count before after
+  on_all known done =
+      record {
+        same_length = known.same_length;
+        grown = λ p l. grown_same (λ k. (λ (x, m, h). (x, l, h), λ (x, m, h). (x, done.none_left p (omega (arith, known.same_end)), h))) (known.grown p l);
+      }
 
 -- ---- All positions, one after the other
 

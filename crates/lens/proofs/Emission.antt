@@ -19,8 +19,8 @@ use Rattle.table.specs.Rules.{NodeRead}
 use Rattle.automaton.specs.declared.Automaton.{Automaton}
 use Rattle.automaton.specs.Rows.{automaton_at, Describes}
 use Rattle.lens.specs.declared.Mode.{Mode}
-use Rattle.texts.specs.declared.Wrote.{Wrote}
-use Rattle.texts.specs.declared.Wrote.TheVariants.{Count, Full}
+use Rattle.texts.specs.Overlay.{Wrote}
+use Rattle.std.specs.Prelude.{Some, None}
 use Rattle.texts.specs.Overlay.{Lays, overlay_length, writes_full, writes_lent, writes_within}
 use Rattle.lens.specs.Reading.{
   reading,
@@ -187,27 +187,27 @@ module _
 
 -- the answer, where n bytes were written before
 abbrev pub further : ℕ → Wrote → Wrote
-further n (Count m) = Count (n + m)
-further n Full = Full
+further n (Some m) = Some (n + m)
+further n None = None
 
 -- a text that is written behind the n bytes of another
 pub writes_further :
     {padded : Bool} (s t before after rest : Text) (n : ℕ) (answer w : Wrote)
-    → Lays padded s before after (Count n)
+    → Lays padded s before after (Some n)
     → Lays padded t (take (length after - n) (drop n after)) rest answer
     → answer ≡ w
     → Lays padded (s ++ t) before (take n after ++ (rest ++ drop (length after - n) (drop n after))) (further n w)
-writes_further s t before after rest n answer (Count m) first second e =
-    writes_lent s t before after rest n answer first second (Count (n + m)) (λ k f. cc) (λ f. absurd (let z : ◌≡◌ {A = ℕ} 0 1 = cc in omega arith))
-writes_further s t before after rest n answer Full first second e =
-    writes_lent s t before after rest n answer first second Full (λ k f. absurd (let z : ◌≡◌ {A = ℕ} 0 1 = cc in omega arith)) (λ f. refl)
+writes_further s t before after rest n answer (Some m) first second e =
+    writes_lent s t before after rest n answer first second (Some (n + m)) (λ k f. cc) (λ f. absurd (let z : ◌≡◌ {A = ℕ} 0 1 = cc in omega arith))
+writes_further s t before after rest n answer None first second e =
+    writes_lent s t before after rest n answer first second None (λ k f. absurd (let z : ◌≡◌ {A = ℕ} 0 1 = cc in omega arith)) (λ f. refl)
 
 -- what was written lies within the buffer
 pub emitted_within :
     {bytes : Text} {prepared : List ℕ} {node n : ℕ} {mode : Mode} {text before after : Text} {answer : Wrote}
     → LensNode bytes prepared node
     → Emits bytes node mode text before after answer
-    → answer ≡ Count n
+    → answer ≡ Some n
     → n ≤ length after
 emitted_within {n} {mode} {text} {before} {after} known emitted e =
     writes_within (reading mode known.tree text) before after n (rw e at (emitted.writes known.tree known.tree_is))
@@ -282,7 +282,7 @@ module _
       left_written l e = rw sub-zero at (first.writes l e)
 
       -- where it did not fit, the join does not
-      pub join_full : answer ≡ Full → EmitsJoin bytes left right mode text before after Full
+      pub join_full : answer ≡ None → EmitsJoin bytes left right mode text before after None
       join_full full =
           record {
             writes = λ l m e f.
@@ -293,7 +293,7 @@ module _
       -- where it did, the right half's is written behind it
       pub join_next :
           {n : ℕ} {rest : Text} {answer' : Wrote}
-          → answer ≡ Count n
+          → answer ≡ Some n
           → Emits bytes right mode (take (length text - i) (drop i text)) (take (length after - n) (drop n after)) rest answer'
           → (w : Wrote)
           → answer' ≡ w

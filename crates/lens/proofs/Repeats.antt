@@ -15,8 +15,8 @@ use Rattle.table.specs.Prepared.{OneLens}
 use Rattle.automaton.specs.declared.Automaton.{Automaton}
 use Rattle.automaton.specs.Rows.{automaton_at, Describes}
 use Rattle.lens.specs.declared.Mode.{Mode}
-use Rattle.texts.specs.declared.Wrote.{Wrote}
-use Rattle.texts.specs.declared.Wrote.TheVariants.{Count, Full}
+use Rattle.texts.specs.Overlay.{Wrote}
+use Rattle.std.specs.Prelude.{Some, None}
 use Rattle.texts.specs.Overlay.{Lays, overlay_length, writes_full, writes_nothing, writes_within}
 use Rattle.lens.specs.Reading.{reading, mode_side, keyed, reading_repeat, first_part, parts_none, parts_next}
 use Rattle.texts.specs.Cutting.{rest_lent}
@@ -54,7 +54,7 @@ pub record Repeating
   pub parsed : ParsedFrom bytes node (mode_side mode) base path text o
   pub done : Text
   pub reading_is : reading mode (repeat part.child) text ≡ done ++ reading mode (repeat part.child) (drop o text)
-  pub written : Lays (keyed mode) done out₀ out (Count n)
+  pub written : Lays (keyed mode) done out₀ out (Some n)
 
 module _ (mode : Mode) (l : Lens) where
   -- the empty text has nothing to be read
@@ -121,11 +121,11 @@ module _
   its_repeat w = its_lens (repeat inv.part.child) inv.part.tree_is w
 
   -- behind the last part
-  pub repeat_ends : length text ≤ o → Emits bytes node mode text out₀ out (Count n)
+  pub repeat_ends : length text ≤ o → Emits bytes node mode text out₀ out (Some n)
   repeat_ends end =
       let whole : reading mode (repeat inv.part.child) text ≡ inv.done =
       inv.reading_is ∙ rw (drop_of_length-le text end, repeat_none mode inv.part.child, append-nil) in
-      its_repeat (subst (λ t. Lays (keyed mode) t out₀ out (Count n)) (sym whole) inv.written)
+      its_repeat (subst (λ t. Lays (keyed mode) t out₀ out (Some n)) (sym whole) inv.written)
 
   -- what is written lies within the buffer, which is as long as before
   pub repeat_room : n ≤ length out
@@ -198,7 +198,7 @@ module _
           e
 
       -- where the part did not fit, the repeat does not
-      pub repeat_full : answer ≡ Full → Emits bytes node mode text out₀ (take n out ++ (rest ++ drop (length out - n) (drop n out))) Full
+      pub repeat_full : answer ≡ None → Emits bytes node mode text out₀ (take n out ++ (rest ++ drop (length out - n) (drop n out))) None
       repeat_full e =
           its_repeat
           (rw
@@ -208,12 +208,12 @@ module _
           (reading mode (repeat inv.part.child) (drop (o + i) text))
           out₀
           (take n out ++ (rest ++ drop (length out - n) (drop n out)))
-          (part_written Full e)))
+          (part_written None e)))
 
       -- where it did, the next is read behind it
       pub repeat_next :
           {m : ℕ}
-          → answer ≡ Count m
+          → answer ≡ Some m
           → Repeating bytes node child mode base last first path text out₀ (take n out ++ (rest ++ drop (length out - n) (drop n out))) (o + i) (n + m)
       repeat_next {m} e =
           record {
@@ -223,5 +223,5 @@ module _
             parsed = loop_rest_from inv.parsed inv.part inv.ends more i_is;
             done = inv.done ++ reading mode inv.part.child (take (o + i - o) (drop o text));
             reading_is = reading_on;
-            written = part_written (Count m) e;
+            written = part_written (Some m) e;
           }

@@ -14,7 +14,7 @@ use Rattle.automaton.specs.Rows.{automaton_at, Room}
 use Rattle.automaton.specs.Built.{Built}
 use Rattle.lens.specs.declared.Mode.{Mode}
 use Rattle.lens.specs.declared.Mode.TheVariants.{Get, Key, Create, SourceKey}
-use Rattle.texts.specs.declared.Wrote.{Wrote}
+use Rattle.texts.specs.Overlay.{Wrote}
 use Rattle.texts.specs.Overlay.{Lays}
 use Rattle.lens.specs.Reading.{reading, keyed}
 

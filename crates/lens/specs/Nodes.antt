@@ -1,6 +1,6 @@
 -- What is known of a node of a prepared program: its kind, its words, its automata, the nodes below it.
-use Rattle.std.specs.Prelude.{◌≡◌, refl, Bool, true, false, cond, List, [], ◌∷◌, ℕ, ◌+◌, ◌-◌, ◌*◌, ◌≤◌, ◌<◌, eqb, ltb, length, take, drop, get_or}
-use Rattle.std.proofs.Common.{sym, ap, subst, ◌∙◌, arith, drop-drop, eqb-true, ltb-true}
+use Rattle.std.specs.Prelude.{◌≡◌, refl, Bool, true, false, cond, ◌⊎◌, List, [], ◌∷◌, ℕ, ◌+◌, ◌-◌, ◌*◌, ◌≤◌, ◌<◌, eqb, ltb, length, take, drop, get_or}
+use Rattle.std.proofs.Common.{sym, inl, inr, ap, subst, ◌∙◌, arith, drop-drop, eqb-true, ltb-true}
 use types.Run.{OneOf, miss}
 use denote.Enum.Declared.{tag_of}
 use Rattle.semantics.specs.Text.{Text}
@@ -133,6 +133,22 @@ pub lens_read :
 lens_read {bytes} {node} κ known read e lower =
     let sort_is : 2 ≡ sort_by (tag_of the_type κ) = sym (ap sort_of known.tree_is) ∙ kind_sort bytes node κ (subst (Shows bytes node) e read.shows) in
     absurd (omega (arith, sort_is, ltb-true (sort_by (tag_of the_type κ)) 2 lower))
+
+-- so it is none of the kinds of a pattern
+pub no_pattern :
+    {A : Type 0} {bytes : Text} {prepared : List ℕ} {node : ℕ} {r : Node}
+    → LensNode bytes prepared node
+    → NodeRead bytes node r
+    → ((a : ℕ) × (b : ℕ) × (r.kind ≡ Word a b))
+    ⊎ (((a : ℕ) × (b : ℕ) × (r.kind ≡ ByteOf a b))
+    ⊎ (((a : ℕ) × (b : ℕ) × (r.kind ≡ PatternJoin a b))
+    ⊎ (((a : ℕ) × (b : ℕ) × (r.kind ≡ PatternUnion a b)) ⊎ ((a : ℕ) × (r.kind ≡ PatternRepeat a)))))
+    → A
+no_pattern known read (inl w) = lens_read _ known read w.2 refl
+no_pattern known read (inr (inl w)) = lens_read _ known read w.2 refl
+no_pattern known read (inr (inr (inl w))) = lens_read _ known read w.2 refl
+no_pattern known read (inr (inr (inr (inl w)))) = lens_read _ known read w.2 refl
+no_pattern known read (inr (inr (inr (inr w)))) = lens_read _ known read w.1 refl
 
 module _ {bytes : Text} {node : ℕ} {r : Node} (read : NodeRead bytes node r) where
   -- what is shown of the kind that was read

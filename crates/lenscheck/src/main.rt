@@ -7,9 +7,9 @@ use std::io;
 
 fn main(rt: HostRuntime) -> io::Result<()> {
     // longer than any table, which has at most 899 bytes: of a longer input the part that is read is too long as well
-    let mut table = [0u8; 4096];
-    let n = read_full(&mut rt.stdin(), &mut table)?;
+    let mut buffer = [0u8; 4096];
+    let table = read_full(&mut rt.stdin(), &mut buffer)?;
     let mut line = [0u8; 64];
-    let length = engine::lenscheck_line(&table[..n], &mut line);
-    rt.write_all(&line[0..length])
+    let length = engine::lenscheck_line(table, &mut line);
+    rt.write_all(&line[..length])
 }

@@ -6,14 +6,14 @@ ghost use Rattle.semantics.specs.Calls.{decimal, field};
 ghost use Rattle.semantics.specs.Tally.{counts_line};
 ghost use Rattle.lines.specs.Line.{Puts, accepted_line, refused_line, counts};
 
-use texts::write_text;
-
+// Kept by hand: `Puts` speaks of the buffer and the place before and after, so each function is lent the buffer and answers the place.
 pub fn put_text(text: &[u8], at: usize, out: &mut [u8]) -> usize
     requires { at + length text.now ≤ length out.old }
     ensures { Puts text.now at result out.old out.new }
 {
-    write_text(text, &mut out[at..]);
-    at + text.len()
+    let end = at + text.len();
+    out[at..end].copy_from_slice(text);
+    end
 }
 
 // How many digits a number has, which are at most 20.
@@ -30,7 +30,7 @@ pub fn put_number(number: usize, at: usize, out: &mut [u8]) -> usize
 {
     let mut digits = [0u8; 20];
     let n = io::decimal(number as u64, &mut digits);
-    put_text(&digits[0..n], at, out)
+    put_text(&digits[..n], at, out)
 }
 
 // A space and a number.

@@ -21,7 +21,7 @@ use Rattle.automaton.specs.Built.{Built, tree_language}
 use Rattle.lens.specs.Nodes.{sizes_are, words_inside, shown_repeat}
 use Rattle.lens.specs.Parsed.{Parsed, parsed_match}
 use Rattle.books.specs.declared.Book.{Book}
-use Rattle.listing.specs.declared.Listing.{Listing}
+use Rattle.std.specs.Prelude.{Option}
 use Rattle.listing.specs.Listing.{Lists, ListsMatch, tree_entries, repeat_entries}
 
 -- ---- A node's source automaton
@@ -90,7 +90,7 @@ module _ {bytes : Text} {k : ℕ} {n : Node} (read : NodeRead bytes k n) where
 
 -- a match has the one that was listed for its child
 pub match_entries :
-    {bytes : Text} {k a base : ℕ} {path t : Text} {at : ℕ} {b : Book} {r : Listing}
+    {bytes : Text} {k a base : ℕ} {path t : Text} {at : ℕ} {b : Book} {r : Option Book}
     → OneLens (trees bytes) k a (λ l. lens (match a l))
     → Parsed bytes k source base path t
     → ListsMatch a base t at b r

@@ -40,8 +40,8 @@ use Rattle.lens.specs.Parsed.{
   union_not_left,
 }
 use Rattle.books.specs.declared.Book.{Book}
-use Rattle.listing.specs.declared.Listing.{Listing}
-use Rattle.listing.specs.Listing.{Lists, tree_entries, lists_as, lists_next, lists_over}
+use Rattle.std.specs.Prelude.{Option}
+use Rattle.listing.specs.Listing.{ListsInto, TooMany, Lists, tree_entries, lists_as, lists_next, lists_over}
 use Rattle.listing.proofs.NodeEntries.{node_described}
 
 -- ---- A union
@@ -169,37 +169,28 @@ join_halves built inside parsed read is a-is i_is =
     halves_at built inside (parsed_join parsed shown) shown a-is i_is
 
 -- the halves are listed, as they are lent
-module _
-    {bytes : Text} {node left right base mid : ℕ} {path text : Text} {at i : ℕ} {b : Book} {r : Listing}
-    (halves : Halves bytes node left right base mid path text i)
-    (first : Lists bytes (tree_entries (tree_at (trees bytes) left) (take (i - 0) text)) (take (i - 0) text) (take (i - 0) path) at b r) where
-  -- the first half ends at the cut
-  first_half : Lists bytes (tree_entries (tree_at (trees bytes) left) (take i text)) (take i text) (take i path) at b r
-  first_half = rw sub-zero at first
-
-  -- its path is as long
+module _ {bytes : Text} {node left right base mid : ℕ} {path text : Text} {i : ℕ} (halves : Halves bytes node left right base mid path text i) where
+  -- the first half's path is as long
   half_long : length (take i path) ≡ length (take i text)
   half_long = length-take-le i path halves.path_within ∙ sym (length-take-le i text halves.within)
 
-  -- what is listed of the two halves is listed of the whole
-  whole_listed :
-      {r' : Listing}
-      → Lists bytes (tree_entries (tree_at (trees bytes) left) (take i text) ++ tree_entries (tree_at (trees bytes) right) (drop i text)) (take i text ++ drop i text) (take i path ++ drop i path) at b r'
-      → Lists bytes (tree_entries (tree_at (trees bytes) node) text) text path at b r'
-  whole_listed known = lists_as halves.entries_are (rw (take-append-drop i text, take-append-drop i path) at known)
+  module _ {at : ℕ} {b : Book} where
+    -- the first half has too many entries
+    pub join_over :
+        TooMany bytes (tree_entries (tree_at (trees bytes) left) (take (i - 0) text)) (take (i - 0) text) at b
+        → TooMany bytes (tree_entries (tree_at (trees bytes) node) text) text at b
+    join_over over =
+        let all = lists_over (tree_entries (tree_at (trees bytes) right) (drop i text)) (drop i text) (rw sub-zero at over) in
+        rw halves.entries_are (rw (take-append-drop i text) at all)
 
-  -- the first half has too many entries
-  pub join_over : r.over ≡ true → Lists bytes (tree_entries (tree_at (trees bytes) node) text) text path at b r
-  join_over over =
-      whole_listed (lists_over (tree_entries (tree_at (trees bytes) right) (drop i text)) (drop i text) (drop i path) half_long first_half over)
-
-  -- both halves are listed
-  pub join_next :
-      {r' : Listing}
-      → r.over ≡ false
-      → Lists bytes (tree_entries (tree_at (trees bytes) right) (take (length text - i) (drop i text))) (take (length text - i) (drop i text)) (take (length path - i) (drop i path)) (at + i) r.book r'
-      → Lists bytes (tree_entries (tree_at (trees bytes) node) text) text path at b r'
-  join_next {r'} more second =
-      let behind : Lists bytes (tree_entries (tree_at (trees bytes) right) (drop i text)) (drop i text) (drop i path) (at + length (take i text)) r.book r' =
-      rw (length-take-le i text halves.within) (rw (rest_lent text i, rest_lent path i) at second) in
-      whole_listed (lists_next (tree_entries (tree_at (trees bytes) right) (drop i text)) (drop i text) (drop i path) half_long first_half more behind)
+    -- both halves are listed
+    pub join_next :
+        {more : Book} {r : Option Book}
+        → ListsInto bytes (tree_entries (tree_at (trees bytes) left) (take (i - 0) text)) (take (i - 0) text) (take (i - 0) path) at b more
+        → Lists bytes (tree_entries (tree_at (trees bytes) right) (take (length text - i) (drop i text))) (take (length text - i) (drop i text)) (take (length path - i) (drop i path)) (at + i) more r
+        → Lists bytes (tree_entries (tree_at (trees bytes) node) text) text path at b r
+    join_next {more} {r} first second =
+        let behind : Lists bytes (tree_entries (tree_at (trees bytes) right) (drop i text)) (drop i text) (drop i path) (at + length (take i text)) more r =
+        rw (length-take-le i text halves.within) (rw (rest_lent text i, rest_lent path i) at second) in
+        let whole = lists_next (tree_entries (tree_at (trees bytes) right) (drop i text)) (drop i text) (drop i path) half_long (rw sub-zero at first) behind in
+        lists_as halves.entries_are (rw (take-append-drop i text, take-append-drop i path) at whole)

@@ -1,6 +1,5 @@
 -- What the listing of a repeat knows at each turn: the entries of the parts that it has passed are listed.
 use mathlib.Core.Path.{◌≡◌, refl, sym, ap, ◌∙◌}
-use mathlib.Core.Bool.{true, false}
 use mathlib.Core.List.{List, [], ◌++◌, append-nil, append_assoc}
 use Prim.Native.Nat.{ℕ, ◌+◌, ◌-◌, ◌≤◌, ◌<◌}
 use native.Mathlib.Nat.{lt_trans}
@@ -37,8 +36,8 @@ use Rattle.lens.specs.Parsed.{
 }
 use Rattle.books.specs.declared.Book.{Book}
 use Rattle.books.specs.Listed.{added, Entered, Sized}
-use Rattle.listing.specs.declared.Listing.{Listing}
-use Rattle.listing.specs.Listing.{ToList, Lists, tree_entries, repeat_entries, lists_as, lists_none, lists_settled, lists_added, lists_full, lists_next, lists_over}
+use Rattle.std.specs.Prelude.{Option, Some, None}
+use Rattle.listing.specs.Listing.{ToList, ListsInto, Lists, tree_entries, repeat_entries, lists_as, lists_many, lists_none, lists_added, lists_full, lists_next, lists_over}
 use Rattle.listing.proofs.NodeEntries.{node_described, match_entries}
 
 -- The sets hold the last and the first positions of the child's sources. Up to o the entries are listed; what is beyond it is parsed as
@@ -50,7 +49,7 @@ pub record Repeated
   pub left : ParsedFrom bytes node source base path text o
   pub done : Entries
   pub entries_are : repeat_entries (tree_at (trees bytes) child) text ≡ done ++ repeat_entries (tree_at (trees bytes) child) (drop o text)
-  pub lists_done : Lists bytes done (take o text) (take o path) at before (record { over = false; book = book })
+  pub lists_done : ListsInto bytes done (take o text) (take o path) at before book
 
 -- The part from o on, of length i, is not empty, lies within text and path, and is parsed at the child, as it is lent.
 pub record Turn (bytes : Text) (child base : ℕ) (path text : Text) (o i : ℕ) : Type 0 where
@@ -103,11 +102,11 @@ module _
   part_tree = tree_at (trees bytes) child
 
   -- everything is passed
-  pub repeated_ends : length text ≤ o → Lists bytes (repeat_entries part_tree text) text path at before (record { over = false; book = book })
+  pub repeated_ends : length text ≤ o → ListsInto bytes (repeat_entries part_tree text) text path at before book
   repeated_ends ends =
       let all : repeat_entries part_tree text ≡ known.done =
       known.entries_are ∙ ap (λ t. known.done ++ repeat_entries part_tree t) (drop_of_length-le text ends) ∙ rw (repeat_none, append-nil) in
-      lists_as all (rw (take_all o text ends, take_all o path (omega (arith, known.as_long))) at known.lists_done)
+      rw all (rw (take_all o text ends, take_all o path (omega (arith, known.as_long))) at known.lists_done)
 
   -- what is left of the path begins where what is left of the text does
   pub path_reaches : o ≤ length path
@@ -154,41 +153,42 @@ module _
         ∙ ap (λ t. known.done ++ (tree_entries part_tree (take i (drop o text)) ++ repeat_entries part_tree t)) (drop-drop i o text)
         ∙ sym (append_assoc known.done (tree_entries part_tree (take i (drop o text))) (repeat_entries part_tree (drop (o + i) text)))
 
-    module _
-        {r : Listing}
-        (listed : Lists bytes (tree_entries part_tree (take (o + i - o) (drop o text))) (take (o + i - o) (drop o text)) (take (o + i - o) (drop o path)) (at + o) book r) where
-      -- the entries up to the part's end
-      listed_now : Lists bytes (known.done ++ tree_entries part_tree (take i (drop o text))) (take (o + i) text) (take (o + i) path) at before r
-      listed_now =
-          let size : o + i - o ≡ i = omega arith in
-          let up_to : length (take o text) ≡ o = length-take-le o text known.left.within in
-          let here : Lists bytes (tree_entries part_tree (take i (drop o text))) (take i (drop o text)) (take i (drop o path)) (at + length (take o text)) book r =
-          rw up_to (rw size at listed) in
-          let as-far = length-take-le o path path_reaches ∙ sym up_to in
-          rw
-          (take-add o i text, take-add o i path)
-          (lists_next (tree_entries part_tree (take i (drop o text))) (take i (drop o text)) (take i (drop o path)) as-far known.lists_done refl here)
+    -- the entries up to the part's end
+    listed_now :
+        {r : Option Book}
+        → Lists bytes (tree_entries part_tree (take (o + i - o) (drop o text))) (take (o + i - o) (drop o text)) (take (o + i - o) (drop o path)) (at + o) book r
+        → Lists bytes (known.done ++ tree_entries part_tree (take i (drop o text))) (take (o + i) text) (take (o + i) path) at before r
+    listed_now {r} listed =
+        let size : o + i - o ≡ i = omega arith in
+        let up_to : length (take o text) ≡ o = length-take-le o text known.left.within in
+        let here : Lists bytes (tree_entries part_tree (take i (drop o text))) (take i (drop o text)) (take i (drop o path)) (at + length (take o text)) book r =
+        rw up_to (rw size at listed) in
+        let as-far = length-take-le o path path_reaches ∙ sym up_to in
+        rw
+        (take-add o i text, take-add o i path)
+        (lists_next (tree_entries part_tree (take i (drop o text))) (take i (drop o text)) (take i (drop o path)) as-far known.lists_done here)
 
+    module _
+        {r : Option Book}
+        (listed : Lists bytes (tree_entries part_tree (take (o + i - o) (drop o text))) (take (o + i - o) (drop o text)) (take (o + i - o) (drop o path)) (at + o) book r) where
       -- one more part is passed
-      pub repeated_next : r.over ≡ false → Repeated bytes node child base path text at before last first r.book (o + i)
-      repeated_next fits =
+      pub repeated_next : {next : Book} → r ≡ Some next → Repeated bytes node child base path text at before last first next (o + i)
+      repeated_next {next} is =
           record {
             ends = known.ends;
             as_long = known.as_long;
             left = loop_rest_from known.left s (child_ends s) more i_is;
             done = known.done ++ tree_entries part_tree (take i (drop o text));
             entries_are = entries_now;
-            lists_done = lists_settled fits listed_now;
+            lists_done = (listed_now listed).listed_into next is;
           }
 
       -- there are too many entries already
-      pub repeated_over : r.over ≡ true → Lists bytes (repeat_entries part_tree text) text path at before r
-      repeated_over over =
+      pub repeated_over : r ≡ None → Lists bytes (repeat_entries part_tree text) text path at before None
+      repeated_over is =
           let end = o + i in
-          let found = turn in
-          let as-far = length-take-le end path found.on_path ∙ sym (length-take-le end text found.within) in
-          let all = lists_over (repeat_entries part_tree (drop end text)) (drop end text) (drop end path) as-far listed_now over in
-          lists_as entries_now (rw (take-append-drop end text, take-append-drop end path) at all)
+          let all = lists_over (repeat_entries part_tree (drop end text)) (drop end text) ((listed_now listed).over is) in
+          lists_as entries_now (lists_many (rw (take-append-drop end text) at all))
 
 -- ---- Where the child is a match, the part is one entry
 
@@ -207,7 +207,7 @@ module _
         (at : ℕ) (left : Set)
         → book.count < 256
         → Added book.left inner left
-        → Lists bytes (tree_entries (tree_at (trees bytes) child) (take (o + i - o) (drop o text))) (take (o + i - o) (drop o text)) (take (o + i - o) (drop o path)) (at + o) book (record { over = false; book = added book (at + o) (o + i - o) base inner left })
+        → Lists bytes (tree_entries (tree_at (trees bytes) child) (take (o + i - o) (drop o text))) (take (o + i - o) (drop o text)) (take (o + i - o) (drop o path)) (at + o) book (Some (added book (at + o) (o + i - o) base inner left))
     part_added at left room now-left =
         let entered : Entered book (at + o) (o + i - o) base inner (added book (at + o) (o + i - o) base inner left) =
         record { book_is = refl; left_is = now-left } in
@@ -217,5 +217,5 @@ module _
     pub part_full :
         (at : ℕ)
         → book.count ≡ 256
-        → Lists bytes (tree_entries (tree_at (trees bytes) child) (take (o + i - o) (drop o text))) (take (o + i - o) (drop o text)) (take (o + i - o) (drop o path)) (at + o) book (record { over = true; book = book })
-    part_full at full = match_entries m found.parsed (lists_full (take (o + i - o) (drop o text)) (at + o) book base inner sized full)
+        → Lists bytes (tree_entries (tree_at (trees bytes) child) (take (o + i - o) (drop o text))) (take (o + i - o) (drop o text)) (take (o + i - o) (drop o path)) (at + o) book None
+    part_full at full = match_entries m found.parsed (lists_full (take (o + i - o) (drop o text)) (at + o) book base inner (omega (arith, full)))

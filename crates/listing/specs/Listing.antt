@@ -1,6 +1,6 @@
 -- What listing asks and gives: the entries that a text of the old source has, put behind those in the book.
-use Rattle.std.specs.Prelude.{◌≡◌, refl, Bool, true, false, List, [], ◌++◌, map, ℕ, ◌+◌, ◌-◌, ◌≤◌, ◌<◌, eqb, length, take, drop, get_or}
-use Rattle.std.proofs.Common.{sym, ap, subst, ◌∙◌, true≢false, append-nil, append_assoc, arith, length-append, length-drop, length-take-le, take-take, drop-drop, take-add, get_or-set_same, get_or-set_other, eqb-true}
+use Rattle.std.specs.Prelude.{Option, Some, None, ◌≡◌, refl, Bool, true, false, List, [], ◌++◌, map, ℕ, ◌+◌, ◌-◌, ◌≤◌, ◌<◌, eqb, length, take, drop, get_or}
+use Rattle.std.proofs.Common.{sym, ap, subst, ◌∙◌, append-nil, append_assoc, arith, length-append, length-drop, length-take-le, take-take, drop-drop, take-add, get_or-set_same, get_or-set_other, eqb-true}
 use Rattle.std.proofs.Math.Option.{some}
 use Rattle.std.proofs.Math.Seq.{take-append_seam, drop-append_seam}
 use Rattle.std.proofs.lemmas.Bool.{eqb-false}
@@ -8,7 +8,6 @@ use Rattle.semantics.specs.Text.{Text, joined}
 use Rattle.semantics.specs.Lens.{Lens, match, source, parts, entries}
 use Rattle.semantics.specs.Lens.{Book as Entries}
 use Rattle.semantics.specs.Table.{Tree, pattern, lens, broken, Trees, trees, tree_at, lens_at}
-use Rattle.laws.specs.Basics.{not_both}
 use Rattle.positions.specs.declared.Set.{Set}
 use Rattle.positions.specs.Positions.{Added}
 use Rattle.automaton.specs.Built.{Built, tree_language}
@@ -16,7 +15,6 @@ use Rattle.lens.specs.Parsed.{Parsed, parsed_length}
 use Rattle.books.specs.declared.Book.{Book}
 use Rattle.books.specs.Listed.{unused, added, Entered, BookFits, InOrder, Sized, fits_added, in_order_added, in_order_more, sized_added, unused_match, unused_length}
 use Rattle.books.specs.Looking.{place_at, part_at, EntriesParsed}
-use Rattle.listing.specs.declared.Listing.{Listing}
 
 -- ---- The entries of a node's tree
 
@@ -54,29 +52,33 @@ pub record Untaken (ts : Trees) (old : Text) (book : Book) : Type 0 where
   pub fits : BookFits (length old) book
   pub counted : length (unused ts old book) ≡ book.count
 
--- The entries stand behind those that were in the book; or there are more than 256.
-pub record PutBehind (ts : Trees) (old : Text) (es : Entries) (before : Book) (r : Listing) : Type 0 where
-  pub listed : r.over ≡ false → unused ts old r.book ≡ unused ts old before ++ es
-  pub untaken : r.over ≡ false → Untaken ts old r.book
-  pub too_many : r.over ≡ true → 256 < before.count + length es
-
--- The entries of a text were listed, whatever the old source in which the text stands at `at`. Each is parsed by the old source's path, if those that were in
+-- The entries of a text were put behind those in the book, whatever the old source in which the text stands at `at`. Each is parsed by the old source's path, if those that were in
 -- the book are; and they stand in order and end by the end of the text, if those that were in the book do by its start.
-pub record Lists (bytes : Text) (es : Entries) (text : Text) (path : Text) (at : ℕ) (before : Book) (r : Listing) : Type 0 where
-  pub sized : Sized r.book
-  pub few : r.book.count ≤ 256
-  pub lists : (old : Text) → StandsIn old text at → Untaken (trees bytes) old before → PutBehind (trees bytes) old es before r
-  pub lists_parsed :
+pub record ListsInto (bytes : Text) (es : Entries) (text : Text) (path : Text) (at : ℕ) (before book : Book) : Type 0 where
+  pub sized : Sized book
+  pub few : book.count ≤ 256
+  pub listed :
+      (old : Text) → StandsIn old text at → Untaken (trees bytes) old before → unused (trees bytes) old book ≡ unused (trees bytes) old before ++ es
+  pub untaken : (old : Text) → StandsIn old text at → Untaken (trees bytes) old before → Untaken (trees bytes) old book
+  pub parsed :
       (old trail : Text)
       → StandsIn old text at
       → StandsIn trail path at
       → EntriesParsed bytes old trail before
-      → r.over ≡ false
-      → EntriesParsed bytes old trail r.book
-  pub lists_ordered : InOrder at before → r.over ≡ false → InOrder (at + length text) r.book
+      → EntriesParsed bytes old trail book
+  pub ordered : InOrder at before → InOrder (at + length text) book
+
+-- With the entries of a text there are more than 256.
+pub record TooMany (bytes : Text) (es : Entries) (text : Text) (at : ℕ) (before : Book) : Type 0 where
+  pub too_many : (old : Text) → StandsIn old text at → Untaken (trees bytes) old before → 256 < before.count + length es
+
+-- The entries of a text were listed; where there is no book, there are too many.
+pub record Lists (bytes : Text) (es : Entries) (text : Text) (path : Text) (at : ℕ) (before : Book) (r : Option Book) : Type 0 where
+  pub listed_into : (book : Book) → r ≡ Some book → ListsInto bytes es text path at before book
+  pub over : r ≡ None → TooMany bytes es text at before
 
 -- The one entry of a match was listed, whatever the lens of its child and the path by which the text is parsed there.
-pub record ListsMatch (child base : ℕ) (text : Text) (at : ℕ) (before : Book) (r : Listing) : Type 0 where
+pub record ListsMatch (child base : ℕ) (text : Text) (at : ℕ) (before : Book) (r : Option Book) : Type 0 where
   pub lists_match :
       (bytes path : Text) (l : Lens)
       → lens_at (trees bytes) child ≡ some l
@@ -139,47 +141,52 @@ to_list_part {text} whole o e at' ordered within place_is sized few =
 
 -- the same entries
 pub lists_as :
-    {bytes : Text} {es fs : Entries} {text path : Text} {at : ℕ} {b : Book} {r : Listing}
+    {bytes : Text} {es fs : Entries} {text path : Text} {at : ℕ} {b : Book} {r : Option Book}
     → es ≡ fs
     → Lists bytes fs text path at b r
     → Lists bytes es text path at b r
 lists_as e known = rw e known
+
+-- they were, into a book
+pub lists_some :
+    {bytes : Text} {es : Entries} {text path : Text} {at : ℕ} {b book : Book}
+    → ListsInto bytes es text path at b book
+    → Lists bytes es text path at b (Some book)
+lists_some {bytes} {es} {text} {path} {at} {b} known =
+    record {
+      listed_into = λ x e. subst (ListsInto bytes es text path at b) (cc e) known;
+      over = λ e. absurd (let z : ◌≡◌ {A = ℕ} 0 1 = cc e in omega arith);
+    }
+
+-- What lists into a book and is not over is what lists into that book.
+pub lists_settled :
+    {bytes : Text} {es : Entries} {text path : Text} {at : ℕ} {b book : Book} {r : Option Book}
+    → r ≡ Some book
+    → Lists bytes es text path at b r
+    → Lists bytes es text path at b (Some book)
+lists_settled {book = book} e known = lists_some (known.listed_into book e)
+
+-- or there are too many
+pub lists_many :
+    {bytes : Text} {es : Entries} {text path : Text} {at : ℕ} {b : Book}
+    → TooMany bytes es text at b
+    → Lists bytes es text path at b None
+lists_many many = record { listed_into = λ x e. absurd (let z : ◌≡◌ {A = ℕ} 0 1 = cc e in omega arith); over = λ e. many }
 
 -- no entries: the book is as it was
 pub lists_none :
     (bytes text path : Text) (at : ℕ) (b : Book)
     → Sized b
     → b.count ≤ 256
-    → Lists bytes [] text path at b (record { over = false; book = b })
+    → ListsInto bytes [] text path at b b
 lists_none bytes text path at b sized few =
     record {
       sized = sized;
       few = few;
-      lists = λ old s u.
-          record {
-            listed = λ e. sym (append-nil (unused (trees bytes) old b));
-            untaken = λ e. u;
-            too_many = λ e. absurd (true≢false (sym e));
-          };
-      lists_parsed = λ old trail s p before e. before;
-      lists_ordered = λ before e. in_order_more (at + length text) (omega arith) before;
-    }
-
--- where there are not too many, only the book counts
-pub lists_settled :
-    {bytes : Text} {es : Entries} {text path : Text} {at : ℕ} {b : Book} {r : Listing}
-    → r.over ≡ false
-    → Lists bytes es text path at b r
-    → Lists bytes es text path at b (record { over = false; book = r.book })
-lists_settled within known =
-    record {
-      sized = known.sized;
-      few = known.few;
-      lists = λ old s u.
-          let all = known.lists old s u in
-          record { listed = λ e. all.listed within; untaken = λ e. all.untaken within; too_many = λ e. absurd (true≢false (sym e)) };
-      lists_parsed = λ old trail s p before e. known.lists_parsed old trail s p before within;
-      lists_ordered = λ before e. known.lists_ordered before within;
+      listed = λ old s u. sym (append-nil (unused (trees bytes) old b));
+      untaken = λ old s u. u;
+      parsed = λ old trail s p before. before;
+      ordered = in_order_more (at + length text) (omega arith);
     }
 
 -- ---- A match's entry
@@ -220,31 +227,26 @@ lists_with :
     → Sized b
     → b.count < 256
     → Added b.left child left
-    → ListsMatch child base text at b (record { over = false; book = added b at (length text) base child left })
+    → ListsMatch child base text at b (Some (added b at (length text) base child left))
 lists_with text at b base child left sized room now-left =
     record {
       lists_match = λ bytes path l lens-is parsed.
-          record {
+          lists_some (record {
             sized = sized_added b at (length text) base child left sized;
             few = omega arith;
-            lists = λ old s u.
-                let ts = trees bytes in
+            listed = λ old s u.
+                unused_match (trees bytes) old b at (length text) base child left sized room l lens-is
+                ∙ ap (λ t. unused (trees bytes) old b ++ entries (match child l) t) s.text_is;
+            untaken = λ old s u.
                 record {
-                  listed = λ e.
-                      unused_match ts old b at (length text) base child left sized room l lens-is
-                      ∙ ap (λ t. unused ts old b ++ entries (match child l) t) s.text_is;
-                  untaken = λ e.
-                      record {
-                        fits = fits_added (length old) b at (length text) base child left sized u.fits room s.inside now-left;
-                        counted = unused_length ts old b at (length text) base child left sized room u.counted;
-                      };
-                  too_many = λ e. absurd (true≢false (sym e));
+                  fits = fits_added (length old) b at (length text) base child left sized u.fits room s.inside now-left;
+                  counted = unused_length (trees bytes) old b at (length text) base child left sized room u.counted;
                 };
-            lists_parsed = λ old trail s p before e.
+            parsed = λ old trail s p before.
                 parsed_added at (length text) base child left sized room before (rw (s.text_is, ← (parsed_length parsed), p.text_is) parsed);
-            lists_ordered = λ before e.
+            ordered = λ before.
                 in_order_added (at + length text) b at (length text) base child left sized before room (omega arith) (omega arith);
-          };
+          });
     }
 
 -- so it is with the book that it was entered into
@@ -254,33 +256,22 @@ pub lists_added :
     → b.count < 256
     → size ≡ length text
     → Entered b at size base child r
-    → ListsMatch child base text at b (record { over = false; book = r })
+    → ListsMatch child base text at b (Some r)
 lists_added text at b base child {size} {r} sized room size_is entered =
     let book_is : r ≡ added b at (length text) base child r.left = rw size_is at entered.book_is in
     subst
-    (λ x. ListsMatch child base text at b (record { over = false; book = x }))
+    (λ x. ListsMatch child base text at b (Some x))
     (sym book_is)
     (lists_with text at b base child r.left sized room entered.left_is)
 
 -- and where there is none
 pub lists_full :
     (text : Text) (at : ℕ) (b : Book) (base child : ℕ)
-    → Sized b
-    → b.count ≡ 256
-    → ListsMatch child base text at b (record { over = true; book = b })
+    → 256 ≤ b.count
+    → ListsMatch child base text at b None
 unfolding entries
-lists_full text at b base child sized full =
-    record {
-      lists_match = λ bytes path l lens-is parsed.
-          record {
-            sized = sized;
-            few = omega arith;
-            lists = λ old s u.
-                record { listed = λ e. absurd (true≢false e); untaken = λ e. absurd (true≢false e); too_many = λ e. omega arith };
-            lists_parsed = λ old trail s p before e. absurd (true≢false e);
-            lists_ordered = λ before e. absurd (true≢false e);
-          };
-    }
+lists_full text at b base child full =
+    record { lists_match = λ bytes path l lens-is parsed. lists_many (record { too_many = λ old s u. omega arith }) }
 
 -- ---- Two halves
 
@@ -290,50 +281,48 @@ module _
     {u p : Text}
     {at : ℕ}
     {b : Book}
-    {r : Listing}
     (fs : Entries)
     (v q : Text)
-    (as_long : length p ≡ length u)
-    (first : Lists bytes es u p at b r)
   where
     -- the entries of two halves, where those of the first were listed
     pub lists_next :
-        {r' : Listing} → r.over ≡ false → Lists bytes fs v q (at + length u) r.book r' → Lists bytes (es ++ fs) (u ++ v) (p ++ q) at b r'
-    lists_next more second =
+        {more : Book} {r : Option Book}
+        → length p ≡ length u
+        → ListsInto bytes es u p at b more
+        → Lists bytes fs v q (at + length u) more r
+        → Lists bytes (es ++ fs) (u ++ v) (p ++ q) at b r
+    lists_next {more} as_long first second =
         record {
-          sized = second.sized;
-          few = second.few;
-          lists = λ old s known.
-              let ts = trees bytes in
-              let one = first.lists old (stands_first u v s) known in
-              let two = second.lists old (stands_second u v s) (one.untaken more) in
-              let so_far = (one.untaken more).counted in
-              let count_is : length (unused ts old r.book) ≡ length (unused ts old b) + length es =
-              rw (one.listed more) (length-append (unused ts old b) es) in
+          listed_into = λ book is.
+              let later = second.listed_into book is in
               record {
-                listed = λ e. two.listed e ∙ ap (λ x. x ++ fs) (one.listed more) ∙ append_assoc (unused ts old b) es fs;
-                untaken = two.untaken;
-                too_many = λ e. rw length-append (omega (arith, two.too_many e, known.counted));
+                sized = later.sized;
+                few = later.few;
+                listed = λ old s known.
+                    later.listed old (stands_second u v s) (first.untaken old (stands_first u v s) known)
+                    ∙ ap (λ x. x ++ fs) (first.listed old (stands_first u v s) known)
+                    ∙ append_assoc (unused (trees bytes) old b) es fs;
+                untaken = λ old s known. later.untaken old (stands_second u v s) (first.untaken old (stands_first u v s) known);
+                parsed = λ old trail s on before.
+                    later.parsed old trail (stands_second u v s) (rw as_long at (stands_second p q on)) (first.parsed old trail (stands_first u v s) (stands_first p q on) before);
+                ordered = λ before. in_order_more (at + length (u ++ v)) (omega (arith, length-append u v)) (later.ordered (first.ordered before));
               };
-          lists_parsed = λ old trail s on before e.
-              let one = first.lists_parsed old trail (stands_first u v s) (stands_first p q on) before more in
-              second.lists_parsed old trail (stands_second u v s) (rw as_long at (stands_second p q on)) one e;
-          lists_ordered = λ before e.
-              in_order_more (at + length (u ++ v)) (omega (arith, length-append u v)) (second.lists_ordered (first.lists_ordered before more) e);
+          over = λ is.
+              record {
+                too_many = λ old s known.
+                    let ts = trees bytes in
+                    let taken = first.untaken old (stands_first u v s) known in
+                    let so_far = taken.counted in
+                    let count_is : length (unused ts old more) ≡ length (unused ts old b) + length es =
+                    rw (first.listed old (stands_first u v s) known) (length-append (unused ts old b) es) in
+                    rw length-append (omega (arith, count_is, so_far, (second.over is).too_many old (stands_second u v s) taken, known.counted));
+              };
         }
 
-    -- and where the first has too many
-    pub lists_over : r.over ≡ true → Lists bytes (es ++ fs) (u ++ v) (p ++ q) at b r
-    lists_over over =
-        record {
-          sized = first.sized;
-          few = first.few;
-          lists = λ old s known.
-              record {
-                listed = λ e. absurd (not_both over e);
-                untaken = λ e. absurd (not_both over e);
-                too_many = λ e. rw length-append (omega (arith, (first.lists old (stands_first u v s) known).too_many e));
-              };
-          lists_parsed = λ old trail s on before e. absurd (not_both over e);
-          lists_ordered = λ before e. absurd (not_both over e);
-        }
+-- and where the first has too many
+pub lists_over :
+    {bytes : Text} {es : Entries} {u : Text} {at : ℕ} {b : Book} (fs : Entries) (v : Text)
+    → TooMany bytes es u at b
+    → TooMany bytes (es ++ fs) (u ++ v) at b
+lists_over {u = u} fs v over =
+    record { too_many = λ old s known. rw length-append (omega (arith, over.too_many old (stands_first u v s) known)) }

@@ -14,27 +14,16 @@ use books::Book;
 use cuts::{border, ends_of, first_loop, goes_left};
 use table::{Kind, Table};
 
-// A book with more entries; or, where `over`, there are more than 256 and the book is of no account.
-#[derive(Clone, Copy)]
-pub struct Listing {
-    pub over: bool,
-    pub book: Book,
-}
-
-// The text that a match reads is one entry, of the match's child.
-fn list_match(child: usize, base: usize, text: &[u8], at: usize, book: Book) -> Listing
+// The text that a match reads is one entry, of the match's child. None, here and below, where there are more than 256 entries.
+fn list_match(child: usize, base: usize, text: &[u8], at: usize, book: Book) -> Option<Book>
     requires child_bound { (child < 128) × (base < 256) × (at + length text.now ≤ 65535) }
     requires sized { Sized book × (book.count ≤ 256) }
     ensures { ListsMatch child base text.now at book result }
 {
-    let count = book.count;
-    if count == Book::ENTRIES {
-        return Listing { over: true, book };
-    }
-    let more = book.added(at, text.len(), base, child);
-    Listing {
-        over: false,
-        book: more,
+    if book.count < Book::ENTRIES {
+        Some(book.added(at, text.len(), base, child))
+    } else {
+        None
     }
 }
 
@@ -50,7 +39,7 @@ pub fn list(
     path: &[u8],
     at: usize,
     book: Book,
-) -> Listing
+) -> Option<Book>
     requires to_list { ToList bytes.now prepared.now text.now at book }
     requires node_bound { node < node_count bytes.now }
     requires parsed { Parsed bytes.now node source base path.now text.now }
@@ -58,10 +47,9 @@ pub fn list(
 {
     let read = Table::node(bytes, prepared, node);
     if !read.holds_match {
-        return Listing { over: false, book };
+        return Some(book);
     }
-    let kind = read.kind;
-    match kind {
+    match read.kind {
         Kind::Match { child } => list_match(child, base, text, at, book),
         Kind::LensUnion { left, right } => {
             let a = automaton_of(prepared, left, Side::Source);
@@ -76,18 +64,14 @@ pub fn list(
             let mid = base + a.count;
             let i = border(path, mid);
             let front = &text[0..i];
-            let half = list(bytes, prepared, left, base, front, &path[0..i], at, book);
-            if half.over {
-                return half;
-            }
-            let more = half.book;
+            let more = list(bytes, prepared, left, base, front, &path[0..i], at, book)?;
             let back = &text[i..];
             list(bytes, prepared, right, mid, back, &path[i..], at + i, more)
         }
         Kind::LensRepeat { child } => {
             list_parts(bytes, prepared, node, child, base, text, path, at, book)
         }
-        _ => Listing { over: false, book },
+        _ => Some(book),
     }
 }
 
@@ -103,7 +87,7 @@ fn list_parts(
     path: &[u8],
     at: usize,
     mut book: Book,
-) -> Listing
+) -> Option<Book>
     requires to_list { ToList bytes.now prepared.now text.now at book }
     requires child_lt_node { (child < node) × (node < node_count bytes.now) }
     requires one_lens { OneLens (trees bytes.now) node child (λ l. lens (repeat l)) }
@@ -111,28 +95,21 @@ fn list_parts(
     ensures { Lists bytes.now (repeat_entries (tree_at (trees bytes.now) child) text.now) text.now path.now at book result }
 {
     let read = Table::node(bytes, prepared, child);
-    let kind = read.kind;
-    if let Kind::Match { child: inner } = kind {
+    if let Kind::Match { child: inner } = read.kind {
         return list_matches(
             bytes, prepared, node, child, inner, base, text, path, at, book,
         );
     }
     let part = automaton_of(prepared, child, Side::Source);
     let ends = ends_of(part, base);
-    let last = ends.last;
-    let first = ends.first;
     let mut o = 0;
     while o < text.len() {
-        let e = o + first_loop(&path[o..], last, first);
+        let e = o + first_loop(&path[o..], ends.last, ends.first);
         let cut = &text[o..e];
-        let listing = list(bytes, prepared, child, base, cut, &path[o..e], at + o, book);
-        if listing.over {
-            return listing;
-        }
-        book = listing.book;
+        book = list(bytes, prepared, child, base, cut, &path[o..e], at + o, book)?;
         o = e;
     }
-    Listing { over: false, book }
+    Some(book)
 }
 
 // The same where the child is a match: each part is one entry, of the match's child.
@@ -147,7 +124,7 @@ fn list_matches(
     path: &[u8],
     at: usize,
     mut book: Book,
-) -> Listing
+) -> Option<Book>
     requires to_list { ToList bytes.now prepared.now text.now at book }
     requires child_lt_node { (child < node) × (node < node_count bytes.now) }
     requires one_lens { OneLens (trees bytes.now) node child (λ l. lens (repeat l)) }
@@ -157,13 +134,11 @@ fn list_matches(
 {
     let part = automaton_of(prepared, child, Side::Source);
     let ends = ends_of(part, base);
-    let last = ends.last;
-    let first = ends.first;
     let mut o = 0;
     while o < text.len() {
-        let e = o + first_loop(&path[o..], last, first);
+        let e = o + first_loop(&path[o..], ends.last, ends.first);
         if book.count == Book::ENTRIES {
-            return Listing { over: true, book };
+            return None;
         }
         // Stored in place and not by `added`: so the book is not copied for each entry.
         let i = book.count;
@@ -172,10 +147,9 @@ fn list_matches(
         book.bases[i] = base as u8;
         book.children[i] = inner as u8;
         book.used[i] = false;
-        let left = book.left;
-        book.left = left.with(inner);
+        book.left = book.left.with(inner);
         book.count = i + 1;
         o = e;
     }
-    Listing { over: false, book }
+    Some(book)
 }

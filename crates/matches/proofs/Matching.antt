@@ -9,11 +9,11 @@ use Rattle.semantics.specs.Tally.{Meeting, meet_parts, met}
 use Rattle.laws.specs.Bookless.{plain, Unasked, unasked_writes}
 use Rattle.table.specs.Prepared.{OneLens}
 use Rattle.cuts.specs.declared.Ends.{Ends}
-use Rattle.texts.specs.declared.Wrote.{Wrote}
+use Rattle.texts.specs.Overlay.{Wrote}
 use Rattle.lens.specs.Nodes.{same_lens}
 use Rattle.books.specs.declared.Book.{Book}
 use Rattle.books.specs.declared.Lookup.{Lookup}
-use Rattle.books.specs.declared.Old.TheVariants.{Nothing}
+use Rattle.std.specs.Prelude.{None}
 use Rattle.books.specs.Listed.{unused}
 use Rattle.books.specs.Looking.{old_text, LookedUp, same_then}
 use Rattle.steps.specs.Stepping.{OldEnds}
@@ -141,7 +141,7 @@ pub matches_written :
     {bytes : Text} {node child n : ℕ} (deck : Text) {new mid after : Text} {done r : Done}
     → OneLens (trees bytes) node child (λ l. lens (repeat l))
     → OneLens (trees bytes) child n (λ l. lens (match n l))
-    → WritesBehind bytes node deck (old_text deck Nothing) new done mid after r
+    → WritesBehind bytes node deck (old_text deck None) new done mid after r
     → WritesMatches bytes node deck new done mid after r
 unfolding old_text
 matches_written {n = n} deck {new = new} s inner w =
@@ -150,5 +150,5 @@ matches_written {n = n} deck {new = new} s inner w =
     record { writes = λ old. at_node (repeat l) tree_is (behind_same (matches_free n inner.child old new) (matches_met n inner.child old new) (w.writes (repeat l) tree_is)) }
 
 -- where there is no old text, no part of it ends anywhere
-pub none_ends : {prepared : List ℕ} {child : ℕ} {ends : Ends} → OldEnds prepared child Nothing ends
+pub none_ends : {prepared : List ℕ} {child : ℕ} {ends : Ends} → OldEnds prepared child None ends
 none_ends = record { ends_are = λ p e. absurd (let z : ◌≡◌ {A = ℕ} 0 1 = cc in omega arith) }

@@ -36,12 +36,9 @@ pub fn find_entry(
     requires looks_in { LooksIn bytes.now deck.now book × (length card.old ≡ 4098) }
     ensures { EntryFound bytes.now spot.node deck.now new.now book result }
 {
-    let child = spot.node;
-    let base = spot.base;
-    let made = card_of(bytes, prepared, child, base, new, path, card);
-    let n = made.len;
-    let print = made.print;
-    book.take(child, print, &card[0..n], deck)
+    let Spot { node, base } = spot;
+    let made = card_of(bytes, prepared, node, base, new, path, card);
+    book.take(node, made.print, &card[0..made.len], deck)
 }
 
 // A repeat of a match: each part onto the entry that its key finds. There is no match inside a match, so its child writes with no book.
@@ -68,23 +65,23 @@ pub fn write_matches(
     requires within_buffer { WithinBuffer done out.old × (length card.old ≡ 4098) }
     ensures { WritesMatches bytes.now spot.node deck.now new.now done out.old out.new result }
 {
-    let last = ends.last;
-    let first = ends.first;
-    let mut book = done.book;
-    let mut wrote = done.wrote;
-    let mut met = done.met;
+    let Done {
+        mut wrote,
+        mut book,
+        mut met,
+    } = done;
     let mut o = 0;
     while o < new.len() {
-        let e = o + first_loop(&path[o..], last, first);
+        let e = o + first_loop(&path[o..], ends.last, ends.first);
         let piece = &new[o..e];
         let track = &mut path[o..e];
         // Looked up here and not by `find_entry`: so the book is not copied in and out for each part.
         let made = card_of(bytes, prepared, part.node, part.base, piece, track, card);
-        let n = made.len;
-        let lookup = book.take(part.node, made.print, &card[0..n], deck);
+        let lookup = book.take(part.node, made.print, &card[0..made.len], deck);
         book = lookup.book;
-        let found = lookup.old;
-        wrote = next_plain(wrote, bytes, prepared, part, piece, track, found, deck, out);
+        wrote = next_plain(
+            wrote, bytes, prepared, part, piece, track, lookup.old, deck, out,
+        );
         met = wrapping_add_usize(met, 1);
         o = e;
     }

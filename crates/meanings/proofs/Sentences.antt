@@ -1,10 +1,10 @@
 -- Which numbers have a sentence, arm by arm.
 use mathlib.Core.Bool.{Bool, true, false, ◌&&◌}
-use mathlib.Core.Path.{◌≡◌, refl}
-use Prim.Native.Nat.{ℕ, ◌≤◌, ◌<◌}
+use mathlib.Core.Path.{◌≡◌, refl, sym}
+use Prim.Native.Nat.{ℕ, ◌-◌, ◌≤◌, ◌<◌}
 use native.Mathlib.Omega.{arith}
-use borrow.Author.Tests.{leb-true, leb-false, le-leb, lt-leb}
-use lib.Dec.{leb}
+use borrow.Author.Tests.{leb-true, le-leb, lt-leb, ltb-true, ltb-false}
+use lib.Dec.{leb, ltb}
 use Rattle.meanings.specs.Sentences.{has_sentence}
 
 -- one of them
@@ -21,14 +21,10 @@ has_none first number above = go (leb first number) refl
     go true e = lt-leb _ _ (above (leb-true _ _ e))
     go false e = refl
 
--- one that is not before `later`
-pub has_later : (first later number : ℕ) → first ≤ later → (first ≤ number → later ≤ number) → has_sentence later number ≡ has_sentence first number
-unfolding has_sentence
-has_later first later number order passed = go (leb first number) refl
+-- and a place among them
+pub placed : (number place : ℕ) → (1 ≤ number) × (place ≡ number - 1) → ltb place 19 ≡ has_sentence 1 number
+placed number place (low, is) = go (ltb place 19) refl
   where
-    go : (b : Bool) → leb first number ≡ b → (leb later number && leb number 19) ≡ (b && leb number 19)
-    go true e = rw (le-leb _ _ (passed (leb-true _ _ e))) refl
-    go false e =
-        let below : number < first = leb-false _ _ e in
-        let before : number < later = omega arith in
-        rw (lt-leb _ _ before) refl
+    go : (b : Bool) → ltb place 19 ≡ b → b ≡ has_sentence 1 number
+    go true e = sym (has 1 number low (omega (arith, ltb-true place 19 e)))
+    go false e = sym (has_none 1 number (λ h. omega (arith, ltb-false place 19 e)))

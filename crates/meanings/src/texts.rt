@@ -5,22 +5,12 @@ ghost use Rattle.meanings.specs.Texts.{is_text, is_text_byte};
 pub fn is_text(bytes: &[u8]) -> bool
     ensures { result ≡ is_text bytes.now }
 {
-    let mut i = 0;
-    while i < bytes.len() {
-        if !is_text_byte(bytes[i]) {
-            return false;
-        }
-        i += 1;
-    }
-    true
+    bytes.iter().all(|byte| is_text_byte(*byte))
 }
 
 // Of the bytes below 32 a text has only tab, newline and carriage return.
 fn is_text_byte(byte: u8) -> bool
     ensures { result ≡ is_text_byte byte }
 {
-    if byte == b'\t' || byte == b'\n' || byte == b'\r' {
-        return true;
-    }
-    byte >= 32
+    matches!(byte, b'\t' | b'\n' | b'\r' | 32..)
 }

@@ -1,5 +1,5 @@
 -- What the numbers tell: number 0 says that there is a result, clash's outcome says which answer it is, and different answers have different numbers.
-use Rattle.std.specs.Prelude.{◌≡◌, refl, ◌↔◌, ℕ, length}
+use Rattle.std.specs.Prelude.{◌≡◌, refl, ◌↔◌, ℕ, length, Ok}
 use Rattle.std.proofs.Common.{ap, arith}
 use Rattle.semantics.specs.Text.{Text}
 use Rattle.semantics.specs.Calls.{gives, refuses, check_call, get_call, put_call, create_call}
@@ -11,10 +11,6 @@ use Rattle.sections.specs.Afm.{import_call, export_call}
 use Rattle.sections.proofs.RoundTrips.{import_named, export_named}
 use Rattle.laws.specs.Basics.{never}
 use Rattle.laws.specs.Refusals.{Named, check_named, get_named, put_named, create_named}
-use Rattle.answers.specs.declared.Answer.TheVariants.{Result}
-use Rattle.answers.specs.declared.ClashAnswer.{ClashAnswer}
-use Rattle.answers.specs.declared.ClashAnswer.TheVariants.{Accepted, Clash}
-use Rattle.answers.specs.declared.ClashAnswer.TheVariants as C
 use Rattle.answers.specs.Outcomes.{answer_for, put_answer_for, clash_answer_for}
 use Rattle.noontrough.specs.declared.Numbers.{Numbers}
 use Rattle.noontrough.specs.declared.PutNumbers.{PutNumbers}
@@ -174,7 +170,7 @@ pub numbers_differ :
     → numbers_of (answer_for len outcome) ≡ numbers_of (answer_for len outcome')
     → answer_for len outcome ≡ answer_for len outcome'
 unfolding answer_for
-numbers_differ len (gives x) (gives y) named named' e = let same : len x ≡ len y = ap (λ (n : Numbers). n.length) e in ap Result same
+numbers_differ len (gives x) (gives y) named named' e = let same : len x ≡ len y = ap (λ (n : Numbers). n.length) e in ap Ok same
 numbers_differ len (gives x) (refuses number node) named named' e =
     let some = named'.named number node refl in
     let is : 0 ≡ number = ap (λ (n : Numbers). n.number) e in
@@ -214,31 +210,29 @@ put_numbers_differ (refuses number node) (refuses number' node') n n' named name
     let nodes : node ≡ node' = ap (λ (m : PutNumbers). m.node) e in
     cc
 
--- clash's, whatever the answers
-clash_answers_differ : (answer answer' : ClashAnswer) → clash_numbers_of answer ≡ clash_numbers_of answer' → answer ≡ answer'
-clash_answers_differ Accepted Accepted e = refl
-clash_answers_differ Accepted (Clash number node n first second) e = let z : ◌≡◌ {A = ℕ} 0 1 = ap (λ (m : ClashNumbers). m.outcome) e in absurd (omega arith)
-clash_answers_differ Accepted (C.Refusal number node) e = let z : ◌≡◌ {A = ℕ} 0 2 = ap (λ (m : ClashNumbers). m.outcome) e in absurd (omega arith)
-clash_answers_differ (Clash number node n first second) Accepted e = let z : ◌≡◌ {A = ℕ} 1 0 = ap (λ (m : ClashNumbers). m.outcome) e in absurd (omega arith)
-clash_answers_differ (Clash number node n first second) (Clash number' node' n' first' second') e =
-    let numbers : number ≡ number' = ap (λ (m : ClashNumbers). m.number) e in
-    let nodes : node ≡ node' = ap (λ (m : ClashNumbers). m.node) e in
-    let lengths : n ≡ n' = ap (λ (m : ClashNumbers). m.length) e in
-    let firsts : first ≡ first' = ap (λ (m : ClashNumbers). m.first) e in
-    let seconds : second ≡ second' = ap (λ (m : ClashNumbers). m.second) e in
-    cc
-clash_answers_differ (Clash number node n first second) (C.Refusal number' node') e =
-    let z : ◌≡◌ {A = ℕ} 1 2 = ap (λ (m : ClashNumbers). m.outcome) e in absurd (omega arith)
-clash_answers_differ (C.Refusal number node) Accepted e = let z : ◌≡◌ {A = ℕ} 2 0 = ap (λ (m : ClashNumbers). m.outcome) e in absurd (omega arith)
-clash_answers_differ (C.Refusal number node) (Clash number' node' n first second) e =
-    let z : ◌≡◌ {A = ℕ} 2 1 = ap (λ (m : ClashNumbers). m.outcome) e in absurd (omega arith)
-clash_answers_differ (C.Refusal number node) (C.Refusal number' node') e =
-    let numbers : number ≡ number' = ap (λ (m : ClashNumbers). m.number) e in
-    let nodes : node ≡ node' = ap (λ (m : ClashNumbers). m.node) e in
-    cc
-
+-- clash's, of which the outcome comes first
 pub clash_numbers_differ :
     (outcome outcome' : Clashes.Outcome)
     → clash_numbers_of (clash_answer_for outcome) ≡ clash_numbers_of (clash_answer_for outcome')
     → clash_answer_for outcome ≡ clash_answer_for outcome'
-clash_numbers_differ outcome outcome' = clash_answers_differ (clash_answer_for outcome) (clash_answer_for outcome')
+unfolding clash_answer_for
+clash_numbers_differ no_clash no_clash e = refl
+clash_numbers_differ no_clash (clash number node t ends) e = let z : ◌≡◌ {A = ℕ} 0 1 = ap (λ (m : ClashNumbers). m.outcome) e in absurd (omega arith)
+clash_numbers_differ no_clash (refused number node) e = let z : ◌≡◌ {A = ℕ} 0 2 = ap (λ (m : ClashNumbers). m.outcome) e in absurd (omega arith)
+clash_numbers_differ (clash number node t ends) no_clash e = let z : ◌≡◌ {A = ℕ} 1 0 = ap (λ (m : ClashNumbers). m.outcome) e in absurd (omega arith)
+clash_numbers_differ (clash number node t ends) (clash number' node' t' ends') e =
+    let numbers : number ≡ number' = ap (λ (m : ClashNumbers). m.number) e in
+    let nodes : node ≡ node' = ap (λ (m : ClashNumbers). m.node) e in
+    let lengths : length t ≡ length t' = ap (λ (m : ClashNumbers). m.length) e in
+    let firsts : ends.0 ≡ ends'.0 = ap (λ (m : ClashNumbers). m.first) e in
+    let seconds : ends.1 ≡ ends'.1 = ap (λ (m : ClashNumbers). m.second) e in
+    cc
+clash_numbers_differ (clash number node t ends) (refused number' node') e =
+    let z : ◌≡◌ {A = ℕ} 1 2 = ap (λ (m : ClashNumbers). m.outcome) e in absurd (omega arith)
+clash_numbers_differ (refused number node) no_clash e = let z : ◌≡◌ {A = ℕ} 2 0 = ap (λ (m : ClashNumbers). m.outcome) e in absurd (omega arith)
+clash_numbers_differ (refused number node) (clash number' node' t ends) e =
+    let z : ◌≡◌ {A = ℕ} 2 1 = ap (λ (m : ClashNumbers). m.outcome) e in absurd (omega arith)
+clash_numbers_differ (refused number node) (refused number' node') e =
+    let numbers : number ≡ number' = ap (λ (m : ClashNumbers). m.number) e in
+    let nodes : node ≡ node' = ap (λ (m : ClashNumbers). m.node) e in
+    cc

@@ -8,26 +8,15 @@ ghost use Rattle.semantics.specs.Text.{all_spaces, trimmed};
 pub fn all_spaces(text: &[u8]) -> bool
     ensures { result ≡ all_spaces text.now }
 {
-    let mut i = 0;
-    while i < text.len() {
-        if text[i] != 32 {
-            return false;
-        }
-        i += 1;
-    }
-    true
+    text.iter().all(|byte| *byte == b' ')
 }
 
 // How many bytes of a text are left without its trailing spaces.
 pub fn trimmed_length(text: &[u8]) -> usize
     ensures { result ≡ length (trimmed text.now) }
 {
-    let mut n = text.len();
-    while 0 < n {
-        if text[n - 1] != 32 {
-            return n;
-        }
-        n -= 1;
+    match text.iter().rposition(|byte| *byte != b' ') {
+        Some(last) => last + 1,
+        None => 0,
     }
-    n
 }

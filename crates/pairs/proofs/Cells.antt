@@ -1,19 +1,23 @@
 -- Sets that are gathered position by position, and cells that gain pairs: what the functions' proofs cite. Assumes nothing.
 use mathlib.Core.Path.{◌≡◌, refl, sym, ap, ◌∙◌}
 use mathlib.Core.Bool.{Bool, true, false, not, ◌||◌, true≢false, false≢true}
-use mathlib.Core.List.{List, [], ◌∷◌}
+use mathlib.Core.List.{List, [], ◌∷◌, ◌++◌}
 use mathlib.Core.Logic.{◌↔◌, ⊎_elim}
-use Prim.Native.Nat.{ℕ, zero, suc, ◌+◌, ◌*◌, ◌≤◌, ◌<◌, min}
+use Prim.Native.Nat.{ℕ, zero, suc, ◌+◌, ◌*◌, ◌≤◌, ◌<◌}
 use native.Mathlib.Nat.{not-suc-le-zero}
 use native.Mathlib.Omega.{arith}
 use borrow.Author.Tests.{eqb-true, eqb-false, eq-eqb, not-true, not-false}
 use lib.Bits.{bit_or, or_add_and, and_le_r}
 use lib.Dec.{eqb}
-use lib.ListN.{length, get_or, set, replicate, length-replicate, length-set}
+use lib.ListN.{length, get_or, set, take, drop, replicate, length-replicate, length-set, length-append, length-drop}
+use Rattle.std.proofs.Common.{length-take}
 use lib.Seq.{get_or-set_same, get_or-set_other, set-get_or}
 use Rattle.laws.specs.Basics.{bool_cases, not_both, and_both, and_of}
 use Rattle.positions.specs.declared.Set.{Set}
-use Rattle.positions.specs.Positions.{holds, Empty, FirstFrom}
+use Rattle.positions.specs.declared.Below.{Below}
+use Rattle.positions.specs.Positions.{holds, Empty}
+use Rattle.positions.specs.Below.{Taken, Done}
+use Rattle.positions.proofs.Walk.{WalkAt, at_start, at_first, at_next, at_end}
 use Rattle.positions.proofs.Bits.{holds_or, holds_by, bit_zero}
 use Rattle.classes.specs.Classes.{any_below}
 use Rattle.classes.proofs.Anys.{split_at, same_where, any_more, any_iff}
@@ -63,25 +67,33 @@ module _ {gives : ℕ → ℕ → Bool} where
             (λ e. let (p, l, u) = all.0 e in some.1 (p, split_at p n (λ k. k) (λ k. absurd (not_both u (none p q k l))), u));
       }
 
--- Gathered from the positions of a set alone, of those below a count: no others give anything.
-module _ {gives : ℕ → ℕ → Bool} {given : Set} (only : (p q : ℕ) → holds given p ≡ false → gives p q ≡ false) (count : ℕ) where
-  pub gathered_first : {p : ℕ} {r : Set} → Empty r → FirstFrom given 0 p → Gathered (min p count) gives r
-  gathered_first nothing first =
-      gathered_skip (omega arith) (λ k q l m. only k q (first.skipped k (omega arith) (omega arith))) (gathered_none nothing)
+-- What the positions of a set give that have come on a walk over it, those before some place.
+pub record GatheredOn (gives : ℕ → ℕ → Bool) (given : Set) (count : ℕ) (walk : Below) (r : Set) : Type 0 where
+  pub place : ℕ
+  pub comes : WalkAt given count walk place
+  pub gathered : Gathered place gives r
 
-  pub gathered_next :
-      {n p : ℕ} {out r : Set}
-      → n < count
-      → Gathered (min n count) gives out
-      → ((q : ℕ) → holds r q ≡ (gives n q || holds out q))
-      → FirstFrom given (n + 1) p
-      → Gathered (min p count) gives r
-  gathered_next {n} below g step first =
-      let same : min n count ≡ n = omega arith in
-      gathered_skip
-      (omega (arith, first.from))
-      (λ k q l m. only k q (first.skipped k (omega arith) (omega arith)))
-      (gathered_more (rw same at g) step)
+-- No others give anything.
+module _ {gives : ℕ → ℕ → Bool} {given : Set} (only : (p q : ℕ) → holds given p ≡ false → gives p q ≡ false) {count : ℕ} where
+  pub on_begins : {walk of : Below} {r : Set} → walk ≡ of → of ≡ record { left = given; end = count } → Empty r → GatheredOn gives given count walk r
+  on_begins same begun nothing = record { place = 0; comes = at_start same begun; gathered = gathered_none nothing }
+
+  pub on_next :
+      {walk after : Below} {p : ℕ} {out r : Set}
+      → GatheredOn gives given count walk out
+      → Taken walk p after
+      → ((q : ℕ) → holds given p ≡ true → holds r q ≡ (gives p q || holds out q))
+      → GatheredOn gives given count after r
+  on_next {p = p} on taken step =
+      let first = at_first on.comes taken in
+      record {
+        place = p + 1;
+        comes = at_next on.comes taken;
+        gathered = gathered_more (gathered_skip first.from (λ k q l m. only k q (first.skipped k l m)) on.gathered) (λ q. step q (first.held taken.small));
+      }
+
+  pub on_end : {walk : Below} {out : Set} → GatheredOn gives given count walk out → Done walk → Gathered count gives out
+  on_end on done = gathered_skip on.comes.within (λ k q l m. only k q (at_end on.comes done k l m)) on.gathered
 
 -- the positions that share a byte with that of a row
 pub sharing_iff :
@@ -188,11 +200,6 @@ gained {x} {s} {A} {B} {C} {p} {q} fits first second f g =
         second ∙ ap (λ l. set l (2 * x + 1) (bit_or (get_or l (2 * x + 1) 0) s.high)) first
         ∙ ap (λ n. set (set A (2 * x) low) (2 * x + 1) (bit_or n s.high)) (get_or-set_other A (2 * x) (2 * x + 1) low 0 (λ e. omega arith))
 
-zeros_at : (n i : ℕ) → get_or (replicate {A = ℕ} n 0) i 0 ≡ 0
-zeros_at zero i = refl
-zeros_at (suc n) zero = refl
-zeros_at (suc n) (suc i) = zeros_at n i
-
 nothing_held : (s : Set) → s.low ≡ 0 → s.high ≡ 0 → Empty s
 nothing_held s l h q = holds_by s q (λ k. rw l (bit_zero q)) (λ k m. rw h (bit_zero _)) (λ k. refl)
 
@@ -201,14 +208,14 @@ pub blank_by : {n : ℕ} {cells : List ℕ} → length cells ≡ 256 → ((i : �
 blank_by {n} {cells} size zeros =
     record { size = size; none_held = λ x y l. nothing_held (row_of cells x) (zeros (2 * x) (omega arith)) (zeros (2 * x + 1) (omega arith)) y }
 
-pub blank_zeros : Blank 128 (replicate 256 0)
-blank_zeros = blank_by (length-replicate {A = ℕ} 256 0) (λ i l. zeros_at 256 i)
+-- zeros in front of the rest
+zeros_front : (n : ℕ) (rest : List ℕ) (i : ℕ) → i < n → get_or (replicate {A = ℕ} n 0 ++ rest) i 0 ≡ 0
+zeros_front zero rest i l = absurd (omega arith)
+zeros_front (suc n) rest zero l = refl
+zeros_front (suc n) rest (suc i) l = zeros_front n rest i (omega arith)
 
--- one word more is zero
-pub zeros_more : (cells : List ℕ) (n : ℕ) → n < length cells → ((i : ℕ) → i < n → get_or cells i 0 ≡ 0) → (i : ℕ) → i < n + 1 → get_or (set cells n 0) i 0 ≡ 0
-zeros_more cells n fits zeros i l =
-    case_row
-    i
-    n
-    (λ e. rw e (get_or-set_same cells n 0 0 fits))
-    (λ other. get_or-set_other cells n i 0 0 other ∙ zeros i (omega arith))
+-- the words of the first rows are filled with zeros
+pub blank_front : (n : ℕ) (front cells : List ℕ) → length cells ≡ 256 → n ≤ 128 → front ≡ replicate (length (take (2 * n) cells)) 0 → Blank n (front ++ drop (2 * n) cells)
+blank_front n front cells size few zeros =
+    let taken : length (take (2 * n) cells) ≡ 2 * n = simp length-take (omega arith) in
+    rw (zeros, taken) (blank_by (simp (length-append, length-replicate, length-drop) (omega arith)) (zeros_front (2 * n) (drop (2 * n) cells)))

@@ -3,48 +3,26 @@ use mathlib.Core.Path.{◌≡◌, refl, sym, ap, ap₂, ◌∙◌}
 use mathlib.Core.Bool.{Bool, true, false, not, ◌&&◌, cond}
 use mathlib.Core.List.{List}
 use mathlib.Core.Logic.{◌⊎◌, inl, inr, ⊎_elim}
-use Prim.Native.Nat.{ℕ, ◌+◌, ◌-◌, ◌*◌, ◌^◌, ◌≤◌, ◌<◌, min}
+use Prim.Native.Nat.{ℕ, ◌+◌, ◌-◌, ◌*◌, ◌^◌, ◌≤◌, ◌<◌}
 use native.Mathlib.Omega.{arith}
 use borrow.Author.Tests.{eqb-true, eqb-false, eq-eqb, ne_eqb, not-true}
 use lib.Dec.{eqb}
-use lib.ListN.{length, get_or, length-set}
+use lib.ListN.{length, get_or}
 use Rattle.laws.specs.Basics.{bool_cases, not_both, and_both, and_of, or_either, or_left, or_right}
 use Rattle.positions.specs.declared.Set.{Set}
+use Rattle.positions.specs.declared.Below.{Below}
 use Rattle.positions.specs.Positions.{holds, Empty, Added, Removed, Less, Met, FirstFrom}
+use Rattle.positions.specs.Below.{Taken, Done}
+use Rattle.positions.proofs.Walk.{WalkAt, at_start, at_first, at_next, at_end}
+use Rattle.language.specs.Sets.{Stored}
 use Rattle.positions.proofs.Bits.{holds_past}
 use Rattle.classes.specs.Classes.{any_below}
 use Rattle.classes.proofs.Anys.{split_at}
 use Rattle.automaton.specs.declared.Automaton.{Automaton}
 use Rattle.automaton.specs.Rows.{follow_of, alike_in}
 use Rattle.automaton.proofs.Standing.{alike_shares}
-use Rattle.pairs.specs.Pairs.{
-  Gathered,
-  by_follow,
-  by_sharing,
-  same_as_last,
-  row_of,
-  held,
-  total,
-  Gained,
-  Meets,
-  Shares,
-  Joins,
-  RowIn,
-  Noted,
-  Poured,
-  Onward,
-  Reached,
-  begins,
-  goes,
-  Sound,
-  Led,
-  Settled,
-  Spread,
-  NextDue,
-  Blank,
-  Filled,
-}
-use Rattle.pairs.proofs.Cells.{gathered_iff, sharing_iff, total_bound, case_row, set_row, row_set, row_beside}
+use Rattle.pairs.specs.Pairs.{Gathered, by_follow, by_sharing, same_as_last, row_of, held, total, Gained, Meets, Shares, Joins, RowIn, Noted, Poured, Onward, Reached, begins, goes, Sound, Led, Settled, Spread, Blank, Filled}
+use Rattle.pairs.proofs.Cells.{gathered_iff, sharing_iff, total_bound, case_row}
 
 -- ---- Shares
 
@@ -87,21 +65,21 @@ module _ {prepared : List ℕ} {start : ℕ} {b : Automaton} where
 
   -- one row more
   pub shares_more :
-      {x : ℕ} {found : Set} {cells : List ℕ}
+      {x : ℕ} {found : Set} {cells after : List ℕ}
       → Shares prepared start b x cells
-      → x < 128
       → Gathered b.count (by_sharing prepared (start + x) b.start) found
-      → Shares prepared start b (x + 1) (set_row cells x found.low found.high)
-  shares_more {x} {found} {cells} s l found_is =
+      → Stored cells x found after
+      → Shares prepared start b (x + 1) after
+  shares_more {x} {found} {cells} s found_is stored =
       record {
-        size = simp length-set s.size;
+        size = stored.same_length ∙ s.size;
         row_is =
             λ i k.
             case_row
             i
             x
-            (λ e. rw e (record { holds_is = λ y. ap (λ (r : Set). holds r y) (row_set cells x found.low found.high (omega (arith, s.size))) ∙ found_is.holds_is y }))
-            (λ n. record { holds_is = λ y. ap (λ (r : Set). holds r y) (row_beside cells x found.low found.high i n) ∙ (s.row_is i (omega arith)).holds_is y });
+            (λ e. rw (e, stored.stored) found_is)
+            (λ n. rw (stored.kept i n) (s.row_is i (omega arith)));
       }
 
 -- what the shares join is what meets
@@ -148,6 +126,12 @@ noted_more {n} keeps keeps' f g =
           (g.gained x h);
     }
 
+-- The rows of xs that have come on a walk over it have gained their pairs, those before some place.
+pub record PouredOn (shares : List ℕ) (xs ys : Set) (count : ℕ) (walk : Below) (before after : List ℕ) (due due' : Set) : Type 0 where
+  pub place : ℕ
+  pub comes : WalkAt xs count walk place
+  pub poured : Poured shares xs ys 0 place before after due due'
+
 module _ {shares : List ℕ} {xs ys : Set} where
   poured_none : {cells : List ℕ} {due : Set} → Poured shares xs ys 0 0 cells cells due due
   poured_none =
@@ -188,20 +172,25 @@ module _ {shares : List ℕ} {xs ys : Set} where
       }
 
   -- The rows of xs alone, of those below a count.
-  module _ (count : ℕ) where
-    pub poured_first : {x : ℕ} {cells : List ℕ} {due : Set} → FirstFrom xs 0 x → Poured shares xs ys 0 (min x count) cells cells due due
-    poured_first first = poured_skip (omega arith) (λ i l k. first.skipped i l (omega arith)) poured_none
+  pub poured_begins : {count : ℕ} {walk of : Below} {cells : List ℕ} {due : Set} → walk ≡ of → of ≡ record { left = xs; end = count } → PouredOn shares xs ys count walk cells cells due due
+  poured_begins same begun = record { place = 0; comes = at_start same begun; poured = poured_none }
 
-    pub poured_next :
-        {n x : ℕ} {A B C : List ℕ} {due due' due'' : Set}
-        → n < count
-        → Poured shares xs ys 0 (min n count) A B due due'
-        → Poured shares xs ys n (n + 1) B C due' due''
-        → FirstFrom xs (n + 1) x
-        → Poured shares xs ys 0 (min x count) A C due due''
-    poured_next {n} below f g first =
-        let same : min n count ≡ n = omega arith in
-        poured_skip (omega (arith, first.from)) (λ i l k. first.skipped i l (omega arith)) (poured_more (rw same at f) g)
+  pub poured_next :
+      {count p : ℕ} {walk on : Below} {A B C : List ℕ} {due due' due'' : Set}
+      → PouredOn shares xs ys count walk A B due due'
+      → Taken walk p on
+      → (holds xs p ≡ true → Poured shares xs ys p (p + 1) B C due' due'')
+      → PouredOn shares xs ys count on A C due due''
+  poured_next {p = p} known taken row =
+      let first = at_first known.comes taken in
+      record {
+        place = p + 1;
+        comes = at_next known.comes taken;
+        poured = poured_more (poured_skip first.from (λ i l k. first.skipped i l k) known.poured) (row (first.held taken.small));
+      }
+
+  pub poured_end : {count : ℕ} {walk : Below} {A B : List ℕ} {due due' : Set} → PouredOn shares xs ys count walk A B due due' → Done walk → Poured shares xs ys 0 count A B due due'
+  poured_end known done = poured_skip known.comes.within (λ i l k. at_end known.comes done i l k) known.poured
 
 -- What is found for row x: what its shares have of ys, less the pairs that it has.
 pub record Found (shares : List ℕ) (ys : Set) (x : ℕ) (cells : List ℕ) (found : Set) : Type 0 where
@@ -436,10 +425,9 @@ module _ {prepared : List ℕ} {a b : Automaton} {shares L M A B : List ℕ} {x 
 
 -- ---- Filling
 
--- the first of all due positions
-pub next_first : {due : Set} {x : ℕ} → FirstFrom due 0 x → NextDue due x
-next_first {due} {x} first =
-    record { is_due = first.held; none_due = λ l q. split_at q x (λ k. first.skipped q (omega arith) k) (λ k. holds_past due q (omega arith)) }
+-- past the last position of all, none is due
+pub next_none : {due : Set} {x : ℕ} → FirstFrom due 0 x → 128 ≤ x → Empty due
+next_none {due} {x} first l q = split_at q x (λ k. first.skipped q (omega arith) k) (λ k. holds_past due q (omega arith))
 
 module _ {prepared : List ℕ} {a b : Automaton} where
   -- the pairs at which a text begins are in rows that are due, and none is led on
@@ -498,21 +486,15 @@ module _ {prepared : List ℕ} {a b : Automaton} where
       never (begins m) = not_both m.in_left (none _)
       never (goes r o) = never r
 
-  -- ---- The end of the filling
-
-  module _ {due : Set} {L A : List ℕ} (settled : Settled prepared a b due L A) {x : ℕ} (next : NextDue due x) where
-    -- past the last row, none is due
-    pub none_left : a.count ≤ x → Empty due
-    none_left l = split_at x 128 (λ k. absurd (omega (arith, settled.below x (next.is_due k)))) next.none_due
-
-    -- A row that is due has a pair that is not led on, so that the sum of those that are grows; and it has a bound.
-    pub spread_less :
-        {M B : List ℕ} {due' : Set}
-        → x < 128
-        → Spread prepared a b x L M A B due due'
-        → length M ≡ 256
-        → ((i : ℕ) → get_or M i 0 < 2 ^ 64)
-        → 256 * 2 ^ 64 - total M < 256 * 2 ^ 64 - total L
-    spread_less {M} l spread size words =
-        let bound : total M ≤ 256 * 2 ^ 64 = omega (arith, rw size at (total_bound M (2 ^ 64) words)) in
-        omega (arith, bound, spread.grows (settled.waiting x (next.is_due l)))
+  -- A row that is due has a pair that is not led on, so that the sum of those that are grows; and it has a bound.
+  pub spread_less :
+      {due due' : Set} {L A M B : List ℕ} {x : ℕ}
+      → Settled prepared a b due L A
+      → holds due x ≡ true
+      → Spread prepared a b x L M A B due due'
+      → length M ≡ 256
+      → ((i : ℕ) → get_or M i 0 < 2 ^ 64)
+      → 256 * 2 ^ 64 - total M < 256 * 2 ^ 64 - total L
+  spread_less {M = M} {x = x} settled next spread size words =
+      let bound : total M ≤ 256 * 2 ^ 64 = omega (arith, rw size at (total_bound M (2 ^ 64) words)) in
+      omega (arith, bound, spread.grows (settled.waiting x next))

@@ -1,6 +1,6 @@
 -- The pairs of positions of two automata that one text leads to. They stand in cells, two words of 64 bits for each position of the first: the set
 -- of those of the second.
-use Rattle.std.specs.Prelude.{◌≡◌, Bool, true, false, ◌&&◌, ◌||◌, cond, List, [], ◌∷◌, ◌⊎◌, ℕ, ◌+◌, ◌-◌, ◌*◌, ◌≤◌, ◌<◌, eqb, length}
+use Rattle.std.specs.Prelude.{◌≡◌, Bool, true, false, ◌&&◌, ◌||◌, cond, List, [], ◌∷◌, ◌⊎◌, ℕ, ◌+◌, ◌-◌, ◌*◌, ◌≤◌, ◌<◌, eqb, length, Option, None, Some}
 use Rattle.positions.specs.declared.Set.{Set}
 use Rattle.positions.specs.Positions.{holds, Empty}
 use Rattle.classes.specs.Classes.{any_below}
@@ -128,10 +128,10 @@ pub record Spread (prepared : List ℕ) (a b : Automaton) (x : ℕ) (led led' be
   pub settles : Settled prepared a b due led before → Settled prepared a b due' led' after
   pub grows : ¬ RowIn x before led → total led < total led'
 
--- x is due; where it is 128 or more, no position is.
-pub record NextDue (due : Set) (x : ℕ) : Type 0 where
-  pub is_due : x < 128 → holds due x ≡ true
-  pub none_due : 128 ≤ x → Empty due
+-- The position, if there is one, is due; if there is none, no position is due.
+abbrev pub NextDue : Set → Option ℕ → Type 0
+NextDue due None = Empty due
+NextDue due (Some x) = holds due x ≡ true
 
 -- No pair is set in the first n rows.
 pub record Blank (n : ℕ) (cells : List ℕ) : Type 0 where

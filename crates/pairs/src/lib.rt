@@ -8,7 +8,8 @@ ghost use Rattle.positions.specs.Positions.{holds};
 ghost use Rattle.automaton.specs.Rows.{row_at, RowRoom, Room};
 ghost use Rattle.pairs.specs.Pairs.{Gathered, by_follow, by_sharing, same_as_last, by_row, row_of, Change, Gained, Shares, Poured, PouredAt, Spread, NextDue, Blank, Filled};
 
-use automaton::Automaton;
+use automaton::{Automaton, set_at};
+use language::keep;
 use positions::Set;
 
 // A set, joined with another if a test is true.
@@ -21,29 +22,14 @@ pub fn joined_if(set: Set, other: Set, test: bool) -> Set
     set
 }
 
-// A set with one position more if a test is true.
-fn with_if(set: Set, p: usize, test: bool) -> Set
-    requires { p < 128 }
-    ensures { (q : ℕ) → holds result q ≡ (test && eqb q p || holds set q) }
-{
-    if test {
-        return set.with(p);
-    }
-    set
-}
-
 // The positions that may follow one of a set.
 pub fn followers(prepared: &[u64], a: Automaton, set: Set) -> Set
     requires { Room a prepared.now }
     ensures { Gathered a.count (by_follow prepared.now a.start set) result }
 {
-    let start = a.start;
-    let count = a.count;
     let mut out = Set::empty();
-    let mut p = set.first_from(0);
-    while p < count {
-        out = automaton::follow(prepared, start + p).union(out);
-        p = set.first_from(p + 1);
+    for p in set.below(a.count) {
+        out = automaton::follow(prepared, a.start + p).union(out);
     }
     out
 }
@@ -54,20 +40,13 @@ pub fn sharing(prepared: &[u64], row: usize, b: Automaton) -> Set
     requires room { Room b prepared.now }
     ensures { Gathered b.count (by_sharing prepared.now row b.start) result }
 {
-    let start = b.start;
-    let count = b.count;
     let mut out = Set::empty();
-    for p in 0..count {
-        out = with_if(out, p, automaton::share(prepared, row, start + p));
+    for p in 0..b.count {
+        if automaton::share(prepared, row, b.start + p) {
+            out = out.with(p);
+        }
     }
     out
-}
-
-// Cells with no pair set.
-pub fn blank() -> [u64; 2 * Set::SIZE]
-    ensures { Blank 128 result }
-{
-    [0u64; 2 * Set::SIZE]
 }
 
 // The first count rows lose their pairs. The others are not asked for.
@@ -75,10 +54,7 @@ fn clear(cells: &mut [u64], count: usize)
     requires { (count ≤ 128) × (length cells.old ≡ 256) }
     ensures { Blank count cells.new }
 {
-    let words = 2 * count;
-    for i in 0..words {
-        cells[i] = 0;
-    }
+    cells[..2 * count].fill(0);
 }
 
 // Row x of the cells: the positions of the second automaton that make a pair with position x of the first.
@@ -86,10 +62,7 @@ fn row(cells: &[u64], x: usize) -> Set
     requires { 2 * x + 1 < length cells.now }
     ensures { result ≡ row_of cells.now x }
 {
-    Set {
-        low: cells[2 * x],
-        high: cells[2 * x + 1],
-    }
+    set_at(cells, 2 * x)
 }
 
 // The union of the rows of a set.
@@ -98,9 +71,8 @@ pub fn rows(cells: &[u64], count: usize, set: Set) -> Set
     ensures { Gathered count (by_row cells.now set) result }
 {
     let mut out = Set::empty();
-    for x in 0..count {
-        let reached = row(cells, x);
-        out = joined_if(out, reached, set.has(x));
+    for x in set.below(count) {
+        out = row(cells, x).union(out);
     }
     out
 }
@@ -131,10 +103,7 @@ fn same_as_last(prepared: &[u64], start: usize, x: usize) -> bool
     requires { row_at (start + x + 1) ≤ length prepared.now }
     ensures { result ≡ same_as_last prepared.now start x }
 {
-    if x == 0 {
-        return false;
-    }
-    automaton::alike(prepared, start + (x - 1), start + x)
+    0 < x && automaton::alike(prepared, start + (x - 1), start + x)
 }
 
 // The positions that share a byte with position x, once the rows before it are known. In a run of positions with the same bytes all have the same, so
@@ -157,12 +126,9 @@ fn share_rows(prepared: &[u64], a: Automaton, b: Automaton, shares: &mut [u64])
     requires shares_len { length shares.old ≡ 256 }
     ensures { Shares prepared.now a.start b a.count shares.new }
 {
-    let start = a.start;
-    let count = a.count;
-    for x in 0..count {
-        let found = share_row(prepared, start, x, b, &*shares);
-        shares[2 * x] = found.low;
-        shares[2 * x + 1] = found.high;
+    for x in 0..a.count {
+        let found = share_row(prepared, a.start, x, b, shares);
+        keep(shares, x, found);
     }
 }
 
@@ -171,7 +137,7 @@ fn pour_at(shares: &[u64], ys: Set, x: usize, due: Set, cells: &mut [u64]) -> Se
     requires { (x < 128) × (length shares.now ≡ 256) × (length cells.old ≡ 256) }
     ensures { PouredAt shares.now ys x cells.old cells.new due result }
 {
-    let found = ys.intersect(row(shares, x)).minus(row(&*cells, x));
+    let found = ys.intersect(row(shares, x)).minus(row(cells, x));
     if found.is_empty() {
         return due;
     }
@@ -185,10 +151,8 @@ fn pour(count: usize, shares: &[u64], xs: Set, ys: Set, due: Set, cells: &mut [u
     ensures { Poured shares.now xs ys 0 count cells.old cells.new due result }
 {
     let mut now_due = due;
-    let mut x = xs.first_from(0);
-    while x < count {
+    for x in xs.below(count) {
         now_due = pour_at(shares, ys, x, now_due, cells);
-        x = xs.first_from(x + 1);
     }
     now_due
 }
@@ -209,24 +173,26 @@ fn spread(
     requires x_lt_count { (x < a.count) × (length led.old ≡ 256) × (length cells.old ≡ 256) }
     ensures { Spread prepared.now a b x led.old led.new cells.old cells.new due result }
 {
-    let start = a.start;
-    let count = a.count;
-    let fresh = row(&*cells, x).minus(row(&*led, x));
+    let fresh = row(cells, x).minus(row(led, x));
     gain(led, x, fresh);
-    let xs = automaton::follow(prepared, start + x);
+    let xs = automaton::follow(prepared, a.start + x);
     let ys = followers(prepared, b, fresh);
-    pour(count, shares, xs, ys, due.without(x), cells)
+    pour(a.count, shares, xs, ys, due.without(x), cells)
 }
 
-// The first due row from x on, else the first of all; 128 or more if none is due.
-fn next_due(due: Set, x: usize) -> usize
+// The first due row from x on, else the first of all, if any is due.
+fn next_due(due: Set, x: usize) -> Option<usize>
     ensures { NextDue due result }
 {
     let next = due.first_from(x);
     if next < Set::SIZE {
-        return next;
+        return Some(next);
     }
-    due.first_from(0)
+    let first = due.first_from(0);
+    if first < Set::SIZE {
+        return Some(first);
+    }
+    None
 }
 
 // All pairs that are reached from positions of the first and the start of the second; where none has begun there are none, and no bytes are compared.
@@ -246,18 +212,16 @@ pub fn fill(
     requires shares_len { (length shares.old ≡ 256) × (length led.old ≡ 256) × (length cells.old ≡ 256) }
     ensures { Filled prepared.now a b begun cells.new }
 {
-    let count = a.count;
-    clear(cells, count);
+    clear(cells, a.count);
     if begun.is_empty() {
         return;
     }
-    clear(led, count);
+    clear(led, a.count);
     share_rows(prepared, a, b, shares);
-    let first = b.first;
-    let mut due = pour(count, &*shares, begun, first, Set::empty(), cells);
-    let mut x = due.first_from(0);
-    while x < count {
-        due = spread(prepared, a, b, &*shares, x, due, led, cells);
-        x = next_due(due, x);
+    let mut due = pour(a.count, shares, begun, b.first, Set::empty(), cells);
+    let mut next = next_due(due, 0);
+    while let Some(x) = next {
+        due = spread(prepared, a, b, shares, x, due, led, cells);
+        next = next_due(due, x);
     }
 }

@@ -13,7 +13,7 @@ use Rattle.laws.specs.Basics.{bool_cases}
 use Rattle.positions.specs.declared.Set.{Set}
 use Rattle.automaton.specs.declared.Automaton.{Automaton}
 use Rattle.automaton.specs.Rows.{Room}
-use Rattle.language.specs.Runs.{Behind, SteppedBack}
+use Rattle.language.specs.Runs.{SteppedBack}
 use Rattle.language.proofs.Steps.{behind_begins}
 use Rattle.language.specs.Sets.{Stored}
 use Rattle.paths.specs.Finding.{Filled, BehindAt, block_end, Marked}

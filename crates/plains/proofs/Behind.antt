@@ -12,13 +12,12 @@ use Rattle.semantics.specs.Lens.{Lens, Written, and_then, write}
 use Rattle.semantics.specs.Lens.{Book as Entries}
 use Rattle.semantics.specs.Table.{trees, tree_at, lens}
 use Rattle.semantics.specs.Tally.{met}
-use Rattle.texts.specs.declared.Wrote.{Wrote}
-use Rattle.texts.specs.declared.Wrote.TheVariants.{Count, Full}
+use Rattle.texts.specs.Overlay.{Wrote}
+use Rattle.std.specs.Prelude.{Some, None}
 use Rattle.texts.specs.Overlay.{Writes, overlay_over, wrote_over, writes_within, writes_full}
 use Rattle.lens.specs.Nodes.{same_lens}
 use Rattle.books.specs.declared.Book.{Book}
-use Rattle.books.specs.declared.Old.{Old}
-use Rattle.books.specs.declared.Old.TheVariants.{At, Nothing}
+use Rattle.books.specs.Old.{Old}
 use Rattle.books.specs.declared.Place.{Place}
 use Rattle.books.specs.Listed.{unused}
 use Rattle.books.specs.Looking.{part_at, old_text, BookOver, SameEntries, same_all, same_then}
@@ -63,19 +62,19 @@ counted_more m k n same is =
 -- ---- Texts that did not fit
 
 -- behind a text that did not fit, nothing changes, whatever is written
-full_stays : (s t before mid after : Text) (r : Wrote) → Writes s before mid Full → Writes (s ++ t) before after r → (after ≡ mid) × (r ≡ Full)
+full_stays : (s t before mid after : Text) (r : Wrote) → Writes s before mid None → Writes (s ++ t) before after r → (after ≡ mid) × (r ≡ None)
 full_stays s t before mid after r first second =
     let whole = writes_full s t before mid first in
     (second.buffer_is ∙ sym whole.buffer_is, second.answer_is ∙ sym whole.answer_is)
 
 -- a count is not that the buffer was too short
-pub not_full : {answer : Wrote} {n : ℕ} → answer ≡ Count n → ¬ (answer ≡ Full)
+pub not_full : {answer : Wrote} {n : ℕ} → answer ≡ Some n → ¬ (answer ≡ None)
 not_full p q = let z : ◌≡◌ {A = ℕ} 0 1 = cc in omega arith
 
 -- ---- Whatever the buffer holds, some text was written there
 
 -- one byte more than it holds
-more_written : (out : Text) → Writes (out ++ (0 ∷ [])) out out Full
+more_written : (out : Text) → Writes (out ++ (0 ∷ [])) out out None
 more_written out =
     let longer : length out < length (out ++ (0 ∷ [])) = rw length-append (omega arith) in
     record {
@@ -84,8 +83,8 @@ more_written out =
     }
 
 some_written : (wrote : Wrote) (out : Text) → Fitted wrote out → (text : Text) × Writes text out out wrote
-some_written (Count n) out within = (take n out, front_written n out (within.within n refl))
-some_written Full out within = (out ++ (0 ∷ []), more_written out)
+some_written (Some n) out within = (take n out, front_written n out (within.within n refl))
+some_written None out within = (out ++ (0 ∷ []), more_written out)
 
 -- What a writer leaves: a book with the entries that it was given, and what was written lies within the buffer.
 pub record Left (done : Done) (after : Text) (r : Done) : Type 0 where
@@ -133,7 +132,7 @@ module _ {bytes deck : Text} where
   -- what is put onto the text at a place is written where the old text is that one,
   pub old_put :
       {node : ℕ} {old : Old} {p : Place} {new mid after : Text} {done r : Done}
-      → old ≡ At p
+      → old ≡ Some p
       → WritesBehind bytes node deck (some (part_at deck p)) new done mid after r
       → WritesBehind bytes node deck (old_text deck old) new done mid after r
   unfolding old_text
@@ -142,7 +141,7 @@ module _ {bytes deck : Text} where
   -- and what is created, where there is none
   pub old_created :
       {node : ℕ} {old : Old} {new mid after : Text} {done r : Done}
-      → old ≡ Nothing
+      → old ≡ None
       → WritesBehind bytes node deck none new done mid after r
       → WritesBehind bytes node deck (old_text deck old) new done mid after r
   unfolding old_text
@@ -162,7 +161,7 @@ module _ {bytes deck : Text} where
   progress_full :
       (w w' : Written) (next next' : Entries → Written) {k : ℕ} {b : Book} {before mid after : Text} {r : Done}
       → w.text ≡ w'.text
-      → Writes w'.text before mid Full
+      → Writes w'.text before mid None
       → Progress bytes deck (and_then w next) k b before after r
       → Progress bytes deck (and_then w' next') k b before after r
   unfolding and_then
@@ -181,14 +180,14 @@ module _ {bytes deck : Text} where
       (w w' : Written) (next next' : Entries → Written) {k : ℕ} {b : Book} {before mid after : Text} {wrote : Wrote} {r : Done}
       → w.text ≡ w'.text
       → Writes w'.text before mid wrote
-      → (¬ (wrote ≡ Full) → next w.book ≡ next' w'.book)
+      → (¬ (wrote ≡ None) → next w.book ≡ next' w'.book)
       → Progress bytes deck (and_then w next) k b before after r
       → Progress bytes deck (and_then w' next') k b before after r
   progress_swap w w' next next' {k} {b} {before} {mid} {after} {wrote} {r} text_is first same p = go wrote refl
     where
       go : (answer : Wrote) → wrote ≡ answer → Progress bytes deck (and_then w' next') k b before after r
-      go (Count n) e = progress_is (then_swap w w' next next' text_is (same (not_full e))) refl p
-      go Full e = progress_full w w' next next' text_is (rw e at first) p
+      go (Some n) e = progress_is (then_swap w w' next next' text_is (same (not_full e))) refl p
+      go None e = progress_full w w' next next' text_is (rw e at first) p
 
   known_behind :
       (w : Written) (t : Text) {k m : ℕ} {b : Book} {before after : Text} {r : Wrote} {left : Book}

@@ -12,7 +12,7 @@ use Rattle.semantics.specs.Table.{trees, tree_at, lens}
 use Rattle.semantics.specs.Tally.{met}
 use Rattle.laws.specs.Bookless.{plain, Unasked, unasked_writes}
 use Rattle.table.specs.Prepared.{TwoLenses}
-use Rattle.texts.specs.declared.Wrote.{Wrote}
+use Rattle.texts.specs.Overlay.{Wrote}
 use Rattle.texts.specs.Cutting.{rest_lent}
 use Rattle.books.specs.Listed.{unused}
 use Rattle.books.specs.Looking.{BookOver, same_all}

@@ -10,8 +10,8 @@ use Rattle.table.specs.Prepared.{OneLens, TwoLenses}
 use Rattle.lens.specs.Emitting.{LensNode}
 use Rattle.lens.specs.Nodes.{left_below, right_below}
 use Rattle.lens.specs.Parsed.{Parsed, parsed_match}
-use Rattle.books.specs.declared.Old.{Old}
-use Rattle.books.specs.declared.Old.TheVariants.{At, Nothing}
+use Rattle.books.specs.Old.{Old}
+use Rattle.std.specs.Prelude.{Some, None}
 use Rattle.books.specs.declared.Place.{Place}
 use Rattle.books.specs.Looking.{part_at, old_text}
 use Rattle.steps.specs.declared.Choice.{Choice}
@@ -49,18 +49,18 @@ arm_given arm given = given_whole given arm.sheet_parsed
 -- ---- The old text
 
 -- there is none,
-pub given_none : {bytes : Text} {spot : Spot} {new path deck : Text} → NewGiven bytes spot new path deck → GivenOld bytes spot new path Nothing deck
+pub given_none : {bytes : Text} {spot : Spot} {new path deck : Text} → NewGiven bytes spot new path deck → GivenOld bytes spot new path None deck
 given_none given = record { sheet_given = given; old_fits = old_none }
 
 -- or it stands at a place
 pub given_onto :
-    {bytes : Text} {spot : Spot} {new path deck : Text} {p : Place} → Given bytes spot new path p deck → GivenOld bytes spot new path (At p) deck
+    {bytes : Text} {spot : Spot} {new path deck : Text} {p : Place} → Given bytes spot new path p deck → GivenOld bytes spot new path (Some p) deck
 given_onto given = record { sheet_given = given.sheet_given; old_fits = old_at given.old_parsed }
 
 pub given_at :
     {bytes : Text} {spot : Spot} {new path deck : Text} {old : Old} {p : Place}
     → GivenOld bytes spot new path old deck
-    → old ≡ At p
+    → old ≡ Some p
     → Given bytes spot new path p deck
 given_at {p = p} given e = record { sheet_given = given.sheet_given; old_parsed = given.old_fits.fits p e }
 

@@ -24,7 +24,7 @@ use Rattle.lens.specs.Emitting.{LensNode}
 use Rattle.lens.specs.Nodes.{same_lens, child_below}
 use Rattle.lens.specs.Parsed.{Parsed, ParsedFrom, Ends as EndsOf, parsed_length, parsed_begin, loop_inside_from, loop_moves_from, loop_part_from, loop_rest_from, loop_is_part_from}
 use Rattle.books.specs.declared.Book.{Book}
-use Rattle.books.specs.declared.Old.{Old}
+use Rattle.books.specs.Old.{Old}
 use Rattle.books.specs.Looking.{old_text, OldFits, BookOver, same_all, same_then}
 use Rattle.steps.specs.declared.Next.{Next}
 use Rattle.steps.specs.declared.Spot.{Spot}

@@ -7,7 +7,7 @@ use Rattle.semantics.specs.Table.{trees, tree_at, lens, holds_match}
 use Rattle.semantics.specs.Tally.{met}
 use Rattle.positions.specs.Positions.{Shared}
 use Rattle.automaton.specs.Rows.{set_at}
-use Rattle.texts.specs.declared.Wrote.TheVariants.{Full}
+use Rattle.std.specs.Prelude.{None}
 use Rattle.texts.specs.Overlay.{Writes}
 use Rattle.lens.specs.Emitting.{LensNode}
 use Rattle.books.specs.declared.Book.{Book}
@@ -42,7 +42,7 @@ wrapped n = n % 2 ^ 64
 pub record Progress (bytes deck : Text) (w : Written) (k : ℕ) (b : Book) (before after : Text) (r : Done) : Type 0 where
   pub bytes_are : Writes w.text before after r.wrote
   pub met_is : wrapped r.met ≡ wrapped k
-  pub book_is : ¬ (r.wrote ≡ Full) → unused (trees bytes) deck r.book ≡ w.book
+  pub book_is : ¬ (r.wrote ≡ None) → unused (trees bytes) deck r.book ≡ w.book
   pub over : BookOver 4096 r.book
   pub same_entries : SameEntries b r.book
 

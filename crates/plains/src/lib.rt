@@ -2,14 +2,13 @@
 #![tactic(auto)]
 
 use books::Book;
-use texts::Wrote;
 
 pub mod plain;
 
 // What was written so far, the book that is left, and how many matches were met.
 #[derive(Clone, Copy)]
 pub struct Done {
-    pub wrote: Wrote,
+    pub wrote: Option<usize>,
     pub book: Book,
     // the matches that were met so far, modulo 2^64
     pub met: usize,

@@ -12,8 +12,8 @@ ghost use Rattle.counted.specs.Counted.{Fitted};
 ghost use Rattle.plains.specs.Writing.{PlainReady, WritesPlainly};
 
 use automaton::Side;
-use below::{VARIES, count_at};
-use books::{Old, Place};
+use below::count_at;
+use books::Place;
 use counted::{Plain, next_counted};
 use cuts::{Ends, first_loop};
 use steps::{
@@ -40,11 +40,9 @@ pub fn put_plain(
     requires fitted { Fitted plain.wrote out.old }
     ensures { WritesPlainly bytes.now spot.node deck.now below.now (some (part_at deck.now place)) new.now plain out.old out.new result }
 {
-    let node = spot.node;
-    let base = spot.base;
-    let old = Old::At(place);
-    let matches = count_at(below, node);
-    if matches < VARIES {
+    let Spot { node, base } = spot;
+    let old = Some(place);
+    if let Some(matches) = count_at(below, node) {
         return next_counted(
             plain,
             matches as usize,
@@ -59,8 +57,7 @@ pub fn put_plain(
         );
     }
     let read = Table::node(bytes, prepared, node);
-    let kind = read.kind;
-    match kind {
+    match read.kind {
         Kind::LensJoin { left, right } => {
             let cut = cut_sheet(prepared, left, right, base, path);
             let i = cut.at;
@@ -97,14 +94,11 @@ pub fn put_plain(
         Kind::LensUnion { left, right } => {
             let choice = choose(prepared, left, right, base, new, path, place, deck);
             let arm = choice.arm;
-            let kept = choice.old;
-            match kept {
-                Old::At(place) => put_plain(
+            match choice.old {
+                Some(place) => put_plain(
                     plain, bytes, prepared, arm, new, path, place, deck, below, out,
                 ),
-                Old::Nothing => create_plain(
-                    plain, bytes, prepared, arm, new, path, deck, below, out,
-                ),
+                None => create_plain(plain, bytes, prepared, arm, new, path, deck, below, out),
             }
         }
         Kind::LensRepeat { child } => {
@@ -137,11 +131,9 @@ pub fn create_plain(
     requires fitted { Fitted plain.wrote out.old }
     ensures { WritesPlainly bytes.now spot.node deck.now below.now none new.now plain out.old out.new result }
 {
-    let node = spot.node;
-    let base = spot.base;
-    let old = Old::Nothing;
-    let matches = count_at(below, node);
-    if matches < VARIES {
+    let Spot { node, base } = spot;
+    let old = None;
+    if let Some(matches) = count_at(below, node) {
         return next_counted(
             plain,
             matches as usize,
@@ -156,8 +148,7 @@ pub fn create_plain(
         );
     }
     let read = Table::node(bytes, prepared, node);
-    let kind = read.kind;
-    match kind {
+    match read.kind {
         Kind::LensJoin { left, right } => {
             let cut = cut_sheet(prepared, left, right, base, path);
             let i = cut.at;
@@ -198,7 +189,7 @@ fn repeat_plain(
     child: usize,
     new: &[u8],
     path: &mut [u8],
-    old: Old,
+    old: Option<Place>,
     deck: &[u8],
     below: &[u64],
     out: &mut [u8],
@@ -211,8 +202,7 @@ fn repeat_plain(
 {
     let base = spot.base;
     let ends = ends_of(prepared, child, Side::Sheet, base);
-    let each = count_at(below, child);
-    if each < VARIES {
+    if let Some(each) = count_at(below, child) {
         let matches = (each as usize) * count_parts(path, ends);
         return next_counted(
             plain, matches, bytes, prepared, spot, new, path, old, deck, out,
@@ -234,7 +224,7 @@ fn parts_plain(
     ends: Ends,
     new: &[u8],
     path: &mut [u8],
-    old: Old,
+    old: Option<Place>,
     deck: &[u8],
     below: &[u64],
     out: &mut [u8],
@@ -248,25 +238,22 @@ fn parts_plain(
 {
     let base = spot.base;
     let part = Spot { node: child, base };
-    let last = ends.last;
-    let first = ends.first;
     let olds = ends_of(prepared, child, Side::Source, old_base(old));
     let mut left = old;
     let mut o = 0;
     while o < new.len() {
-        let e = o + first_loop(&path[o..], last, first);
+        let e = o + first_loop(&path[o..], ends.last, ends.first);
         let next = next_old(left, olds, deck);
-        let kept = next.part;
         left = next.rest;
         let piece = &new[o..e];
         let track = &mut path[o..e];
-        match kept {
-            Old::At(place) => {
+        match next.part {
+            Some(place) => {
                 plain = put_plain(
                     plain, bytes, prepared, part, piece, track, place, deck, below, out,
                 );
             }
-            Old::Nothing => {
+            None => {
                 plain = create_plain(plain, bytes, prepared, part, piece, track, deck, below, out);
             }
         }
@@ -283,7 +270,7 @@ pub fn write_plain(
     spot: Spot,
     new: &[u8],
     path: &mut [u8],
-    old: Old,
+    old: Option<Place>,
     deck: &[u8],
     below: &[u64],
     out: &mut [u8],
@@ -294,9 +281,9 @@ pub fn write_plain(
     ensures { WritesPlainly bytes.now spot.node deck.now below.now (old_text deck.now old) new.now plain out.old out.new result }
 {
     match old {
-        Old::At(place) => put_plain(
+        Some(place) => put_plain(
             plain, bytes, prepared, spot, new, path, place, deck, below, out,
         ),
-        Old::Nothing => create_plain(plain, bytes, prepared, spot, new, path, deck, below, out),
+        None => create_plain(plain, bytes, prepared, spot, new, path, deck, below, out),
     }
 }

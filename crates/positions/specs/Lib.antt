@@ -1,2 +1,3 @@
 -- What a set of positions holds.
 pub mod Positions
+pub mod Below

@@ -3,7 +3,9 @@
 
 ghost use Rattle.std.specs.Prelude.{◌≡◌, true, ◌&&◌, ◌↔◌, ℕ, ◌≤◌, ◌<◌, ltb, leb};
 ghost use Rattle.std.specs.Int.Count.{count_trailing_zeros};
+ghost use Rattle.std.specs.Iterator.{at_most};
 ghost use Rattle.positions.specs.Positions.{holds, Empty, Only, Added, Removed, Less, Joined, Met, Shared, Moved, FirstFrom};
+ghost use Rattle.positions.specs.Below.{held_below, Gives};
 
 // Positions 0 to 63 are the bits of low, 64 to 127 those of high.
 #[derive(Clone, Copy)]
@@ -61,6 +63,7 @@ impl Set {
     }
 
     // The first position from p on that the set holds; 128 or more if there is none.
+    // Kept by hand: the crates above cite the promise `FirstFrom`, which speaks of such a number and no Option.
     pub fn first_from(self, p: usize) -> usize
         ensures { FirstFrom self p result }
     {
@@ -94,6 +97,13 @@ impl Set {
             };
         }
         self
+    }
+
+    // The positions below an end that the set holds, from the lowest on: `for p in set.below(end)` goes through them.
+    pub fn below(self, end: usize) -> Below
+        ensures { result ≡ record { left = self; end = end } }
+    {
+        Below { left: self, end }
     }
 
     // The set of p alone.
@@ -194,5 +204,30 @@ impl Set {
         ensures { (result ≡ true) ↔ Empty self }
     {
         (self.low | self.high) == 0
+    }
+}
+
+// The positions of a set below an end, from the lowest on: `left` holds those that have not come.
+#[derive(Clone, Copy)]
+pub struct Below {
+    pub left: Set,
+    pub end: usize,
+}
+
+impl Iterator for Below {
+    type Item = usize;
+
+    ghost next_gives = { Gives };
+
+    ghost remaining = { λ s. at_most (held_below 128 s.left) };
+
+    #[inline(always)]
+    fn next(&mut self) -> Option<usize> {
+        let p = self.left.first_from(0);
+        if self.end.min(Set::SIZE) <= p {
+            return None;
+        }
+        self.left = self.left.rest();
+        Some(p)
     }
 }

@@ -17,16 +17,16 @@ use Rattle.positions.specs.declared.Set.{Set}
 use Rattle.positions.specs.Positions.{holds}
 use Rattle.positions.proofs.Bits.{bit_zero, holds_by}
 use Rattle.automaton.specs.declared.Automaton.{Automaton}
-use Rattle.automaton.specs.Rows.{set_at, share_in, Room}
+use Rattle.automaton.specs.Rows.{set_at, share_in}
 use Rattle.automaton.proofs.Standing.{share_iff, stands_byte}
 use Rattle.language.specs.Sets.{Stored, NoLeads, Leads}
 use Rattle.pairs.specs.Pairs.{Gathered, by_sharing}
 use Rattle.pairs.proofs.Cells.{sharing_iff}
 use Rattle.search.specs.declared.patches.Quest.{Quest}
 use Rattle.search.specs.Graph.{Graph, Shared}
-use Rattle.search.specs.Pairs.{no_set, held_in, inside_of, left_row, right_row, graph_of, QuestFits, PairRoom}
+use Rattle.search.specs.Pairs.{no_set, held_in, inside_of, left_row, right_row, graph_of, PairRoom}
 use Rattle.search.specs.Layers.{AllFresh, Layered}
-use Rattle.quests.specs.Quests.{cut_quest, QuestOf, Cleared, LedAt, Tables, SharesAt, Opened, FreshIn}
+use Rattle.quests.specs.Quests.{cut_quest, Rooms, Cleared, LedAt, Tables, SharesAt, Opened, FreshIn}
 
 -- below a number, or from it on
 split_at : (x mid : ℕ) {C : Type 0} → (x < mid → C) → (mid ≤ x → C) → C
@@ -38,12 +38,9 @@ split_at x mid below above = ⊎_elim (λ e. below (ltb-true x mid e)) (λ e. ab
 abbrev cut_with : Automaton → Automaton → Automaton → Set → Quest
 cut_with part whole rest opening =
     record {
-      part = part.start;
-      whole = whole.start;
-      rest = rest.start;
-      count = part.count;
-      wholes = whole.count;
-      rests = rest.count;
+      part = part;
+      whole = whole;
+      rest = rest;
       last = part.last;
       first = rest.first;
       early = record { base = 0; rows = part.first; columns = part.first };
@@ -197,19 +194,19 @@ module _ (prepared : List ℕ) (a : Automaton) (few : a.count ≤ 128) where
 
 -- the sets of the three automata, one behind the other
 pub tables_of :
-    {prepared : List ℕ} {part whole rest : Automaton} (none first second third : List ℕ)
-    → part.count ≤ 128
-    → whole.count ≤ 128
-    → rest.count ≤ 128
+    {prepared : List ℕ} {q : Quest} (none first second third : List ℕ)
+    → q.part.count ≤ 128
+    → q.whole.count ≤ 128
+    → q.rest.count ≤ 128
     → length none ≡ 768
     → length first ≡ length (sets_from 0 none)
     → length second ≡ length (sets_from 128 (put_sets 0 none first))
     → length third ≡ length (sets_from 256 (put_sets 128 (put_sets 0 none first) second))
-    → Leads prepared part first
-    → Leads prepared whole second
-    → Leads prepared rest third
-    → Tables prepared part whole rest (put_sets 256 (put_sets 128 (put_sets 0 none first) second) third)
-tables_of {prepared} {part} {whole} {rest} none first second third few few' few'' size same same' same'' led led' led'' =
+    → Leads prepared q.part first
+    → Leads prepared q.whole second
+    → Leads prepared q.rest third
+    → Tables prepared q (put_sets 256 (put_sets 128 (put_sets 0 none first) second) third)
+tables_of {prepared} {q} none first second third few few' few'' size same same' same'' led led' led'' =
     let one = put_sets 0 none first in
     let two = put_sets 128 one second in
     let fits : 2 * 0 + 256 ≤ length none = omega arith in
@@ -220,10 +217,10 @@ tables_of {prepared} {part} {whole} {rest} none first second third few few' few'
     record {
       size = put_length 256 two third fits'' same'' ∙ two_size;
       part_led =
-          led_kept prepared part few 256 0 two third fits'' same'' (omega arith)
-          (led_kept prepared part few 128 0 one second fits' same' (omega arith) (led_put prepared part few 0 none first fits same led));
-      whole_led = led_kept prepared whole few' 256 128 two third fits'' same'' (omega arith) (led_put prepared whole few' 128 one second fits' same' led');
-      rest_led = led_put prepared rest few'' 256 two third fits'' same'' led'';
+          led_kept prepared q.part few 256 0 two third fits'' same'' (omega arith)
+          (led_kept prepared q.part few 128 0 one second fits' same' (omega arith) (led_put prepared q.part few 0 none first fits same led));
+      whole_led = led_kept prepared q.whole few' 256 128 two third fits'' same'' (omega arith) (led_put prepared q.whole few' 128 one second fits' same' led');
+      rest_led = led_put prepared q.rest few'' 256 two third fits'' same'' led'';
     }
 
 -- ---- Rows of pairs that share a byte
@@ -255,30 +252,30 @@ module _ {prepared : List ℕ} {a b : Automaton} {base : ℕ} where
 
 -- the pairs of the part, and then those of the whole and the rest
 pub fresh_of :
-    {prepared : List ℕ} {part whole rest : Automaton} {none early all : List ℕ}
-    → part.count ≤ 128
+    {prepared : List ℕ} {q : Quest} {none early all : List ℕ}
+    → q.part.count ≤ 128
     → Cleared 512 none
-    → Opened prepared part part 0 part.count none early
-    → Opened prepared whole rest 128 whole.count early all
-    → FreshIn prepared part whole rest all
-fresh_of {prepared} {part} {whole} {rest} {none} {early} {all} few cleared first second =
+    → Opened prepared q.part q.part 0 q.part.count none early
+    → Opened prepared q.whole q.rest 128 q.whole.count early all
+    → FreshIn prepared q all
+fresh_of {prepared} {q} {none} {early} {all} few cleared first second =
     record {
       size = second.size ∙ first.size ∙ cleared.long;
-      early_iff = λ x l q. rw (second.others x l)
-          (split_at x part.count
-          (λ k. let found = rw (zero-add x) at (first.rows x k q) in (λ e. (k, found.0 e), λ h. found.1 h.1))
-          (λ k. (λ e. absurd (not_both e (empty x q k)), λ h. absurd (omega (arith, h.0)))));
-      late_iff = λ x l q.
-          split_at x whole.count
-          (λ k. let found = second.rows x k q in (λ e. (k, found.0 e), λ h. found.1 h.1))
+      early_iff = λ x l p. rw (second.others x l)
+          (split_at x q.part.count
+          (λ k. let found = rw (zero-add x) at (first.rows x k p) in (λ e. (k, found.0 e), λ h. found.1 h.1))
+          (λ k. (λ e. absurd (not_both e (empty x p k)), λ h. absurd (omega (arith, h.0)))));
+      late_iff = λ x l p.
+          split_at x q.whole.count
+          (λ k. let found = second.rows x k p in (λ e. (k, found.0 e), λ h. found.1 h.1))
           (λ k. (
-            λ e. absurd (not_both e (rw (second.others_behind (128 + x) (omega arith)) (empty (128 + x) q (omega arith)))),
+            λ e. absurd (not_both e (rw (second.others_behind (128 + x) (omega arith)) (empty (128 + x) p (omega arith)))),
             λ h. absurd (omega (arith, h.0)),
           ));
     }
   where
-    empty : (i q : ℕ) → part.count ≤ i → holds (set_at early (2 * i)) q ≡ false
-    empty i q l = rw (first.others_behind i (omega arith)) (cleared.none_held i q)
+    empty : (i p : ℕ) → q.part.count ≤ i → holds (set_at early (2 * i)) p ≡ false
+    empty i p l = rw (first.others_behind i (omega arith)) (cleared.none_held i p)
 
 -- ---- All pairs that share a byte are fresh
 
@@ -335,40 +332,36 @@ both_iff a b c d = (
 )
 
 -- Where the rows of a pair are, and whether its positions are those of the automata: of the part,
-module _ {part whole rest : Automaton} {q : Quest} (about : QuestOf part whole rest q) (pair : ℕ) (early : pair / 128 < 128) where
-  left_early : left_row q pair ≡ part.start + pair / 128
+module _ (q : Quest) (pair : ℕ) (early : pair / 128 < 128) where
+  left_early : left_row q pair ≡ q.part.start + pair / 128
   unfolding left_row
-  left_early = cond_true (ltb (pair / 128) 128) _ _ (lt-ltb (pair / 128) 128 early) ∙ ap (λ n. n + pair / 128) about.part_is
+  left_early = cond_true (ltb (pair / 128) 128) _ _ (lt-ltb (pair / 128) 128 early)
 
-  right_early : right_row q pair ≡ part.start + pair % 128
+  right_early : right_row q pair ≡ q.part.start + pair % 128
   unfolding right_row
-  right_early = cond_true (ltb (pair / 128) 128) _ _ (lt-ltb (pair / 128) 128 early) ∙ ap (λ n. n + pair % 128) about.part_is
+  right_early = cond_true (ltb (pair / 128) 128) _ _ (lt-ltb (pair / 128) 128 early)
 
-  inside_early : (inside_of q pair ≡ true) ↔ ((pair / 128 < part.count) × (pair % 128 < part.count))
+  inside_early : (inside_of q pair ≡ true) ↔ ((pair / 128 < q.part.count) × (pair % 128 < q.part.count))
   unfolding inside_of
   inside_early =
-      rw (cond_true (ltb (pair / 128) 128) (ltb (pair / 128) q.count && ltb (pair % 128) q.count) _ (lt-ltb (pair / 128) 128 early), about.count_is)
-      (both_iff (pair / 128) part.count (pair % 128) part.count)
+      rw (cond_true (ltb (pair / 128) 128) (ltb (pair / 128) q.part.count && ltb (pair % 128) q.part.count) _ (lt-ltb (pair / 128) 128 early))
+      (both_iff (pair / 128) q.part.count (pair % 128) q.part.count)
 
 -- or of the whole and the rest
-module _ {part whole rest : Automaton} {q : Quest} (about : QuestOf part whole rest q) (pair : ℕ) (late : 128 ≤ pair / 128) where
-  left_late : left_row q pair ≡ whole.start + (pair / 128 - 128)
+module _ (q : Quest) (pair : ℕ) (late : 128 ≤ pair / 128) where
+  left_late : left_row q pair ≡ q.whole.start + (pair / 128 - 128)
   unfolding left_row
-  left_late = cond_false (ltb (pair / 128) 128) _ _ (le-ltb (pair / 128) 128 late) ∙ ap (λ n. n + (pair / 128 - 128)) about.whole_is
+  left_late = cond_false (ltb (pair / 128) 128) _ _ (le-ltb (pair / 128) 128 late)
 
-  right_late : right_row q pair ≡ rest.start + pair % 128
+  right_late : right_row q pair ≡ q.rest.start + pair % 128
   unfolding right_row
-  right_late = cond_false (ltb (pair / 128) 128) _ _ (le-ltb (pair / 128) 128 late) ∙ ap (λ n. n + pair % 128) about.rest_is
+  right_late = cond_false (ltb (pair / 128) 128) _ _ (le-ltb (pair / 128) 128 late)
 
-  inside_late : (inside_of q pair ≡ true) ↔ ((pair / 128 < 128 + whole.count) × (pair % 128 < rest.count))
+  inside_late : (inside_of q pair ≡ true) ↔ ((pair / 128 < 128 + q.whole.count) × (pair % 128 < q.rest.count))
   unfolding inside_of
   inside_late =
-      rw (
-        cond_false (ltb (pair / 128) 128) _ (ltb (pair / 128) (128 + q.wholes) && ltb (pair % 128) q.rests) (le-ltb (pair / 128) 128 late),
-        about.wholes_is,
-        about.rests_is,
-      )
-      (both_iff (pair / 128) (128 + whole.count) (pair % 128) rest.count)
+      rw (cond_false (ltb (pair / 128) 128) _ (ltb (pair / 128) (128 + q.whole.count) && ltb (pair % 128) q.rest.count) (le-ltb (pair / 128) 128 late))
+      (both_iff (pair / 128) (128 + q.whole.count) (pair % 128) q.rest.count)
 
 -- the positions of a pair are those of the automata and share a byte
 abbrev Meeting : List ℕ → Quest → ℕ → Type 0
@@ -390,17 +383,16 @@ shared_iff prepared q leads pair =
     )
 
 module _
-    {prepared : List ℕ} {part whole rest : Automaton} {q : Quest} {fresh : List ℕ}
-    (about : QuestOf part whole rest q)
-    (known : FreshIn prepared part whole rest fresh)
+    {prepared : List ℕ} {q : Quest} {fresh : List ℕ}
+    (known : FreshIn prepared q fresh)
     (pair : ℕ) where
   -- a pair of the part is fresh where it meets,
   early_fresh : pair / 128 < 128 → (held_in fresh 0 pair ≡ true) ↔ Meeting prepared q pair
   early_fresh l =
       let held = known.early_iff (pair / 128) l (pair % 128) in
-      rw (zero-add (pair / 128), left_early about pair l, right_early about pair l) (
-        λ e. let (x, y) = held.0 e in ((inside_early about pair l).1 (x, y.0), y.1),
-        λ h. let (x, y) = (inside_early about pair l).0 h.0 in held.1 (x, (y, h.1)),
+      rw (zero-add (pair / 128), left_early q pair l, right_early q pair l) (
+        λ e. let (x, y) = held.0 e in ((inside_early q pair l).1 (x, y.0), y.1),
+        λ h. let (x, y) = (inside_early q pair l).0 h.0 in held.1 (x, (y, h.1)),
       )
 
   -- and so is one of the whole and the rest
@@ -408,9 +400,9 @@ module _
   late_fresh l below =
       let row : 128 + (pair / 128 - 128) ≡ pair / 128 = omega arith in
       let held = rw row at (known.late_iff (pair / 128 - 128) (omega arith) (pair % 128)) in
-      rw (zero-add (pair / 128), left_late about pair l, right_late about pair l) (
-        λ e. let (x, y) = held.0 e in ((inside_late about pair l).1 (omega arith, y.0), y.1),
-        λ h. let (x, y) = (inside_late about pair l).0 h.0 in held.1 (omega arith, (y, h.1)),
+      rw (zero-add (pair / 128), left_late q pair l, right_late q pair l) (
+        λ e. let (x, y) = held.0 e in ((inside_late q pair l).1 (omega arith, y.0), y.1),
+        λ h. let (x, y) = (inside_late q pair l).0 h.0 in held.1 (omega arith, (y, h.1)),
       )
 
   fresh_iff : pair < 32768 → (held_in fresh 0 pair ≡ true) ↔ Meeting prepared q pair
@@ -429,100 +421,94 @@ held_below fresh pair size e =
     past i l = get_or-eq_default fresh 0 (omega arith)
 
 -- the pairs of positions of the automata
-abbrev pairs_of : Automaton → Automaton → Automaton → List ℕ
-pairs_of part whole rest = rows_of 0 part.count part.count ++ rows_of 128 whole.count rest.count
+abbrev pairs_of : Quest → List ℕ
+pairs_of q = rows_of 0 q.part.count q.part.count ++ rows_of 128 q.whole.count q.rest.count
 
-inside_member :
-    {part whole rest : Automaton} {q : Quest} (pair : ℕ) → QuestOf part whole rest q → inside_of q pair ≡ true → Member pair (pairs_of part whole rest)
-inside_member {part} {whole} {rest} {q} pair about inside =
-    let early = rows_of 0 part.count part.count in
-    let late = rows_of 128 whole.count rest.count in
+inside_member : (q : Quest) (pair : ℕ) → inside_of q pair ≡ true → Member pair (pairs_of q)
+inside_member q pair inside =
+    let early = rows_of 0 q.part.count q.part.count in
+    let late = rows_of 128 q.whole.count q.rest.count in
     split_at (pair / 128) 128
     (λ l.
-    let (x, y) = (inside_early about pair l).0 inside in
-    member_left pair early late (row_member 0 part.count part.count pair (omega arith) (omega arith) y))
+    let (x, y) = (inside_early q pair l).0 inside in
+    member_left pair early late (row_member 0 q.part.count q.part.count pair (omega arith) (omega arith) y))
     (λ l.
-    let (x, y) = (inside_late about pair l).0 inside in
-    member_right pair early late (row_member 128 whole.count rest.count pair l x y))
+    let (x, y) = (inside_late q pair l).0 inside in
+    member_right pair early late (row_member 128 q.whole.count q.rest.count pair l x y))
 
 -- What fill_fresh and fill_tables leave is a queue with nothing found, in which exactly the pairs that share a byte are fresh.
 pub all_fresh :
-    (prepared : List ℕ) (part whole rest : Automaton) (q : Quest) (leads order fresh : List ℕ)
-    → QuestOf part whole rest q
-    → part.count ≤ 128
-    → whole.count ≤ 128
-    → rest.count ≤ 128
-    → FreshIn prepared part whole rest fresh
-    → part.count * part.count + whole.count * rest.count ≤ length order
+    (prepared : List ℕ) (q : Quest) (leads order fresh : List ℕ)
+    → q.part.count ≤ 128
+    → q.whole.count ≤ 128
+    → q.rest.count ≤ 128
+    → FreshIn prepared q fresh
+    → q.part.count * q.part.count + q.whole.count * q.rest.count ≤ length order
     → AllFresh (graph_of prepared q leads) order fresh
-all_fresh prepared part whole rest q leads order fresh about few few' few'' known room =
+all_fresh prepared q leads order fresh few few' few'' known room =
     record {
       queue =
           record {
-            pairs = pairs_of part whole rest;
+            pairs = pairs_of q;
             room = omega (arith, many);
             cells = known.size;
-            fresh_in = λ pair e. inside_member pair about (meets pair e).0;
+            fresh_in = λ pair e. inside_member q pair (meets pair e).0;
             found_in = λ i l. absurd (omega arith);
             below = λ pair i.
                 ⊎_elim
-                (λ j. omega (arith, row_below 0 part.count part.count pair few j))
-                (λ j. omega (arith, row_below 128 whole.count rest.count pair few'' j))
-                (member_append pair (rows_of 0 part.count part.count) (rows_of 128 whole.count rest.count) i);
+                (λ j. omega (arith, row_below 0 q.part.count q.part.count pair few j))
+                (λ j. omega (arith, row_below 128 q.whole.count q.rest.count pair few'' j))
+                (member_append pair (rows_of 0 q.part.count q.part.count) (rows_of 128 q.whole.count q.rest.count) i);
             closed = λ i l. absurd (omega arith);
             different = λ i j l k. absurd (omega arith);
           };
       fresh_shared = λ pair e. (shared_iff prepared q leads pair).1 (meets pair e);
-      shared_fresh = λ pair l h. (fresh_iff about known pair l).1 ((shared_iff prepared q leads pair).0 h);
+      shared_fresh = λ pair l h. (fresh_iff known pair l).1 ((shared_iff prepared q leads pair).0 h);
     }
   where
     meets : (pair : ℕ) → held_in fresh 0 pair ≡ true → Meeting prepared q pair
-    meets pair e = (fresh_iff about known pair (held_below fresh pair known.size e)).0 e
+    meets pair e = (fresh_iff known pair (held_below fresh pair known.size e)).0 e
 
-    many : length (pairs_of part whole rest) ≡ part.count * part.count + whole.count * rest.count
+    many : length (pairs_of q) ≡ q.part.count * q.part.count + q.whole.count * q.rest.count
     many =
-        length-append (rows_of 0 part.count part.count) (rows_of 128 whole.count rest.count)
-        ∙ ap₂ ◌+◌ (rows_length 0 part.count part.count) (rows_length 128 whole.count rest.count)
+        length-append (rows_of 0 q.part.count q.part.count) (rows_of 128 q.whole.count q.rest.count)
+        ∙ ap₂ ◌+◌ (rows_length 0 q.part.count q.part.count) (rows_length 128 q.whole.count q.rest.count)
 
 -- ---- The rows of the pairs
 
 -- A pair that shares a byte has its rows in the prepared program.
 pub room_of :
-    {prepared : List ℕ} {part whole rest : Automaton} {q : Quest} (leads : List ℕ) (pair : ℕ)
-    → Room part prepared
-    → Room whole prepared
-    → Room rest prepared
-    → QuestOf part whole rest q
+    {prepared : List ℕ} {q : Quest} (leads : List ℕ) (pair : ℕ)
+    → Rooms prepared q
     → Shared (graph_of prepared q leads) pair
     → PairRoom prepared q pair
-room_of {prepared} {part} {whole} {rest} {q} leads pair room room' room'' about shared =
+room_of {prepared} {q} leads pair rooms shared =
     let inside = ((shared_iff prepared q leads pair).0 shared).0 in
     split_at (pair / 128) 128
     (λ l.
-    let (x, y) = (inside_early about pair l).0 inside in
+    let (x, y) = (inside_early q pair l).0 inside in
     record {
       inside = inside;
-      left = rw (left_early about pair l) (room.rows (pair / 128) x);
-      right = rw (right_early about pair l) (room.rows (pair % 128) y);
+      left = rw (left_early q pair l) (rooms.part_room.rows (pair / 128) x);
+      right = rw (right_early q pair l) (rooms.part_room.rows (pair % 128) y);
     })
     (λ l.
-    let (x, y) = (inside_late about pair l).0 inside in
+    let (x, y) = (inside_late q pair l).0 inside in
     record {
       inside = inside;
-      left = rw (left_late about pair l) (room'.rows (pair / 128 - 128) (omega arith));
-      right = rw (right_late about pair l) (room''.rows (pair % 128) y);
+      left = rw (left_late q pair l) (rooms.whole_room.rows (pair / 128 - 128) (omega arith));
+      right = rw (right_late q pair l) (rooms.rest_room.rows (pair % 128) y);
     })
 
 -- It is one of the 32,768 pairs.
 pub shared_below :
-    {part whole rest : Automaton} {q : Quest} (prepared leads : List ℕ) (pair : ℕ)
-    → whole.count ≤ 128
-    → QuestOf part whole rest q
+    (q : Quest) (prepared leads : List ℕ) (pair : ℕ)
+    → q.whole.count ≤ 128
     → Shared (graph_of prepared q leads) pair
     → pair < 32768
-shared_below {q = q} prepared leads pair few about shared =
+shared_below q prepared leads pair few shared =
     let inside = ((shared_iff prepared q leads pair).0 shared).0 in
-    split_at (pair / 128) 128 (λ l. omega arith) (λ l. let (x, y) = (inside_late about pair l).0 inside in omega arith)
+    split_at (pair / 128) 128 (λ l. omega arith) (λ l. let (x, y) = (inside_late q pair l).0 inside in omega arith)
 
 -- Each entry before the end of the last layer is in a layer, and so it shares a byte.
 pub entry_shared :
@@ -539,13 +525,3 @@ entry_shared {g} {order} {starts} {depth} layered i l = up (depth + 1) (omega ar
         split_at i (get_or starts n 0)
         (λ before. up n (omega arith) before)
         (λ from. (layered.in_layer n i (omega arith) (record { from = from; to = rw (add-one n) k })).1)
-
--- The quest's patches keep to the rows.
-pub quest_fits : {part whole rest : Automaton} {q : Quest} → QuestOf part whole rest q → part.count ≤ 128 → QuestFits q
-quest_fits about few =
-    record {
-      few = omega (arith, about.count_is);
-      early_fits = record { base_low = about.early_base };
-      late_fits = record { base_low = about.late_base };
-      goal_fits = record { base_low = about.goal_base };
-    }

@@ -8,8 +8,6 @@ use lib.ListN.{length, get_or, drop}
 use Rattle.semantics.specs.Text.{Text, All}
 use Rattle.laws.specs.Bytes.{IsByte}
 use Rattle.clash.specs.Clash.{Given}
-use Rattle.automaton.specs.declared.Automaton.{Automaton}
-use Rattle.automaton.specs.Rows.{Room}
 use Rattle.search.specs.declared.patches.Quest.{Quest}
 use Rattle.search.specs.Graph.{Graph, Way, Accepts}
 use Rattle.search.specs.Pairs.{graph_of, QuestFits}
@@ -17,8 +15,8 @@ use Rattle.search.specs.Layers.{AllFresh, Layered, Filled}
 use Rattle.spelling.specs.Texts.{EntriesRoom, NoneAlive}
 use Rattle.search.proofs.Queues.{graph_bounded}
 use Rattle.spelling.proofs.Writing.{accepted_long, accepted_some}
-use Rattle.quests.specs.Quests.{QuestOf, Cleared, Tables, FreshIn, Asks, Answerable, Hunted}
-use Rattle.quests.proofs.Filling.{all_fresh, quest_fits, room_of, shared_below, entry_shared}
+use Rattle.quests.specs.Quests.{Rooms, Cleared, Tables, FreshIn, Asks, Answerable, Hunted}
+use Rattle.quests.proofs.Filling.{all_fresh, room_of, shared_below, entry_shared}
 
 -- each layer before the last has a pair, so there are no more layers than entries
 layers_deep : {g : Graph} {order starts : List ℕ} {depth : ℕ} → Layered g order starts depth → (d : ℕ) → d ≤ depth → d ≤ get_or starts d 0
@@ -47,22 +45,17 @@ pub none_alive : {alive : List ℕ} → Cleared 1024 alive → NoneAlive alive
 none_alive cleared = record { cells = cleared.long; none = λ table pair. cleared.none_held (table + pair / 128) (pair % 128) }
 
 module _
-    {prepared : List ℕ} {part whole rest : Automaton} {q : Quest} {leads : List ℕ}
-    (part_room : Room part prepared) (whole_room : Room whole prepared) (rest-room : Room rest prepared)
-    (about : QuestOf part whole rest q) (tables : Tables prepared part whole rest leads)
+    {prepared : List ℕ} {q : Quest} {leads : List ℕ} (rooms : Rooms prepared q) (fits_quest : QuestFits q) (tables : Tables prepared q leads)
   where
-    pub fits_quest : QuestFits q
-    fits_quest = quest_fits about part_room.few
-
     -- the search begins with all pairs that share a byte
     pub begins_fresh :
-        {order fresh : List ℕ} → FreshIn prepared part whole rest fresh → part.count * part.count + whole.count * rest.count ≤ length order
+        {order fresh : List ℕ} → FreshIn prepared q fresh → q.part.count * q.part.count + q.whole.count * q.rest.count ≤ length order
         → AllFresh (graph_of prepared q leads) order fresh
     begins_fresh {order} {fresh} shared room =
-        all_fresh prepared part whole rest q leads order fresh about part_room.few whole_room.few rest-room.few shared room
+        all_fresh prepared q leads order fresh rooms.part_room.few rooms.whole_room.few rooms.rest_room.few shared room
 
     -- some text can be found
-    pub some_accepted : (a : Answerable prepared part whole rest q) → Accepts (graph_of prepared q leads) a.text
+    pub some_accepted : (a : Answerable prepared q) → Accepts (graph_of prepared q leads) a.text
     some_accepted a = (a.asks leads tables a.text).1 a.passes
 
     module _ {order starts : List ℕ} {depth : ℕ} (filled : Filled (graph_of prepared q leads) order starts depth) where
@@ -72,11 +65,11 @@ module _
           rw e
           (record {
             inside = filled.layered.inside;
-            below = λ k h. shared_below prepared leads _ whole_room.few about (entry_shared filled.layered k h);
-            rooms = λ k h. room_of leads _ part_room whole_room rest-room about (entry_shared filled.layered k h);
+            below = λ k h. shared_below q prepared leads _ rooms.whole_room.few (entry_shared filled.layered k h);
+            rooms = λ k h. room_of leads _ rooms (entry_shared filled.layered k h);
           })
 
-      module _ {test : Text → Bool} (asks : Asks prepared part whole rest q test) where
+      module _ {test : Text → Bool} (asks : Asks prepared q test) where
         -- the texts that can be found are made of bytes, and none is shorter than the layers are deep
         bytes_hunted : (t : Text) → test t ≡ true → All IsByte t
         bytes_hunted t passes = accepted_bytes (graph_of prepared q leads) t ((asks leads tables t).1 passes)

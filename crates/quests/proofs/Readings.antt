@@ -48,9 +48,10 @@ use Rattle.search.specs.Pairs.{
   begins_in,
   inside_of,
   graph_of,
+  QuestFits,
 }
 use Rattle.search.proofs.Queues.{in_patch_parts, in_patch_of, held_below}
-use Rattle.quests.specs.Quests.{cut_quest, arm_quest, QuestOf, LedAt, Tables, Asks}
+use Rattle.quests.specs.Quests.{cut_quest, arm_quest, LedAt, Tables, Asks}
 
 -- ---- Pairs as numbers
 
@@ -152,19 +153,19 @@ module _ (prepared : List ℕ) (q : Quest) (leads : List ℕ) (c i j : ℕ) (col
   -- At a late pair it may stand at a position of the whole and at one of the rest.
   late_stands_is :
       (graph_of prepared q leads).stands (late i j) c
-      ≡ ((ltb i q.wholes && ltb j q.rests) && (stands_in prepared (q.whole + i) c && stands_in prepared (q.rest + j) c))
+      ≡ ((ltb i q.whole.count && ltb j q.rest.count) && (stands_in prepared (q.whole.start + i) c && stands_in prepared (q.rest.start + j) c))
   unfolding graph_of inside_of left_row right_row
   late_stands_is =
       let a : (128 * (128 + i) + j) / 128 ≡ 128 + i = omega arith in
       let b : (128 * (128 + i) + j) % 128 ≡ j = omega arith in
       let d : 128 + i - 128 ≡ i = omega arith in
-      rw (a, b, le-ltb (128 + i) 128 (omega arith), d, ltb_added i q.wholes) refl
+      rw (a, b, le-ltb (128 + i) 128 (omega arith), d, ltb_added i q.whole.count) refl
 
   -- At an early one it may stand at both positions of the part.
   early_stands_is :
       i < 128
       → (graph_of prepared q leads).stands (early i j) c
-      ≡ ((ltb i q.count && ltb j q.count) && (stands_in prepared (q.part + i) c && stands_in prepared (q.part + j) c))
+      ≡ ((ltb i q.part.count && ltb j q.part.count) && (stands_in prepared (q.part.start + i) c && stands_in prepared (q.part.start + j) c))
   unfolding graph_of inside_of left_row right_row
   early_stands_is row =
       let a : (128 * i + j) / 128 ≡ i = omega arith in
@@ -197,22 +198,22 @@ linked_early q leads i j row = rw (lt-leb 128 i row) refl
 linked_late_iff :
     (q : Quest) (leads : List ℕ) (i j x y : ℕ)
     → (in_patch (linked_of q leads (128 + i) j) x y ≡ true)
-    ↔ ((i < q.count) × (holds q.first j ≡ true) × (holds q.last x ≡ true) × (holds (set_at leads (2 * i)) y ≡ true))
+    ↔ ((i < q.part.count) × (holds q.first j ≡ true) × (holds q.last x ≡ true) × (holds (set_at leads (2 * i)) y ≡ true))
 unfolding linked_of
-linked_late_iff q leads i j x y = go (leb 128 (128 + i) && (ltb (128 + i) (128 + q.count) && holds q.first j)) refl
+linked_late_iff q leads i j x y = go (leb 128 (128 + i) && (ltb (128 + i) (128 + q.part.count) && holds q.first j)) refl
   where
     found : Patch
     found = record { base = 0; rows = q.last; columns = set_at leads (2 * (128 + i - 128)) }
 
     go :
-        (b : Bool) → leb 128 (128 + i) && (ltb (128 + i) (128 + q.count) && holds q.first j) ≡ b
+        (b : Bool) → leb 128 (128 + i) && (ltb (128 + i) (128 + q.part.count) && holds q.first j) ≡ b
         → (in_patch (cond b found no_patch) x y ≡ true)
-        ↔ ((i < q.count) × (holds q.first j ≡ true) × (holds q.last x ≡ true) × (holds (set_at leads (2 * i)) y ≡ true))
+        ↔ ((i < q.part.count) × (holds q.first j ≡ true) × (holds q.last x ≡ true) × (holds (set_at leads (2 * i)) y ≡ true))
     go true e =
         let back : 128 + i - 128 ≡ i = omega arith in
-        let (l, m) = and_both (leb 128 (128 + i)) (ltb (128 + i) (128 + q.count) && holds q.first j) e in
-        let (n, o) = and_both (ltb (128 + i) (128 + q.count)) (holds q.first j) m in
-        let k = ltb-true (128 + i) (128 + q.count) n in (
+        let (l, m) = and_both (leb 128 (128 + i)) (ltb (128 + i) (128 + q.part.count) && holds q.first j) e in
+        let (n, o) = and_both (ltb (128 + i) (128 + q.part.count)) (holds q.first j) m in
+        let k = ltb-true (128 + i) (128 + q.part.count) n in (
           λ h.
               let (of_row, of_column) = (in_patch_iff found x x y (omega arith)).0 h in
               (omega arith, o, of_row, subst (λ (m : ℕ). holds (set_at leads (2 * m)) y ≡ true) back of_column),
@@ -223,8 +224,8 @@ linked_late_iff q leads i j x y = go (leb 128 (128 + i) && (ltb (128 + i) (128 +
       λ h.
           absurd (
           not_both
-          (and_of (leb 128 (128 + i)) (ltb (128 + i) (128 + q.count) && holds q.first j) (le-leb 128 (128 + i) (omega arith))
-          (and_of (ltb (128 + i) (128 + q.count)) (holds q.first j) (lt-ltb (128 + i) (128 + q.count) (omega (arith, h.0))) h.1))
+          (and_of (leb 128 (128 + i)) (ltb (128 + i) (128 + q.part.count) && holds q.first j) (le-leb 128 (128 + i) (omega arith))
+          (and_of (ltb (128 + i) (128 + q.part.count)) (holds q.first j) (lt-ltb (128 + i) (128 + q.part.count) (omega (arith, h.0))) h.1))
           e
           ),
     )
@@ -293,7 +294,7 @@ module _ (q : Quest) (leads : List ℕ) (x y i j : ℕ) (column : y < 128) (colu
   early_late_iff :
       x < 128
       → (precedes_in q leads (early x y) (late i j) ≡ true)
-      ↔ ((i < q.count) × (holds q.first j ≡ true) × (holds q.last x ≡ true) × (holds (set_at leads (2 * i)) y ≡ true))
+      ↔ ((i < q.part.count) × (holds q.first j ≡ true) × (holds q.last x ≡ true) × (holds (set_at leads (2 * i)) y ≡ true))
   early_late_iff row =
       let linked = linked_late_iff q leads i j x y in (
         λ e.
@@ -319,25 +320,24 @@ led_iff prepared leads a r base place told led x i in-x in_i at =
       λ h. there.1 (omega (arith, told.count_is), (told.row_is x in-x).follow_is i ∙ h),
     )
 
--- The quest and its tables are about automata, of which those of the whole and the rest describe w and s; a text may end where these may.
-record LateRead (prepared : List ℕ) (part whole rest : Automaton) (q : Quest) (leads : List ℕ) (w s : Pattern) : Type 0 where
-  of : QuestOf part whole rest q
-  tables : Tables prepared part whole rest leads
-  of_whole : Describes w whole prepared
-  of_rest : Describes s rest prepared
-  few : rest.count ≤ 128
-  goal_is : q.goal ≡ goal_of whole rest
+-- The tables are those of the quest, of whose automata the whole's and the rest's describe w and s; a text may end where these may.
+record LateRead (prepared : List ℕ) (q : Quest) (leads : List ℕ) (w s : Pattern) : Type 0 where
+  tables : Tables prepared q leads
+  of_whole : Describes w q.whole prepared
+  of_rest : Describes s q.rest prepared
+  few : q.rest.count ≤ 128
+  goal_is : q.goal ≡ goal_of q.whole q.rest
 
 module _
-    {prepared : List ℕ} {part whole rest : Automaton} {q : Quest} {leads : List ℕ} {w s : Pattern} (known : LateRead prepared part whole rest q leads w s) where
+    {prepared : List ℕ} {q : Quest} {leads : List ℕ} {w s : Pattern} (known : LateRead prepared q leads w s) where
   abbrev g : Graph
   g = graph_of prepared q leads
 
   -- a byte may stand at a late pair if it may at both its positions
   late_stands_iff : (c i j : ℕ) → j < 128 → (g.stands (late i j) c ≡ true) ↔ StandsAtBoth w s c i j
   late_stands_iff c i j column =
-      rw (late_stands_is prepared q leads c i j column, known.of.wholes_is, known.of.rests_is, known.of.whole_is, known.of.rest_is)
-      (both_stand_iff prepared whole rest w s known.of_whole known.of_rest c i j)
+      rw (late_stands_is prepared q leads c i j column)
+      (both_stand_iff prepared q.whole q.rest w s known.of_whole known.of_rest c i j)
 
   -- a position of the rest is a column
   column_of : (j : ℕ) → j < positions s → j < 128
@@ -351,7 +351,7 @@ module _
       let a : (128 * (128 + x) + y) / 128 ≡ 128 + x = omega arith in
       let b : (128 * (128 + x) + y) % 128 ≡ y = omega arith in
       rw (a, b, known.goal_is, sym (known.of_whole.last_is x), sym (known.of_rest.last_is y))
-      (in_patch_iff (goal_of whole rest) (128 + x) x y (omega arith))
+      (in_patch_iff (goal_of q.whole q.rest) (128 + x) x y (omega arith))
 
   -- A byte leads on from a late pair to another one: both readings go on.
   late_steps_iff :
@@ -366,8 +366,8 @@ module _
       follows_iff i j in_i in-j =
           Iff.trans (late_late_iff q leads x y i j (column_of y in-y) (column_of j in-j))
           (Iff.and
-          (led_iff prepared leads whole w 128 (128 + i) known.of_whole known.tables.whole_led x i in-x in_i refl)
-          (led_iff prepared leads rest s 256 (256 + j) known.of_rest known.tables.rest_led y j in-y in-j refl))
+          (led_iff prepared leads q.whole w 128 (128 + i) known.of_whole known.tables.whole_led x i in-x in_i refl)
+          (led_iff prepared leads q.rest s 256 (256 + j) known.of_rest known.tables.rest_led y j in-y in-j refl))
 
       to : Steps g (late x y) c next → (i : ℕ) × (j : ℕ) × (next ≡ late i j) × BothStep w s (follow_at w x) (follow_at s y) c i j
       to step =
@@ -384,7 +384,7 @@ module _
       from (i, j, e, b) =
           rw e (
           record {
-            byte = is_byte prepared whole w c i known.of_whole b.left b.stands_left;
+            byte = is_byte prepared q.whole w c i known.of_whole b.left b.stands_left;
             may_follow = (follows_iff i j b.left b.right).1 (b.may_left, b.may_right);
             may_stand = (late_stands_iff c i j (column_of j b.right)).1 (b.left, b.right, b.stands_left, b.stands_right);
           }
@@ -442,17 +442,17 @@ module _ (q : Quest) (i j : ℕ) (early_base : q.early.base ≡ 0) (late_base : 
 -- ---- The readings of an early pair
 
 module _
-    {prepared : List ℕ} {part whole rest : Automaton} {q : Quest} {leads : List ℕ} {w s : Pattern} (known : LateRead prepared part whole rest q leads w s)
-    (r : Pattern) (made : Whole r s w) (of_part : Describes r part prepared) (few : part.count ≤ 128) (last_is : q.last ≡ part.last)
-    (first_is : q.first ≡ rest.first) where
+    {prepared : List ℕ} {q : Quest} {leads : List ℕ} {w s : Pattern} (known : LateRead prepared q leads w s)
+    (r : Pattern) (made : Whole r s w) (of_part : Describes r q.part prepared) (few : q.part.count ≤ 128) (last_is : q.last ≡ q.part.last)
+    (first_is : q.first ≡ q.rest.first) where
   abbrev graph : Graph
   graph = graph_of prepared q leads
 
   -- a byte may stand at an early pair if it may at both its positions
   early_stands_iff : (c i j : ℕ) → i < 128 → j < 128 → (graph.stands (early i j) c ≡ true) ↔ StandsAtBoth r r c i j
   early_stands_iff c i j row column =
-      rw (early_stands_is prepared q leads c i j column row, known.of.count_is, known.of.part_is)
-      (both_stand_iff prepared part part r r of_part of_part c i j)
+      rw (early_stands_is prepared q leads c i j column row)
+      (both_stand_iff prepared q.part q.part r r of_part of_part c i j)
 
   -- a position of the part is below 128
   below : (i : ℕ) → i < positions r → i < 128
@@ -487,8 +487,8 @@ module _
       follows_iff i j in_i in-j =
           Iff.trans (early_early_iff q leads x y i j (below y in-y) (below j in-j) (below i in_i))
           (Iff.and
-          (led_iff prepared leads part r 0 i of_part known.tables.part_led x i in-x in_i (omega arith))
-          (led_iff prepared leads part r 0 j of_part known.tables.part_led y j in-y in-j (omega arith)))
+          (led_iff prepared leads q.part r 0 i of_part known.tables.part_led x i in-x in_i (omega arith))
+          (led_iff prepared leads q.part r 0 j of_part known.tables.part_led y j in-y in-j (omega arith)))
 
       cut_iff :
           (i j : ℕ) → j < positions s
@@ -497,16 +497,16 @@ module _
       cut_iff i j in-j =
           let before = early_late_iff q leads x y i j (below y in-y) (column_of known j in-j) (below x in-x) in
           let led : i < positions r → (holds (set_at leads (2 * i)) y ≡ true) ↔ (follow_at r y i ≡ true) = λ in_i.
-          led_iff prepared leads part r 0 i of_part known.tables.part_led y i in-y in_i (omega arith) in
+          led_iff prepared leads q.part r 0 i of_part known.tables.part_led y i in-y in_i (omega arith) in
           let firsts : holds q.first j ≡ first_at s j = ap (λ k. holds k j) first_is ∙ known.of_rest.first_is j in
           let lasts : holds q.last x ≡ last_at r x = ap (λ k. holds k x) last_is ∙ of_part.last_is x in (
             λ e.
                 let (l, first, last, leads_on) = before.0 e in
-                let in_i : i < positions r = omega (arith, known.of.count_is, of_part.count_is) in
+                let in_i : i < positions r = omega (arith, of_part.count_is) in
                 (in_i, sym firsts ∙ first, sym lasts ∙ last, (led in_i).0 leads_on),
             λ h.
                 let (in_i, first, last, leads_on) = h in
-                before.1 (omega (arith, known.of.count_is, of_part.count_is), firsts ∙ first, lasts ∙ last, (led in_i).1 leads_on),
+                before.1 (omega (arith, of_part.count_is), firsts ∙ first, lasts ∙ last, (led in_i).1 leads_on),
           )
 
       to : Steps graph (early x y) c next → BothOn x y c next ⊎ Cut x y c next
@@ -543,7 +543,7 @@ module _
       from_both (i, j, e, b) =
           rw e (
           record {
-            byte = is_byte prepared part r c i of_part b.left b.stands_left;
+            byte = is_byte prepared q.part r c i of_part b.left b.stands_left;
             may_follow = (follows_iff i j b.left b.right).1 (b.may_left, b.may_right);
             may_stand = (early_stands_iff c i j (below i b.left) (below j b.right)).1 (b.left, b.right, b.stands_left, b.stands_right);
           }
@@ -553,7 +553,7 @@ module _
       from_cut (last, (i, j, e, b)) =
           rw e (
           record {
-            byte = is_byte prepared part r c i of_part b.left b.stands_left;
+            byte = is_byte prepared q.part r c i of_part b.left b.stands_left;
             may_follow = (cut_iff i j b.right).1 (b.left, b.may_right, last, b.may_left);
             may_stand =
                 (late_stands_iff known c i j (column_of known j b.right)).1
@@ -587,20 +587,15 @@ module _
 
 -- ---- Two cuts
 
--- The quest for two cuts is about its automata.
-pub cut_quest_of : (part whole rest : Automaton) → QuestOf part whole rest (cut_quest part whole rest)
+-- The patches of the quest for two cuts keep to the rows.
+pub cut_fits : (part whole rest : Automaton) → part.count ≤ 128 → QuestFits (cut_quest part whole rest)
 unfolding cut_quest
-cut_quest_of part whole rest =
+cut_fits part whole rest few =
     record {
-      part_is = refl;
-      whole_is = refl;
-      rest_is = refl;
-      count_is = refl;
-      wholes_is = refl;
-      rests_is = refl;
-      early_base = omega arith;
-      late_base = omega arith;
-      goal_base = omega arith;
+      few = few;
+      early_fits = record { base_low = omega arith };
+      late_fits = record { base_low = omega arith };
+      goal_fits = record { base_low = omega arith };
     }
 
 -- Where the part may be empty, the rest begins beside it.
@@ -612,7 +607,7 @@ opening_iff a r i false e f = (λ h. absurd (not_both h (nothing_held i)), λ h.
 
 module _
     (prepared : List ℕ) (part whole rest : Automaton) (leads : List ℕ) (r s w : Pattern) (made : Whole r s w)
-    (known : LateRead prepared part whole rest (cut_quest part whole rest) leads w s) (of_part : Describes r part prepared) (few : part.count ≤ 128) where
+    (known : LateRead prepared (cut_quest part whole rest) leads w s) (of_part : Describes r part prepared) (few : part.count ≤ 128) where
   abbrev cuts : Graph
   cuts = graph_of prepared (cut_quest part whole rest) leads
 
@@ -705,12 +700,11 @@ pub cut_asks :
     (prepared : List ℕ) (part whole rest : Automaton) (r s w : Pattern) → Whole r s w
     → Describes r part prepared → Describes w whole prepared → Describes s rest prepared
     → part.count ≤ 128 → whole.count ≤ 128 → rest.count ≤ 128
-    → Asks prepared part whole rest (cut_quest part whole rest) (cut_twice r s)
+    → Asks prepared (cut_quest part whole rest) (cut_twice r s)
 unfolding cut_quest
 cut_asks prepared part whole rest r s w made of_part of_whole of_rest few few-whole few-rest leads tables =
     cut_accepts prepared part whole rest leads r s w made
     (record {
-      of = cut_quest_of part whole rest;
       tables = tables;
       of_whole = of_whole;
       of_rest = of_rest;
@@ -721,25 +715,20 @@ cut_asks prepared part whole rest r s w made of_part of_whole of_rest few few-wh
 
 -- ---- A text of both arms
 
--- The quest for a text of both arms is about these: the left arm is the part and the whole.
-pub arm_quest_of : (left right : Automaton) → QuestOf left left right (arm_quest left right)
+-- The patches of the quest for a text of both arms keep to the rows.
+pub arm_fits : (left right : Automaton) → left.count ≤ 128 → QuestFits (arm_quest left right)
 unfolding arm_quest no_patch
-arm_quest_of left right =
+arm_fits left right few =
     record {
-      part_is = refl;
-      whole_is = refl;
-      rest_is = refl;
-      count_is = refl;
-      wholes_is = refl;
-      rests_is = refl;
-      early_base = omega arith;
-      late_base = omega arith;
-      goal_base = omega arith;
+      few = few;
+      early_fits = record { base_low = omega arith };
+      late_fits = record { base_low = omega arith };
+      goal_fits = record { base_low = omega arith };
     }
 
 module _
     (prepared : List ℕ) (left right : Automaton) (leads : List ℕ) (r s : Pattern)
-    (known : LateRead prepared left left right (arm_quest left right) leads r s) where
+    (known : LateRead prepared (arm_quest left right) leads r s) where
   abbrev arms : Graph
   arms = graph_of prepared (arm_quest left right) leads
 
@@ -756,7 +745,7 @@ module _
 
   -- The accepted texts are those of both arms.
   arm_accepts : nullable r && nullable s ≡ false → (t : Text) → Accepts arms t ↔ (breaks (one_arm r s) t ≡ true)
-  unfolding Accepts
+  unfolding Accepts arm_quest
   arm_accepts not_empty [] = (λ h. absurd h, λ e. absurd (not_both e (arm_end r s ∙ not_empty)))
   arm_accepts not_empty (c ∷ t) = (λ h. (arm_step_iff r s c t).1 (to h), λ e. from ((arm_step_iff r s c t).0 e))
     where
@@ -792,12 +781,11 @@ module _
 pub arm_asks :
     (prepared : List ℕ) (left right : Automaton) (r s : Pattern)
     → Describes r left prepared → Describes s right prepared → left.count ≤ 128 → right.count ≤ 128
-    → nullable r && nullable s ≡ false → Asks prepared left left right (arm_quest left right) (breaks (one_arm r s))
+    → nullable r && nullable s ≡ false → Asks prepared (arm_quest left right) (breaks (one_arm r s))
 unfolding arm_quest
 arm_asks prepared left right r s of_left of_right few few-right not_empty leads tables =
     arm_accepts prepared left right leads r s
     (record {
-      of = arm_quest_of left right;
       tables = tables;
       of_whole = of_left;
       of_rest = of_right;

@@ -6,7 +6,7 @@ use Rattle.clash.specs.Clash.{Given}
 use Rattle.positions.specs.declared.Set.{Set}
 use Rattle.positions.specs.Positions.{holds}
 use Rattle.automaton.specs.declared.Automaton.{Automaton}
-use Rattle.automaton.specs.Rows.{set_at, follow_of, share_in}
+use Rattle.automaton.specs.Rows.{set_at, follow_of, share_in, Room}
 use Rattle.search.specs.declared.patches.Quest.{Quest}
 use Rattle.search.specs.Graph.{Accepts}
 use Rattle.search.specs.Pairs.{no_set, no_patch, graph_of}
@@ -18,12 +18,9 @@ unfoldable pub cut_quest : Automaton → Automaton → Automaton → Quest
 cut_quest part whole rest =
     let opening : Set = cond part.nullable part.first no_set in
     record {
-      part = part.start;
-      whole = whole.start;
-      rest = rest.start;
-      count = part.count;
-      wholes = whole.count;
-      rests = rest.count;
+      part = part;
+      whole = whole;
+      rest = rest;
       last = part.last;
       first = rest.first;
       early = record { base = 0; rows = part.first; columns = part.first };
@@ -35,12 +32,9 @@ cut_quest part whole rest =
 unfoldable pub arm_quest : Automaton → Automaton → Quest
 arm_quest left right =
     record {
-      part = left.start;
-      whole = left.start;
-      rest = right.start;
-      count = left.count;
-      wholes = left.count;
-      rests = right.count;
+      part = left;
+      whole = left;
+      rest = right;
       last = no_set;
       first = no_set;
       early = no_patch;
@@ -48,17 +42,11 @@ arm_quest left right =
       goal = record { base = 128; rows = left.last; columns = right.last };
     }
 
--- The quest is about these automata, and its patches keep to the rows.
-pub record QuestOf (part whole rest : Automaton) (q : Quest) : Type 0 where
-  pub part_is : q.part ≡ part.start
-  pub whole_is : q.whole ≡ whole.start
-  pub rest_is : q.rest ≡ rest.start
-  pub count_is : q.count ≡ part.count
-  pub wholes_is : q.wholes ≡ whole.count
-  pub rests_is : q.rests ≡ rest.count
-  pub early_base : q.early.base ≤ 128
-  pub late_base : q.late.base ≤ 128
-  pub goal_base : q.goal.base ≤ 128
+-- The quest's automata have their rows in the prepared program.
+pub record Rooms (prepared : List ℕ) (q : Quest) : Type 0 where
+  pub part_room : Room q.part prepared
+  pub whole_room : Room q.whole prepared
+  pub rest_room : Room q.rest prepared
 
 -- ---- Tables
 
@@ -73,11 +61,11 @@ LedAt prepared a base leads =
     (p : ℕ) → p < a.count → (q : ℕ)
     → (holds (set_at leads (2 * (base + p))) q ≡ true) ↔ ((q < a.count) × (holds (follow_of prepared (a.start + q)) p ≡ true))
 
-pub record Tables (prepared : List ℕ) (part whole rest : Automaton) (leads : List ℕ) : Type 0 where
+pub record Tables (prepared : List ℕ) (q : Quest) (leads : List ℕ) : Type 0 where
   pub size : length leads ≡ 768
-  pub part_led : LedAt prepared part 0 leads
-  pub whole_led : LedAt prepared whole 128 leads
-  pub rest_led : LedAt prepared rest 256 leads
+  pub part_led : LedAt prepared q.part 0 leads
+  pub whole_led : LedAt prepared q.whole 128 leads
+  pub rest_led : LedAt prepared q.rest 256 leads
 
 -- position q of b shares a byte with position x of a
 abbrev pub SharesAt : List ℕ → Automaton → Automaton → ℕ → ℕ → Type 0
@@ -91,22 +79,21 @@ pub record Opened (prepared : List ℕ) (a b : Automaton) (base n : ℕ) (before
   pub others_behind : (i : ℕ) → base + n ≤ i → set_at after (2 * i) ≡ set_at before (2 * i)
 
 -- Exactly the pairs of positions that share a byte are set: rows 0 to 127 for pairs of the part, 128 to 255 for those of the whole and the rest.
-pub record FreshIn (prepared : List ℕ) (part whole rest : Automaton) (fresh : List ℕ) : Type 0 where
+pub record FreshIn (prepared : List ℕ) (q : Quest) (fresh : List ℕ) : Type 0 where
   pub size : length fresh ≡ 512
-  pub early_iff : (x : ℕ) → x < 128 → (q : ℕ) → (holds (set_at fresh (2 * x)) q ≡ true) ↔ ((x < part.count) × SharesAt prepared part part x q)
-  pub late_iff : (x : ℕ) → x < 128 → (q : ℕ) → (holds (set_at fresh (2 * (128 + x))) q ≡ true) ↔ ((x < whole.count) × SharesAt prepared whole rest x q)
+  pub early_iff : (x : ℕ) → x < 128 → (p : ℕ) → (holds (set_at fresh (2 * x)) p ≡ true) ↔ ((x < q.part.count) × SharesAt prepared q.part q.part x p)
+  pub late_iff : (x : ℕ) → x < 128 → (p : ℕ) → (holds (set_at fresh (2 * (128 + x))) p ≡ true) ↔ ((x < q.whole.count) × SharesAt prepared q.whole q.rest x p)
 
 -- ---- What is found
 
 -- The texts that the search can find are those of which the test is true.
-abbrev pub Asks : List ℕ → Automaton → Automaton → Automaton → Quest → (Text → Bool) → Type 0
-Asks prepared part whole rest q test =
-    (leads : List ℕ) → Tables prepared part whole rest leads → (t : Text) → Accepts (graph_of prepared q leads) t ↔ (test t ≡ true)
+abbrev pub Asks : List ℕ → Quest → (Text → Bool) → Type 0
+Asks prepared q test = (leads : List ℕ) → Tables prepared q leads → (t : Text) → Accepts (graph_of prepared q leads) t ↔ (test t ≡ true)
 
 -- Some text can be found.
-pub record Answerable (prepared : List ℕ) (part whole rest : Automaton) (q : Quest) : Type 0 where
+pub record Answerable (prepared : List ℕ) (q : Quest) : Type 0 where
   pub test : Text → Bool
-  pub asks : Asks prepared part whole rest q test
+  pub asks : Asks prepared q test
   pub text : Text
   pub passes : test text ≡ true
 

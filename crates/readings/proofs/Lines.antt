@@ -1,5 +1,5 @@
 -- The line that `lenscheck` prints: what it says of an accepted program and of a refusal, and that it fits 64 bytes.
-use mathlib.Core.Path.{◌≡◌, refl, sym, ◌∙◌}
+use mathlib.Core.Path.{◌≡◌, refl, sym, ap, ◌∙◌}
 use mathlib.Core.Bool.{Bool, true, false, ◌||◌, true≢false}
 use mathlib.Core.List.{◌++◌}
 use Prim.Native.Nat.{ℕ, ◌-◌, ◌/◌, ◌≤◌, ◌<◌, min}
@@ -7,6 +7,9 @@ use native.Mathlib.Omega.{arith}
 use lib.Dec.{ltb}
 use lib.ListN.{length, drop, length-append}
 use borrow.Author.Tests.{ltb-true, ltb-false, le-ltb}
+use Rattle.std.specs.Prelude.{Ok, Err}
+use Rattle.table.specs.declared.Refusal.{Refusal}
+use Rattle.table.specs.Prepared.{refusal}
 use Rattle.semantics.specs.Text.{Text}
 use Rattle.semantics.specs.Lens.{Lens, source, sheet}
 use Rattle.semantics.specs.Table.{max_size, max_positions, node_count, lens, tree_at, trees, tree_size, tree_positions, over_limit}
@@ -15,10 +18,8 @@ use Rattle.semantics.specs.Calls.{Answer as Outcome}
 use Rattle.laws.specs.Accepted.{accepted_iff}
 use Rattle.table.specs.Rules.{NodeRead}
 use Rattle.table.specs.declared.Node.{Node as NodeOf}
-use Rattle.answers.specs.Outcomes.{answer_for, GivesText}
+use Rattle.answers.specs.Outcomes.{Answer, answer_for, GivesText}
 use Rattle.answers.specs.Answers.{IsAccepted}
-use Rattle.answers.specs.declared.Answer.{Answer}
-use Rattle.answers.specs.declared.Answer.TheVariants.{Result, Refusal}
 use Rattle.answers.proofs.Verdicts.{accepted_sizes, root_tree}
 use Rattle.lines.specs.Line.{accepted_line, refused_line}
 use Rattle.lines.proofs.Texts.{decimal_one, decimal_two, decimal_more}
@@ -110,14 +111,14 @@ module _ (bytes : Text) {before after : Text} {answer : Answer} (room : 64 ≤ l
       rw (a.gives_root, fits) at given
 
   -- and another is refused
-  refused_given : {number node : ℕ} → program bytes ≡ refuses number node → (answer ≡ Refusal number node) × (after ≡ before)
+  refused_given : {number node : ℕ} → program bytes ≡ refuses number node → (answer ≡ Err (refusal number node)) × (after ≡ before)
   unfolding line_call with_program answer_for buffer_after
   refused_given e = let g = rw e at given in (g.answer_is, g.buffer_is)
 
   -- so a result is the line,
   pub line_result :
       {n : ℕ}
-      → answer ≡ Result n
+      → answer ≡ Ok n
       → (after ≡ lenscheck_line bytes ++ drop (length (lenscheck_line bytes)) before) × ((n ≡ length (lenscheck_line bytes)) × (n ≤ 64))
   unfolding answer_for buffer_after
   line_result {n} is = go (program bytes) refl
@@ -126,20 +127,21 @@ module _ (bytes : Text) {before after : Text} {answer : Answer} (room : 64 ≤ l
       go (gives l) e =
           let a : IsAccepted bytes = record { root = l; gives_root = e } in
           let g = accepted_given a in
-          let same : Result n ≡ Result (length (lenscheck_line bytes)) = sym is ∙ g.answer_is in
+          let same : ◌≡◌ {A = Answer} (Ok n) (Ok (length (lenscheck_line bytes))) = sym is ∙ g.answer_is in
           let n_is : n ≡ length (lenscheck_line bytes) = cc in
           (g.buffer_is, (n_is, omega (arith, line_short a)))
       go (refuses number node) e = let other = (refused_given e).0 in absurd (let z : ◌≡◌ {A = ℕ} 0 1 = cc in omega arith)
 
   -- and a refusal the program's
-  pub line_refusal : {number node : ℕ} → answer ≡ Refusal number node → (program bytes ≡ refuses number node) × (after ≡ before)
+  pub line_refusal : {r : Refusal} → answer ≡ Err r → (program bytes ≡ refuses r.number r.node) × (after ≡ before)
   unfolding answer_for
-  line_refusal {number} {node} is = go (program bytes) refl
+  line_refusal {r} is = go (program bytes) refl
     where
-      go : (o : Outcome Lens) → program bytes ≡ o → (program bytes ≡ refuses number node) × (after ≡ before)
+      go : (o : Outcome Lens) → program bytes ≡ o → (program bytes ≡ refuses r.number r.node) × (after ≡ before)
       go (gives l) e =
           let other = (accepted_given (record { root = l; gives_root = e })).answer_is in
           absurd (let z : ◌≡◌ {A = ℕ} 0 1 = cc in omega arith)
       go (refuses n k) e =
           let (same, kept) = refused_given e in
-          (e ∙ cc, kept)
+          let refused : ◌≡◌ {A = Refusal} (refusal n k) r = cc in
+          (e ∙ ap (λ (q : Refusal). refuses q.number q.node) refused, kept)

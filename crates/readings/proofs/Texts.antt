@@ -6,8 +6,7 @@ use Prim.Native.Nat.{ℕ, ◌-◌}
 use Rattle.semantics.specs.Text.{Text}
 use Rattle.semantics.specs.Table.{node_count}
 use Rattle.lens.specs.declared.Mode.{Mode}
-use Rattle.texts.specs.declared.Wrote.{Wrote}
-use Rattle.texts.specs.Overlay.{Lays}
+use Rattle.texts.specs.Overlay.{Wrote, Lays}
 use Rattle.lens.specs.Reading.{reading, keyed}
 use Rattle.lens.specs.Emitting.{Emits}
 use Rattle.answers.specs.Answers.{Ready}

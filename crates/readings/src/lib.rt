@@ -1,7 +1,5 @@
 // What Get and Create do with an accepted and prepared program, and what the line of `lenscheck` takes of it.
 #![tactic(auto)]
 
-pub mod create;
-pub mod get;
 pub mod line;
-mod reading;
+pub mod reading;

@@ -1,21 +1,15 @@
 // What the line of `lenscheck` takes of an accepted and prepared program.
-ghost use Rattle.std.specs.Prelude.{◌≡◌, length};
+ghost use Rattle.std.specs.Prelude.{length};
 ghost use Rattle.answers.specs.Answers.{Ready};
 ghost use Rattle.answers.specs.Outcomes.{GivesText};
 ghost use Rattle.readings.specs.Line.{line_call};
 
 use answers::Answer;
 use answers::results::give;
+use arrays::filled;
 use lines::put_accepted;
 use table::Table;
 use table::parts::node_count;
-
-// Room for a line.
-fn no_line() -> [u8; 66]
-    ensures { 66 ≡ length result }
-{
-    [0u8; 66]
-}
 
 // The line of an accepted and prepared program, whose root is the last node.
 pub fn line_with(bytes: &[u8], prepared: &[u64], out: &mut [u8]) -> Answer
@@ -24,9 +18,7 @@ pub fn line_with(bytes: &[u8], prepared: &[u64], out: &mut [u8]) -> Answer
 {
     let count = node_count(bytes);
     let root = Table::node(bytes, prepared, count - 1);
-    let sources = root.source;
-    let sheets = root.sheet;
-    let mut line = no_line();
-    let length = put_accepted(count, sources, sheets, &mut line);
-    give(&line[0..length], out)
+    let mut line: [u8; 66] = filled(0);
+    let length = put_accepted(count, root.source, root.sheet, &mut line);
+    give(&line[..length], out)
 }

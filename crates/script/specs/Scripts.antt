@@ -1,14 +1,10 @@
--- Places, letters and numbers in a text.
-use Rattle.std.specs.Prelude.{Bool, cond, ◌&&◌, List, [], ◌∷◌, ℕ, suc, ◌+◌, ◌*◌, ◌%◌, eqb, leb, ltb, length, get_or}
+-- Places and numbers in a text.
+use Rattle.std.specs.Prelude.{Bool, cond, ◌&&◌, List, [], ◌∷◌, ℕ, suc, ◌+◌, ◌*◌, ◌%◌, eqb, leb}
 
 -- How many bytes stand before the first that is `byte`: all of them, if none is.
 unfoldable pub bytes_before : ℕ → List ℕ → ℕ
 bytes_before byte [] = 0
 bytes_before byte (x ∷ xs) = let more = suc (bytes_before byte xs) in cond (eqb x byte) 0 more
-
--- The first two bytes as one number, and 0 for a shorter text.
-unfoldable pub letters_of : List ℕ → ℕ
-letters_of text = cond (ltb (length text) 2) 0 (256 * get_or text 0 0 + get_or text 1 0)
 
 abbrev pub is_digit : ℕ → Bool
 is_digit byte = leb 48 byte && leb byte 57

@@ -1,3 +1,4 @@
 -- What the proofs share, and the crates above cite.
+pub mod Slices
 pub mod Queues
 pub mod Layering

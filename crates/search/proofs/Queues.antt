@@ -10,10 +10,13 @@ use lib.Dec.{eqb, ltb, leb}
 use lib.ListN.{length, get_or, set, length-set}
 use lib.Seq.{get_or-set_same, get_or-set_other}
 use Rattle.semantics.specs.Text.{Member, Different}
-use Rattle.laws.specs.Basics.{bool_cases, not_both, and_both, and_of, or_either, or_left, or_right}
+use Rattle.laws.specs.Basics.{bool_cases, not_both, false_of_not_true, and_both, and_of, or_either, or_left, or_right}
 use Rattle.clash.proofs.Bound.{different_length}
 use Rattle.positions.specs.declared.Set.{Set}
-use Rattle.positions.specs.Positions.{holds, Met, Removed, FirstFrom}
+use Rattle.positions.specs.Positions.{holds, Met, Removed}
+use Rattle.positions.specs.declared.Below.{Below}
+use Rattle.positions.specs.Below.{Taken, Done}
+use Rattle.positions.proofs.Walk.{taken_gone, taken_other, taken_before}
 use Rattle.positions.proofs.Bits.{same_test, holds_past}
 use Rattle.automaton.specs.Rows.{set_at}
 use Rattle.language.specs.Sets.{Stored}
@@ -246,70 +249,86 @@ module _
         differs : (i : ℕ) → i < count → ¬ (get_or order i 0 ≡ one)
         differs i l e = not_both held (subst (λ (k : ℕ). held_in fresh 0 k ≡ false) e (queue.closed i l))
 
+-- ---- A walk over the positions of a set
+
+-- what the first holds, the second does
+abbrev pub IsWithin : Set → Set → Type 0
+IsWithin left s = (p : ℕ) → holds left p ≡ true → holds s p ≡ true
+
+module _ {walk after : Below} {n : ℕ} (taken : Taken walk n after) where
+  -- what comes was left
+  pub taken_left : holds walk.left n ≡ true
+  taken_left = taken.first.held taken.small
+
+  pub within_after : (s : Set) → IsWithin walk.left s → IsWithin after.left s
+  within_after s within p h = within p (taken_before taken p h)
+
+  -- what is not left stays so
+  still_gone : (p : ℕ) → holds walk.left p ≡ false → holds after.left p ≡ false
+  still_gone p gone = false_of_not_true (holds after.left p) (λ h. not_both (taken_before taken p h) gone)
+
 -- ---- The pairs of a row
 
--- the pairs of a row with a column of the set, below `limit`
-pub record RowTo (row : ℕ) (columns : Set) (limit pair : ℕ) : Type 0 where
+-- the pairs of a row with a column of the set that is not left
+pub record RowPast (row : ℕ) (columns left : Set) (pair : ℕ) : Type 0 where
   pub of_row : OfRow row columns pair
-  pub under : pair % 128 < limit
+  pub gone : holds left (pair % 128) ≡ false
+
+-- none before the first column
+pub row_begins : (row : ℕ) (found : Set) {order fresh : List ℕ} {count : ℕ} → Queue order fresh count → Found (RowPast row found found) order fresh count order fresh count
+row_begins row found queue = found_none queue (λ pair held p. not_both p.of_row.1 p.gone)
 
 module _ (row : ℕ) (columns found : Set) {order fresh : List ℕ} {count : ℕ} (met : Met (set_at fresh (2 * row)) columns found) where
-  -- none below the first column
-  pub row_begins : {limit : ℕ} → Queue order fresh count → FirstFrom found 0 limit → Found (RowTo row found limit) order fresh count order fresh count
-  row_begins queue first = found_none queue (λ pair held p. not_both p.of_row.1 (first.skipped (pair % 128) (omega arith) p.under))
+  module _ {walk after : Below} {column : ℕ} (taken : Taken walk column after) where
+    -- the pair of the column that comes is still fresh
+    pub row_fresh :
+        {order' fresh' : List ℕ} {count' : ℕ} → IsWithin walk.left found → Found (RowPast row found walk.left) order fresh count order' fresh' count'
+        → held_in fresh' 0 (128 * row + column) ≡ true
+    row_fresh within known =
+        let inside = taken.small in
+        let here : (128 * row + column) % 128 ≡ column = omega arith in
+        found_not known (128 * row + column)
+        (held_at fresh row column (128 * row + column) (omega arith) here
+        ∙ (and_both (holds (set_at fresh (2 * row)) column) (holds columns column) (sym (met column) ∙ within column (taken_left taken))).0)
+        (λ p. not_both (taken_left taken) (rw here at p.gone))
 
-  -- the next column is still fresh
-  pub row_fresh :
-      {limit : ℕ} {order' fresh' : List ℕ} {count' : ℕ} → Found (RowTo row found limit) order fresh count order' fresh' count'
-      → limit < 128 → holds found limit ≡ true → held_in fresh' 0 (128 * row + limit) ≡ true
-  row_fresh {limit} known inside held =
-      found_not known (128 * row + limit)
-      (held_at fresh row limit (128 * row + limit) (omega arith) (omega arith)
-      ∙ (and_both (holds (set_at fresh (2 * row)) limit) (holds columns limit) (sym (met limit) ∙ held)).0)
-      (λ p. omega (arith, p.under))
+    -- one more
+    pub row_more :
+        {order' fresh' order'' fresh'' : List ℕ} {count' count'' : ℕ} → IsWithin walk.left found
+        → Found (RowPast row found walk.left) order fresh count order' fresh' count'
+        → Found (λ pair. pair ≡ 128 * row + column) order' fresh' count' order'' fresh'' count''
+        → Found (RowPast row found after.left) order fresh count order'' fresh'' count''
+    row_more within known one = found_same (λ pair fresh-there. (there pair, back pair)) (found_then known one)
+      where
+        there : (pair : ℕ) → RowPast row found walk.left pair ⊎ (pair ≡ 128 * row + column) → RowPast row found after.left pair
+        there pair (inl p) = record { of_row = p.of_row; gone = still_gone taken (pair % 128) p.gone }
+        there pair (inr e) =
+            let inside = taken.small in
+            let of_column : pair % 128 ≡ column = omega arith in
+            record { of_row = (omega arith, rw of_column (within column (taken_left taken))); gone = rw of_column (taken_gone taken) }
 
-  -- one more
-  pub row_more :
-      {limit next : ℕ} {order' fresh' order'' fresh'' : List ℕ} {count' count'' : ℕ} → limit < 128 → holds found limit ≡ true → FirstFrom found (limit + 1) next
-      → Found (RowTo row found limit) order fresh count order' fresh' count'
-      → Found (λ pair. pair ≡ 128 * row + limit) order' fresh' count' order'' fresh'' count'' → Found (RowTo row found next) order fresh count order'' fresh'' count''
-  row_more {limit} {next} inside held first known one = found_same (λ pair fresh-there. (there pair, back pair)) (found_then known one)
-    where
-      there : (pair : ℕ) → RowTo row found limit pair ⊎ (pair ≡ 128 * row + limit) → RowTo row found next pair
-      there pair (inl p) = record { of_row = p.of_row; under = omega (arith, p.under, first.from) }
-      there pair (inr e) =
-          let of_column : pair % 128 ≡ limit = omega arith in
-          record { of_row = (omega arith, rw of_column held); under = omega (arith, first.from) }
-
-      back : (pair : ℕ) → RowTo row found next pair → RowTo row found limit pair ⊎ (pair ≡ 128 * row + limit)
-      back pair p =
-          ⊎_elim
-          (λ e. inl (record { of_row = p.of_row; under = ltb-true (pair % 128) limit e }))
-          (λ e.
-          ⊎_elim
-          (λ same. inr (let at = eqb-true (pair % 128) limit same in omega (arith, p.of_row.0)))
-          (λ ne.
-          let past = ltb-false (pair % 128) limit e in
-          let off = eqb-false (pair % 128) limit ne in
-          absurd (not_both p.of_row.1 (first.skipped (pair % 128) (omega arith) p.under)))
-          (bool_cases (eqb (pair % 128) limit)))
-          (bool_cases (ltb (pair % 128) limit))
+        back : (pair : ℕ) → RowPast row found after.left pair → RowPast row found walk.left pair ⊎ (pair ≡ 128 * row + column)
+        back pair p =
+            ⊎_elim
+            (λ same. inr (let at = eqb-true (pair % 128) column same in omega (arith, p.of_row.0)))
+            (λ ne. inl (record { of_row = p.of_row; gone = sym (taken_other taken (pair % 128) (eqb-false (pair % 128) column ne)) ∙ p.gone }))
+            (bool_cases (eqb (pair % 128) column))
 
   -- all of them
   pub row_all :
-      {limit : ℕ} {order' fresh' : List ℕ} {count' : ℕ} → 128 ≤ limit → Found (RowTo row found limit) order fresh count order' fresh' count'
-      → Found (OfRow row columns) order fresh count order' fresh' count'
-  row_all {limit} past = found_same (λ pair held. (there pair, back pair held))
+      {walk : Below} {order' fresh' : List ℕ} {count' : ℕ} → Done walk → 128 ≤ walk.end
+      → Found (RowPast row found walk.left) order fresh count order' fresh' count' → Found (OfRow row columns) order fresh count order' fresh' count'
+  row_all {walk} done far = found_same (λ pair held. (there pair, back pair held))
     where
-      there : (pair : ℕ) → RowTo row found limit pair → OfRow row columns pair
+      there : (pair : ℕ) → RowPast row found walk.left pair → OfRow row columns pair
       there pair p = (p.of_row.0, (and_both (holds (set_at fresh (2 * row)) (pair % 128)) (holds columns (pair % 128)) (sym (met (pair % 128)) ∙ p.of_row.1)).1)
 
-      back : (pair : ℕ) → held_in fresh 0 pair ≡ true → OfRow row columns pair → RowTo row found limit pair
+      back : (pair : ℕ) → held_in fresh 0 pair ≡ true → OfRow row columns pair → RowPast row found walk.left pair
       back pair held (e, h) =
           let here = sym (held_at fresh row (pair % 128) pair e refl) ∙ held in
           record {
             of_row = (e, met (pair % 128) ∙ and_of (holds (set_at fresh (2 * row)) (pair % 128)) (holds columns (pair % 128)) here h);
-            under = omega arith;
+            gone = done.none_left (pair % 128) (omega arith);
           }
 
 -- ---- The pairs of a patch
@@ -340,59 +359,55 @@ patch_below b pair fits_in e =
     let (upper, of_row, of_column) = in_patch_parts b (pair / 128) (pair % 128) e in
     omega (arith, fits_in.base_low, held_below b.rows (pair / 128 - b.base) of_row)
 
--- the pairs of a patch that are below row `limit` of it
-pub record PatchTo (b : Patch) (limit pair : ℕ) : Type 0 where
+-- the pairs of a patch whose row is not left
+pub record PatchPast (b : Patch) (left : Set) (pair : ℕ) : Type 0 where
   pub in_it : pair_in b pair ≡ true
-  pub under : pair / 128 < b.base + limit
+  pub gone : holds left (pair / 128 - b.base) ≡ false
 
 module _ (b : Patch) {order fresh : List ℕ} {count : ℕ} where
-  -- none below the first row
-  pub patch_begins : {limit : ℕ} → Queue order fresh count → FirstFrom b.rows 0 limit → Found (PatchTo b limit) order fresh count order fresh count
-  patch_begins queue first =
-      found_none queue
-      (λ pair held p.
-      let (upper, of_row, of_column) = in_patch_parts b (pair / 128) (pair % 128) p.in_it in
-      not_both of_row (first.skipped (pair / 128 - b.base) (omega arith) (omega (arith, p.under))))
+  -- none before the first row
+  pub patch_begins : Queue order fresh count → Found (PatchPast b b.rows) order fresh count order fresh count
+  patch_begins queue =
+      found_none queue (λ pair held p. not_both (in_patch_parts b (pair / 128) (pair % 128) p.in_it).1 p.gone)
 
   -- one row more
   pub patch_more :
-      {limit next : ℕ} {order' fresh' order'' fresh'' : List ℕ} {count' count'' : ℕ} → holds b.rows limit ≡ true → FirstFrom b.rows (limit + 1) next
-      → Found (PatchTo b limit) order fresh count order' fresh' count'
-      → Found (OfRow (b.base + limit) b.columns) order' fresh' count' order'' fresh'' count'' → Found (PatchTo b next) order fresh count order'' fresh'' count''
-  patch_more {limit} {next} held first known row = found_same (λ pair fresh-there. (there pair, back pair)) (found_then known row)
+      {walk after : Below} {row : ℕ} {order' fresh' order'' fresh'' : List ℕ} {count' count'' : ℕ} → Taken walk row after → IsWithin walk.left b.rows
+      → Found (PatchPast b walk.left) order fresh count order' fresh' count'
+      → Found (OfRow (b.base + row) b.columns) order' fresh' count' order'' fresh'' count''
+      → Found (PatchPast b after.left) order fresh count order'' fresh'' count''
+  patch_more {walk} {after} {row} taken within known one = found_same (λ pair fresh-there. (there pair, back pair)) (found_then known one)
     where
-      there : (pair : ℕ) → PatchTo b limit pair ⊎ OfRow (b.base + limit) b.columns pair → PatchTo b next pair
-      there pair (inl p) = record { in_it = p.in_it; under = omega (arith, p.under, first.from) }
+      there : (pair : ℕ) → PatchPast b walk.left pair ⊎ OfRow (b.base + row) b.columns pair → PatchPast b after.left pair
+      there pair (inl p) = record { in_it = p.in_it; gone = still_gone taken (pair / 128 - b.base) p.gone }
       there pair (inr (e, h)) =
-          let at : pair / 128 - b.base ≡ limit = omega arith in
-          record { in_it = in_patch_of b (pair / 128) (pair % 128) (omega arith) (rw at held) h; under = omega (arith, first.from) }
+          let at : pair / 128 - b.base ≡ row = omega arith in
+          record {
+            in_it = in_patch_of b (pair / 128) (pair % 128) (omega arith) (rw at (within row (taken_left taken))) h;
+            gone = rw at (taken_gone taken);
+          }
 
-      back : (pair : ℕ) → PatchTo b next pair → PatchTo b limit pair ⊎ OfRow (b.base + limit) b.columns pair
+      back : (pair : ℕ) → PatchPast b after.left pair → PatchPast b walk.left pair ⊎ OfRow (b.base + row) b.columns pair
       back pair p =
           let (upper, of_row, of_column) = in_patch_parts b (pair / 128) (pair % 128) p.in_it in
+          let place = pair / 128 - b.base in
           ⊎_elim
-          (λ e. inl (record { in_it = p.in_it; under = ltb-true (pair / 128) (b.base + limit) e }))
-          (λ e.
-          ⊎_elim
-          (λ same. inr (eqb-true (pair / 128) (b.base + limit) same, of_column))
-          (λ ne.
-          let past = ltb-false (pair / 128) (b.base + limit) e in
-          let off = eqb-false (pair / 128) (b.base + limit) ne in
-          absurd (not_both of_row (first.skipped (pair / 128 - b.base) (omega arith) (omega (arith, p.under)))))
-          (bool_cases (eqb (pair / 128) (b.base + limit))))
-          (bool_cases (ltb (pair / 128) (b.base + limit)))
+          (λ same. inr (let at = eqb-true place row same in (omega arith, of_column)))
+          (λ ne. inl (record { in_it = p.in_it; gone = sym (taken_other taken place (eqb-false place row ne)) ∙ p.gone }))
+          (bool_cases (eqb place row))
 
   -- all of them
   pub patch_all :
-      {limit : ℕ} {order' fresh' : List ℕ} {count' : ℕ} → 128 ≤ limit → Found (PatchTo b limit) order fresh count order' fresh' count'
+      {walk : Below} {order' fresh' : List ℕ} {count' : ℕ} → Done walk → 128 ≤ walk.end
+      → Found (PatchPast b walk.left) order fresh count order' fresh' count'
       → Found (λ pair. pair_in b pair ≡ true) order fresh count order' fresh' count'
-  patch_all {limit} past =
+  patch_all done far =
       found_same
       (λ pair fresh-there. (
         λ p. p.in_it,
         λ e.
             let (upper, of_row, of_column) = in_patch_parts b (pair / 128) (pair % 128) e in
-            record { in_it = e; under = omega (arith, held_below b.rows (pair / 128 - b.base) of_row) },
+            record { in_it = e; gone = done.none_left (pair / 128 - b.base) (omega (arith, held_below b.rows (pair / 128 - b.base) of_row)) },
       ))
 
 -- ---- The pairs before a pair
@@ -412,7 +427,7 @@ linked_fits quest leads row column =
     ⊎_elim
     (λ e. record { base_low = rw e (omega arith) })
     (λ e. record { base_low = rw e (omega arith) })
-    (bool_cases (leb 128 row && (ltb row (128 + quest.count) && holds quest.first column)))
+    (bool_cases (leb 128 row && (ltb row (128 + quest.part.count) && holds quest.first column)))
 
 -- Those of its own kind, and then the early ones before a late one, are all before it.
 pub visited :

@@ -3,3 +3,4 @@ pub mod Graph
 pub mod Pairs
 pub mod Queue
 pub mod Layers
+pub mod Searches

@@ -37,16 +37,16 @@ before_of leads row column =
 unfoldable pub linked_of : Quest → List ℕ → ℕ → ℕ → Patch
 linked_of q leads row column =
     let found : Patch = record { base = 0; rows = q.last; columns = set_at leads (2 * (row - 128)) } in
-    cond (leb 128 row && (ltb row (128 + q.count) && holds q.first column)) found no_patch
+    cond (leb 128 row && (ltb row (128 + q.part.count) && holds q.first column)) found no_patch
 
 -- ---- The graph of a quest
 
 -- where the positions of a pair have their rows in the prepared program
 unfoldable pub left_row : Quest → ℕ → ℕ
-left_row q pair = cond (ltb (pair / 128) 128) (q.part + pair / 128) (q.whole + (pair / 128 - 128))
+left_row q pair = cond (ltb (pair / 128) 128) (q.part.start + pair / 128) (q.whole.start + (pair / 128 - 128))
 
 unfoldable pub right_row : Quest → ℕ → ℕ
-right_row q pair = cond (ltb (pair / 128) 128) (q.part + pair % 128) (q.rest + pair % 128)
+right_row q pair = cond (ltb (pair / 128) 128) (q.part.start + pair % 128) (q.rest.start + pair % 128)
 
 -- whether the first pair may come before the second
 unfoldable pub precedes_in : Quest → List ℕ → ℕ → ℕ → Bool
@@ -59,8 +59,8 @@ begins_in q pair = pair_in q.early pair || pair_in q.late pair
 -- whether both positions are those of the automata
 unfoldable pub inside_of : Quest → ℕ → Bool
 inside_of q pair =
-    let early = ltb (pair / 128) q.count && ltb (pair % 128) q.count in
-    let late = ltb (pair / 128) (128 + q.wholes) && ltb (pair % 128) q.rests in
+    let early = ltb (pair / 128) q.part.count && ltb (pair % 128) q.part.count in
+    let late = ltb (pair / 128) (128 + q.whole.count) && ltb (pair % 128) q.rest.count in
     cond (ltb (pair / 128) 128) early late
 
 unfoldable pub graph_of : List ℕ → Quest → List ℕ → Graph
@@ -78,7 +78,7 @@ pub record PatchFits (b : Patch) : Type 0 where
 
 -- The quest's patches keep to the rows.
 pub record QuestFits (q : Quest) : Type 0 where
-  pub few : q.count ≤ 128
+  pub few : q.part.count ≤ 128
   pub early_fits : PatchFits q.early
   pub late_fits : PatchFits q.late
   pub goal_fits : PatchFits q.goal

@@ -5,3 +5,4 @@
 pub mod layers;
 pub mod patches;
 pub mod queue;
+pub mod searches;

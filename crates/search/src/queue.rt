@@ -3,12 +3,14 @@ ghost use Rattle.std.specs.Prelude.{◌≡◌, true, ◌+◌, ◌*◌, ◌/◌, 
 ghost use Rattle.search.specs.Pairs.{held_in, pair_in, PatchFits};
 ghost use Rattle.search.specs.Queue.{Queue, Found, OfRow, Before, BeforeOne};
 
-use crate::patches::{Patch, Quest, before, linked};
+use crate::patches::Patch;
+use crate::searches::Search;
 use automaton::set_at;
 use language::keep;
 use positions::Set;
 
 // A fresh pair is found.
+// Kept by hand: the order and what is fresh are lent, each call by its own room; a struct of two `&mut` would have to say in every clause that it still holds them.
 fn push(order: &mut [u16], fresh: &mut [u64], count: usize, row: usize, column: usize)
     requires queue { Queue order.old fresh.old count }
     requires row_bound { (row < 256) × (column < 128) × (held_in fresh.old 0 (128 * row + column) ≡ true) }
@@ -27,11 +29,9 @@ fn take_row(order: &mut [u16], fresh: &mut [u64], count: usize, row: usize, colu
 {
     let found = set_at(fresh, 2 * row).intersect(columns);
     let mut n = count;
-    let mut column = found.first_from(0);
-    while column < Set::SIZE {
+    for column in found.below(Set::SIZE) {
         push(order, fresh, n, row, column);
         n += 1;
-        column = found.first_from(column + 1);
     }
     n
 }
@@ -42,56 +42,41 @@ pub fn take_patch(order: &mut [u16], fresh: &mut [u64], count: usize, patch: Pat
     requires patch_fits { PatchFits patch }
     ensures { Found (λ pair. pair_in patch pair ≡ true) order.old fresh.old count order.new fresh.new result }
 {
-    let base = patch.base;
-    let rows = patch.rows;
-    let columns = patch.columns;
     let mut n = count;
-    let mut p = rows.first_from(0);
-    while p < Set::SIZE {
-        n = take_row(order, fresh, n, base + p, columns);
-        p = rows.first_from(p + 1);
+    for p in patch.rows.below(Set::SIZE) {
+        n = take_row(order, fresh, n, patch.base + p, patch.columns);
     }
     n
 }
 
 // The fresh pairs that may come before a pair are found.
-fn visit(
-    quest: Quest,
-    leads: &[u64],
-    order: &mut [u16],
-    fresh: &mut [u64],
-    count: usize,
-    pair: usize,
-) -> usize
-    requires leads_len { (length leads.now ≡ 768) × (quest.count ≤ 128) × (pair < 32768) }
+fn visit(search: Search, order: &mut [u16], fresh: &mut [u64], count: usize, pair: usize) -> usize
+    requires pair_bound { pair < 32768 }
     requires queue { Queue order.old fresh.old count }
-    ensures { Found (BeforeOne quest leads.now pair) order.old fresh.old count order.new fresh.new result }
+    ensures { Found (BeforeOne search.entry.quest.now search.entry.leads.now pair) order.old fresh.old count order.new fresh.new result }
 {
     let row = pair / 128;
     let column = pair % 128;
-    let n = take_patch(order, fresh, count, before(leads, row, column));
-    take_patch(order, fresh, n, linked(quest, leads, row, column))
+    let n = take_patch(order, fresh, count, search.before(row, column));
+    take_patch(order, fresh, n, search.linked(row, column))
 }
 
 // The fresh pairs that may come before one of those from `from` to before `to` are found, behind these.
 pub fn visit_layer(
-    quest: Quest,
-    leads: &[u64],
+    search: Search,
     order: &mut [u16],
     fresh: &mut [u64],
     from: usize,
     to: usize,
 ) -> usize
-    requires leads_len { (length leads.now ≡ 768) × (quest.count ≤ 128) × (from ≤ to) }
+    requires ends { from ≤ to }
     requires queue { Queue order.old fresh.old to }
-    ensures { Found (Before quest leads.now order.old from to) order.old fresh.old to order.new fresh.new result }
+    ensures { Found (Before search.entry.quest.now search.entry.leads.now order.old from to) order.old fresh.old to order.new fresh.new result }
 {
     let mut n = to;
-    let mut i = from;
-    while i < to {
+    for i in from..to {
         let pair = order[i] as usize;
-        n = visit(quest, leads, order, fresh, n, pair);
-        i += 1;
+        n = visit(search, order, fresh, n, pair);
     }
     n
 }

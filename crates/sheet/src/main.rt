@@ -1,40 +1,31 @@
 // The command line program: `sheet check TABLE`, `sheet get TABLE SOURCE`, `sheet put TABLE SHEET SOURCE`, `sheet create TABLE SHEET`.
 #![tactic(auto)]
 
-ghost use Rattle.std.specs.Prelude.{◌≤◌};
-ghost use Rattle.io.specs.Counts.{IsPrefixLen};
+ghost use Rattle.std.specs.Prelude.{◌≤◌, length};
 
 use std::env::{Env, FillError};
 
 // A word of the command line, and none if it is missing. One that is too long for a path fills the buffer, and no file is opened by such a name.
-fn word(rt: &impl Env, i: usize, buffer: &mut [u8]) -> usize
-    ensures { IsPrefixLen result buffer.new }
+fn word<'a>(rt: &impl Env, i: usize, buffer: &'a mut [u8]) -> &'a [u8]
+    ensures { length result.now ≤ length buffer.old }
 {
     match rt.arg(i, buffer) {
-        Ok(n) => n,
-        Err(FillError::TooLong) => buffer.len(),
-        Err(FillError::NotPresent) => 0,
+        Ok(n) => &buffer[..n],
+        Err(FillError::TooLong) => buffer,
+        Err(FillError::NotPresent) => b"",
     }
 }
 
 fn is_given(rt: &impl Env, i: usize) -> bool {
     let mut start = [0u8; 1];
-    match rt.arg(i, &mut start) {
-        Ok(_) => true,
-        Err(FillError::TooLong) => true,
-        Err(FillError::NotPresent) => false,
-    }
+    !matches!(rt.arg(i, &mut start), Err(FillError::NotPresent))
 }
 
 // How many words are given behind the program's name; of five or more, 5, which is one more than any command takes.
 fn word_count(rt: &impl Env) -> usize
     ensures { result ≤ 5 }
 {
-    let mut n = 0;
-    while n < 5 && is_given(rt, n + 1) {
-        n += 1;
-    }
-    n
+    (1..=5).take_while(|i| is_given(rt, *i)).count()
 }
 
 fn main(rt: HostRuntime) {
@@ -42,20 +33,16 @@ fn main(rt: HostRuntime) {
     let mut first = [0u8; 4096];
     let mut second = [0u8; 4096];
     let mut third = [0u8; 4096];
-    let a = word(&rt, 1, &mut command);
-    let b = word(&rt, 2, &mut first);
-    let c = word(&rt, 3, &mut second);
-    let d = word(&rt, 4, &mut third);
     if !is_given(&rt, 0) {
         return;
     }
-    commands::run::run(
-        &rt,
-        &rt.stderr(),
-        word_count(&rt),
-        &command[..a],
-        &first[..b],
-        &second[..c],
-        &third[..d],
-    );
+    // Of a fifth word, which no command takes, it only matters that it is there.
+    let words = [
+        word(&rt, 1, &mut command),
+        word(&rt, 2, &mut first),
+        word(&rt, 3, &mut second),
+        word(&rt, 4, &mut third),
+        b"",
+    ];
+    commands::run::run(&rt, &rt.stderr(), &words[..word_count(&rt)]);
 }

@@ -3,78 +3,53 @@
 // is seen.
 #![tactic(auto)]
 
-ghost use Rattle.std.specs.Prelude.{◌≤◌};
-
 use commands::run::run;
 use inputs::read_full;
 use meanings::explain_for;
-use script::{behind, find};
 use std::io;
 
 fn main(rt: HostRuntime) -> io::Result<()> {
-    let mut script = [0u8; 65536];
-    let n = read_full(&mut rt.stdin(), &mut script)?;
-    command_lines(rt, &script[..n])?;
+    let mut buffer = [0u8; 65536];
+    let script = read_full(&mut rt.stdin(), &mut buffer)?;
+    command_lines(rt, script)?;
     sentences(&rt)?;
     sentence_for_a_text(&rt)
 }
 
+// Each line but the comments.
 fn command_lines(rt: HostRuntime, script: &[u8]) -> io::Result<()> {
-    let mut at = 0;
-    while at < script.len() {
-        let end = find(script, at, b'\n');
-        unless_comment(rt, &script[at..end])?;
-        at = end + 1;
+    for line in script.split_inclusive(|byte| *byte == b'\n') {
+        let line = line.strip_suffix(b"\n").unwrap_or(line);
+        if !line.starts_with(b"#") {
+            command_line(rt, line)?;
+        }
     }
     Ok(())
 }
 
-fn unless_comment(rt: HostRuntime, line: &[u8]) -> io::Result<()> {
-    if line.len() == 0 || line[0] != b'#' {
-        return in_words(rt, line);
+// A command line of up to four words, with a space between them: the words, and what they write between brackets. An empty word is not counted.
+fn command_line(rt: HostRuntime, line: &[u8]) -> io::Result<()> {
+    let mut parts = line.splitn(4, |byte| *byte == b' ');
+    let mut word = || {
+        match parts.next() {
+            Some(word) => word,
+            None => b"",
+        }
+    };
+    let words = [word(), word(), word(), word()];
+    for word in words {
+        rt.write_all(word)?;
+        rt.write_all(b" ")?;
     }
-    Ok(())
-}
-
-// A command line of up to four words, with a space between them.
-fn in_words(rt: HostRuntime, line: &[u8]) -> io::Result<()> {
-    let a = find(line, 0, b' ');
-    let b = behind(line, a);
-    let c = find(line, b, b' ');
-    let d = behind(line, c);
-    let e = find(line, d, b' ');
-    let f = behind(line, e);
-    case(rt, &line[0..a], &line[b..c], &line[d..e], &line[f..])
-}
-
-// The words, and what they write between brackets.
-fn case(rt: HostRuntime, word: &[u8], first: &[u8], second: &[u8], third: &[u8]) -> io::Result<()> {
-    let count = given(word) + given(first) + given(second) + given(third);
-    shown(&rt, word)?;
-    shown(&rt, first)?;
-    shown(&rt, second)?;
-    shown(&rt, third)?;
+    let count = words.iter().filter(|word| !word.is_empty()).count();
     rt.write_all(b"[")?;
-    run(&rt, &rt.stderr(), count, word, first, second, third);
+    run(&rt, &rt.stderr(), &words[..count]);
     rt.write_all(b"]\n")
 }
 
-fn given(word: &[u8]) -> usize
-    ensures { result ≤ 1 }
-{
-    if word.len() == 0 { 0 } else { 1 }
-}
-
-fn shown(rt: &impl Print, word: &[u8]) -> io::Result<()> {
-    rt.write_all(word)?;
-    rt.write_all(b" ")
-}
-
 fn sentences(rt: &impl Print) -> io::Result<()> {
-    let mut number = 1;
-    while number <= 19 {
+    for number in 1..=19 {
         sentence(rt, number)?;
-        number += 1;
     }
     Ok(())
 }

@@ -1,10 +1,10 @@
--- What the root writes with the book of an old source and its cards, how it is counted, and the desks.
-use mathlib.Core.Path.{◌≡◌, refl, sym, ap, subst, ◌∙◌}
+-- What the root writes with the book of an old source and its cards, and how it is counted.
+use mathlib.Core.Path.{◌≡◌, refl, sym, ap, ◌∙◌}
 use mathlib.Core.Bool.{Bool, true, false, cond}
 use mathlib.Core.List.{List, [], ◌∷◌}
 use mathlib.Core.Option.{some}
 use Prim.Native.Nat.{ℕ, zero, suc, ◌+◌, ◌-◌, ◌%◌, ◌^◌, ◌≤◌, ◌<◌}
-use native.Mathlib.Nat.{zero-add, add-zero, mod-eq_of_lt}
+use native.Mathlib.Nat.{zero-add, add-zero, mod-eq_of_lt, not-suc-le-zero}
 use native.Mathlib.Omega.{arith}
 use lib.ListN.{length, get_or, take}
 use Rattle.semantics.specs.Text.{Text}
@@ -16,15 +16,13 @@ use Rattle.semantics.specs.Tally.{met, tallied, tally}
 use Rattle.laws.specs.Met.{writes_left, dropped_left}
 use Rattle.laws.specs.Accepted.{accepted}
 use Rattle.laws.specs.Tally.{met_few}
-use Rattle.texts.specs.declared.Wrote.TheVariants.{Count}
+use Rattle.std.specs.Prelude.{Some}
 use Rattle.texts.specs.Overlay.{writes_nothing}
 use Rattle.lens.specs.Parsed.{parsed_length}
 use Rattle.books.specs.declared.Book.{Book}
 use Rattle.books.specs.Listed.{entry_at, unused_from, unused}
 use Rattle.books.specs.Looking.{BookOver, Dealt, OldParsed, part_at, over_more, unused_dealt, entries_parsed_deck, same_all}
 use Rattle.below.specs.Below.{BelowIs}
-use Rattle.decks.specs.declared.deck.Dealing.{Dealing}
-use Rattle.decks.specs.Dealing.{DealtTo}
 use Rattle.bookless.specs.Bookless.{Given}
 use Rattle.plains.specs.declared.Done.{Done as Did}
 use Rattle.counted.specs.Counted.{Fitted}
@@ -34,11 +32,8 @@ use Rattle.answers.specs.Answers.{Ready}
 use Rattle.answers.specs.Results.{TextReady}
 use Rattle.answers.proofs.Giving.{root_at, root_node}
 use Rattle.counts.specs.Counts.{unused_of}
-use Rattle.counts.proofs.Counting.{unused_next}
 use Rattle.dealing.specs.Books.{BookReady}
-use Rattle.sources.specs.declared.Desk.{Desk}
-use Rattle.sources.specs.declared.Desk.TheVariants.{Small, Large}
-use Rattle.sources.specs.Sources.{MakesSource, whole_of, DeskReady}
+use Rattle.sources.specs.Sources.{MakesSource, whole_of}
 
 -- ---- Counts
 
@@ -48,6 +43,13 @@ unfolding wrapped
 wrapped_same {m} {k} small few e =
     let k_small : k < 2 ^ 64 = omega (arith, few) in
     sym (mod-eq_of_lt small) ∙ e ∙ ap (λ x. x % 2 ^ 64) (zero-add k) ∙ mod-eq_of_lt k_small
+
+-- one mark more
+unused_next : (us : List Bool) (i : ℕ) → i < length us → unused_of (take (suc i) us) ≡ unused_of (take i us) + cond (get_or us i false) 0 1
+unfolding unused_of
+unused_next [] i h = absurd (not-suc-le-zero h)
+unused_next (u ∷ us) zero h = omega arith
+unused_next (u ∷ us) (suc i) h = let later = unused_next us i (omega arith) in omega (arith, later)
 
 -- the entries from a place on that were not taken are as many as the marks say
 unused_from_lem :
@@ -128,7 +130,7 @@ module _ {bytes : Text} {prepared : List ℕ} (ready : Ready bytes prepared) {ro
     -- what is then written, from nothing on, is what the root puts
     put_progress :
         (new : Text) {before after : Text} {r : Did}
-        → WritesBehind bytes root deck (some (part_at deck (whole_of (length old)))) new (record { wrote = Count 0; book = b; met = 0 }) before after r
+        → WritesBehind bytes root deck (some (part_at deck (whole_of (length old)))) new (record { wrote = Some 0; book = b; met = 0 }) before after r
         → (l : Lens)
         → program bytes ≡ gives l
         → Progress
@@ -142,7 +144,7 @@ module _ {bytes : Text} {prepared : List ℕ} (ready : Ready bytes prepared) {ro
         r
     put_progress new {before} behind l e =
         let same = unused_dealt (trees bytes) old deck book.over dealt.source_is ∙ book.listed l e in
-        let start : Progress bytes deck (record { text = []; book = unused (trees bytes) deck b }) 0 b before before (record { wrote = Count 0; book = b; met = 0 }) =
+        let start : Progress bytes deck (record { text = []; book = unused (trees bytes) deck b }) 0 b before before (record { wrote = Some 0; book = b; met = 0 }) =
         record {
           bytes_are = writes_nothing before;
           met_is = refl;
@@ -157,7 +159,7 @@ module _ {bytes : Text} {prepared : List ℕ} (ready : Ready bytes prepared) {ro
     -- the book that is left has its arrays
     pub put_over :
         (new : Text) {before after : Text} {r : Did}
-        → WritesBehind bytes root deck (some (part_at deck (whole_of (length old)))) new (record { wrote = Count 0; book = b; met = 0 }) before after r
+        → WritesBehind bytes root deck (some (part_at deck (whole_of (length old)))) new (record { wrote = Some 0; book = b; met = 0 }) before after r
         → BookOver 4096 r.book
     put_over new behind = (put_progress new behind ready.accepted.root ready.accepted.gives_root).over
 
@@ -166,7 +168,7 @@ module _ {bytes : Text} {prepared : List ℕ} (ready : Ready bytes prepared) {ro
         → length new ≤ max_text
         → r.met < 2 ^ 64
         → dropped ≡ unused_of (take r.book.count r.book.used)
-        → WritesBehind bytes root deck (some (part_at deck (whole_of (length old)))) new (record { wrote = Count 0; book = b; met = 0 }) before after r
+        → WritesBehind bytes root deck (some (part_at deck (whole_of (length old)))) new (record { wrote = Some 0; book = b; met = 0 }) before after r
         → MakesSource bytes new old before after (record { wrote = r.wrote; met = r.met; dropped = dropped })
     unfolding put and_then tally
     put_made new {r = r} dropped short small dropped_is behind =
@@ -183,24 +185,5 @@ module _ {bytes : Text} {prepared : List ℕ} (ready : Ready bytes prepared) {ro
         }
 
 -- nothing was written so far
-pub none_written : (out : Text) → Fitted (Count 0) out
+pub none_written : (out : Text) → Fitted (Some 0) out
 none_written out = record { within = λ n e. let z : ◌≡◌ {A = ℕ} 0 n = cc e in omega arith }
-
--- ---- The desks
-
--- how many desks there are after one, in the order in which they are tried
-abbrev pub desks_after : Desk → ℕ
-desks_after Small = 1
-desks_after (Large d) = 0
-
--- the large desk goes on from the cards that a deck has
-pub large_goes_on :
-    {bytes old trail : Text} {b : Book} {cards : Text} {d : Dealing}
-    → DealtTo bytes old trail b cards d
-    → length cards ≤ 18432
-    → DeskReady (Large d) bytes old trail b cards
-large_goes_on {bytes} {old} {trail} {b} {cards} dealt few = record { goes_on = λ d' e. (subst (DealtTo bytes old trail b cards) (cc e) dealt, few) }
-
--- the small one needs none
-pub small_begins : {desk : Desk} {bytes old trail : Text} {b : Book} {cards : Text} → desk ≡ Small → DeskReady desk bytes old trail b cards
-small_begins is = record { goes_on = λ d e. absurd (let z : ◌≡◌ {A = ℕ} 1 0 = ap desks_after (sym is ∙ e) in omega arith) }

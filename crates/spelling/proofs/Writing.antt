@@ -14,7 +14,10 @@ use Rattle.semantics.specs.Text.{Text}
 use Rattle.laws.specs.Basics.{bool_cases, not_both, and_both, and_of, or_either, or_left, or_right}
 use Rattle.clash.specs.Clash.{Lower, Given}
 use Rattle.positions.specs.declared.Set.{Set}
-use Rattle.positions.specs.Positions.{holds, Added, FirstFrom, Shared as Meet}
+use Rattle.positions.specs.Positions.{holds, Added, Shared as Meet}
+use Rattle.positions.specs.declared.Below.{Below}
+use Rattle.positions.specs.Below.{Taken, Done}
+use Rattle.positions.proofs.Walk.{taken_other}
 use Rattle.automaton.specs.Rows.{set_at, stands_in, FirstShared}
 use Rattle.language.specs.Sets.{Stored}
 use Rattle.search.specs.declared.patches.Patch.{Patch}
@@ -23,6 +26,7 @@ use Rattle.search.specs.Pairs.{held_in, pair_in, before_of, linked_of, inside_of
 use Rattle.search.specs.Graph.{Graph, Shared, Way, Accepts, Far}
 use Rattle.search.specs.Layers.{InLayer, Layered, Filled, Bounded}
 use Rattle.spelling.specs.Texts.{Comes, LowerByte, LowestByte, Among, Marked, NoneAlive, EntriesRoom, WrittenOut}
+use Rattle.search.proofs.Slices.{part, part_length, part_at, some_of_part, part_of_some}
 use Rattle.search.proofs.Queues.{in_patch_parts, in_patch_of, held_below, patch_below, before_fits, linked_fits, graph_bounded}
 
 -- ---- Distances
@@ -157,9 +161,19 @@ pub record Open (g : Graph) (order starts : List ℕ) (comes : ℕ → Type 0) (
 abbrev Next : Graph → (ℕ → Type 0) → ℕ → Type 0
 Next g held pair = (from : ℕ) × held from × (g.precedes from pair ≡ true)
 
+-- the entries of the order from `from` to before `to`
+abbrev AmongIn : List ℕ → ℕ → ℕ → ℕ → Type 0
+AmongIn order from to pair = (k : ℕ) × (from ≤ k) × (k < to) × (get_or order k 0 ≡ pair)
+
+-- The lowest byte that stands at one of these that comes; if it is 256, there is none.
+record LowestIn (g : Graph) (comes : ℕ → Type 0) (order : List ℕ) (from to r : ℕ) : Type 0 where
+  most : r ≤ 256
+  by_pair : (r ≡ 256) ⊎ ((k : ℕ) × (from ≤ k) × (k < to) × comes (get_or order k 0) × (g.stands (get_or order k 0) r ≡ true))
+  none_lower : (k c : ℕ) → from ≤ k → k < to → c < r → comes (get_or order k 0) → ¬ (g.stands (get_or order k 0) c ≡ true)
+
 -- the pairs of layer n
 abbrev OfLayer : List ℕ → List ℕ → ℕ → ℕ → Type 0
-OfLayer order starts n = Among order (get_or starts n 0) (get_or starts (n + 1) 0)
+OfLayer order starts n = AmongIn order (get_or starts n 0) (get_or starts (n + 1) 0)
 
 -- Only the empty text has no bytes left.
 lowest_none : (g : Graph) (comes : ℕ → Type 0) → Lowest (Onward g comes) 0 []
@@ -174,7 +188,7 @@ lowest_none g comes = record { is_one = tt; long = refl; none_lower = go }
 module _
     {g : Graph} {order starts : List ℕ} {depth : ℕ} (bounded : Bounded g) (lay : Layered g order starts depth)
     {comes : ℕ → Type 0} {n : ℕ} (inside : n ≤ depth) (open-here : Open g order starts comes (suc n))
-    {r : ℕ} (low : LowestByte g comes order (get_or starts n 0) (get_or starts (n + 1) 0) r)
+    {r : ℕ} (low : LowestIn g comes order (get_or starts n 0) (get_or starts (n + 1) 0) r)
   where
     -- It is a byte, since some pair of the layer comes,
     is_byte : r < 256
@@ -272,41 +286,37 @@ module _
 -- ---- The rows of a pair
 
 -- the rows of an early pair, with both positions in the part,
-pub rows_early : (q : Quest) (pair : ℕ) → pair / 128 < 128 → (q.part + pair / 128 ≡ left_row q pair) × (q.part + pair % 128 ≡ right_row q pair)
+pub rows_early : (q : Quest) (pair : ℕ) → pair / 128 < 128 → (q.part.start + pair / 128 ≡ left_row q pair) × (q.part.start + pair % 128 ≡ right_row q pair)
 unfolding left_row right_row
 rows_early q pair early = rw (lt-ltb (pair / 128) 128 early) (refl, refl)
 
 -- and those of a late one
-pub rows_late : (q : Quest) (pair : ℕ) → 128 ≤ pair / 128 → (q.whole + (pair / 128 - 128) ≡ left_row q pair) × (q.rest + pair % 128 ≡ right_row q pair)
+pub rows_late : (q : Quest) (pair : ℕ) → 128 ≤ pair / 128 → (q.whole.start + (pair / 128 - 128) ≡ left_row q pair) × (q.rest.start + pair % 128 ≡ right_row q pair)
 unfolding left_row right_row
 rows_late q pair late = rw (le-ltb (pair / 128) 128 late) (refl, refl)
 
 -- ---- The pairs of a patch that are alive
 
--- No pair of the patch's first p rows is alive.
-pub record NoneTo (alive : List ℕ) (table : ℕ) (patch : Patch) (p : ℕ) : Type 0 where
-  pub none_to : (q : ℕ) → q < p → holds patch.rows q ≡ true → ¬ Meet (set_at alive (2 * (table + patch.base + q))) patch.columns
+-- No pair of the patch's rows that are not left is alive.
+pub record NonePast (alive : List ℕ) (table : ℕ) (patch : Patch) (left : Set) : Type 0 where
+  pub none_past : (q : ℕ) → holds patch.rows q ≡ true → holds left q ≡ false → ¬ Meet (set_at alive (2 * (table + patch.base + q))) patch.columns
 
 module _ (alive : List ℕ) (table : ℕ) (patch : Patch) where
-  -- None is alive before the first row of the patch,
-  pub none_begins : {p : ℕ} → FirstFrom patch.rows 0 p → NoneTo alive table patch p
-  none_begins first = record { none_to = λ q l h. absurd (not_both h (first.skipped q (omega arith) l)) }
+  -- None is alive where all are left,
+  pub none_begins : NonePast alive table patch patch.rows
+  none_begins = record { none_past = λ q h gone. absurd (not_both h gone) }
 
-  -- nor before the next one, if none of row p is.
+  -- nor behind the row that comes, if none of it is.
   pub none_next_lem :
-      {p n : ℕ} → NoneTo alive table patch p → ¬ Meet (set_at alive (2 * (table + patch.base + p))) patch.columns → FirstFrom patch.rows (p + 1) n
-      → NoneTo alive table patch n
-  none_next_lem {p} known none first =
+      {walk after : Below} {p : ℕ} → Taken walk p after → NonePast alive table patch walk.left
+      → ¬ Meet (set_at alive (2 * (table + patch.base + p))) patch.columns → NonePast alive table patch after.left
+  none_next_lem {p = p} taken known none =
       record {
-        none_to = λ q l h meet.
-            ⊎_elim
-            (λ e. known.none_to q (ltb-true q p e) h meet)
-            (λ e. let past = ltb-false q p e in
+        none_past = λ q h gone meet.
             ⊎_elim
             (λ same. none (rw (eqb-true q p same) at meet))
-            (λ other. let ne = eqb-false q p other in not_both h (first.skipped q (omega arith) l))
-            (bool_cases (eqb q p)))
-            (bool_cases (ltb q p));
+            (λ other. known.none_past q h (sym (taken_other taken q (eqb-false q p other)) ∙ gone) meet)
+            (bool_cases (eqb q p));
       }
 
   -- One of row p is alive.
@@ -321,13 +331,16 @@ module _ (alive : List ℕ) (table : ℕ) (patch : Patch) where
       let back : patch.base + p - patch.base ≡ p = omega arith in
       (pair, rw (row, at, ← place) here, rw (row, at) (in_patch_of patch (patch.base + p) column (omega arith) (rw back h) there))
 
-  -- None is alive, past the last row.
-  pub none_found : {p : ℕ} → NoneTo alive table patch p → 128 ≤ p → ¬ ((pair : ℕ) × (held_in alive table pair ≡ true) × (pair_in patch pair ≡ true))
-  none_found {p} known past (pair, held, inside) =
+  -- None is alive, where no row is left.
+  pub none_found :
+      {walk : Below} → NonePast alive table patch walk.left → Done walk → 128 ≤ walk.end
+      → ¬ ((pair : ℕ) × (held_in alive table pair ≡ true) × (pair_in patch pair ≡ true))
+  none_found known done far (pair, held, inside) =
       let (above, row, column) = in_patch_parts patch (pair / 128) (pair % 128) inside in
       let place : table + pair / 128 ≡ table + patch.base + (pair / 128 - patch.base) = omega arith in
       let below = held_below patch.rows (pair / 128 - patch.base) row in
-      known.none_to (pair / 128 - patch.base) (omega arith) row (pair % 128, omega arith, rw place at held, column)
+      let gone = done.none_left (pair / 128 - patch.base) (omega arith) in
+      known.none_past (pair / 128 - patch.base) row gone (pair % 128, omega arith, rw place at held, column)
 
 -- ---- Which pairs come
 
@@ -425,39 +438,36 @@ module _
           none_lower = λ c l come. none_shared c l (omega arith);
         }
 
-module _ (g : Graph) (comes : ℕ → Type 0) (order : List ℕ) (from : ℕ) where
-  -- Of no entries,
-  pub lowest_begins : LowestByte g comes order from from 256
-  lowest_begins = record { most = omega arith; by_pair = inl refl; none_lower = λ k c l h. absurd (omega arith) }
+-- The lowest byte that stands at one of the first n entries that comes; if it is 256, there is none.
+pub record LowestTo (g : Graph) (comes : ℕ → Type 0) (layer : List ℕ) (n r : ℕ) : Type 0 where
+  pub most : r ≤ 256
+  pub by_pair : (r ≡ 256) ⊎ ((k : ℕ) × (k < n) × comes (get_or layer k 0) × (g.stands (get_or layer k 0) r ≡ true))
+  pub none_lower : (k c : ℕ) → k < n → c < r → comes (get_or layer k 0) → ¬ (g.stands (get_or layer k 0) c ≡ true)
 
-  -- of one entry more,
-  pub lowest_more :
-      {k low r : ℕ} → from ≤ k → LowestByte g comes order from k low → LowerByte g comes (get_or order k 0) low r → LowestByte g comes order from (k + 1) r
-  lowest_more {k} {low} {r} after known one =
-      record {
-        most = omega (arith, known.most, one.most);
-        by_pair =
-            ⊎_elim
-            (λ same. ⊎_elim (λ none. inl (same ∙ none)) (λ (j, l, h, come, stands). inr (j, l, omega arith, come, rw same stands)) known.by_pair)
-            (λ (come, stands). inr (k, after, omega arith, come, stands))
-            one.by_pair;
-        none_lower = λ j c l h below come stands.
-            ⊎_elim
-            (λ e. one.none_lower c below (rw (eqb-true j k e) at come) (rw (eqb-true j k e) at stands))
-            (λ e. let other = eqb-false j k e in known.none_lower j c l (omega arith) (omega (arith, one.most)) come stands)
-            (bool_cases (eqb j k));
-      }
-
-  -- and of those before an end that has been passed.
-  pub lowest_all : {k to r : ℕ} → to ≤ k → ((j : ℕ) → from ≤ j → j < k → j < to) → LowestByte g comes order from k r → LowestByte g comes order from to r
-  lowest_all past within known =
-      record {
-        most = known.most;
-        by_pair = ⊎_elim (λ none. inl none) (λ (j, l, h, come, stands). inr (j, l, within j l h, come, stands)) known.by_pair;
-        none_lower = λ j c l h. known.none_lower j c l (omega arith);
-      }
+-- The layer is a part of the order.
+lowest_in :
+    (g : Graph) (comes : ℕ → Type 0) (order : List ℕ) (from to : ℕ) {r : ℕ} → to ≤ length order → LowestByte g comes (part order from to) r
+    → LowestIn g comes order from to r
+lowest_in g comes order from to {r} inside low =
+    record {
+      most = low.most;
+      by_pair =
+          ⊎_elim
+          (λ none. inl none)
+          (λ (k, l, come, stands).
+          let (j, above, below, (come', stands')) = some_of_part order from to inside (λ x. comes x × (g.stands x r ≡ true)) (k, l, (come, stands)) in
+          inr (j, above, below, come', stands'))
+          low.by_pair;
+      none_lower = λ k c l h below come stands.
+          let (j, m, (come', stands')) = part_of_some order from to inside (λ x. comes x × (g.stands x c ≡ true)) (k, l, h, (come, stands)) in
+          low.none_lower j c m below come' stands';
+    }
 
 -- ---- The pairs that are set
+
+-- the first n entries of the layer
+abbrev pub AmongTo : List ℕ → ℕ → ℕ → Type 0
+AmongTo layer n pair = (k : ℕ) × (k < n) × (get_or layer k 0 ≡ pair)
 
 module _ (g : Graph) (comes : ℕ → Type 0) (i byte : ℕ) where
   -- Where none is to be set, nothing is.
@@ -504,40 +514,45 @@ module _ (g : Graph) (comes : ℕ → Type 0) (i byte : ℕ) where
       there : (x : ℕ) → ¬ (x / 128 ≡ pair / 128) → held_in after (256 * (i % 2)) x ≡ held_in before (256 * (i % 2)) x
       there x other = rw (stored.kept (256 * (i % 2) + x / 128) (λ e. other (omega arith)))
 
-  module _ (order : List ℕ) (from : ℕ) where
-    -- One entry more is set,
+  -- What is set of the pairs P is set of the same pairs by another name.
+  marked_same : {P P' : ℕ → Type 0} {a b : List ℕ} → ((x : ℕ) → P x ↔ P' x) → Marked g comes P i byte a b → Marked g comes P' i byte a b
+  marked_same same known =
+      record {
+        size = known.size;
+        others = known.others;
+        keeps = known.keeps;
+        only = λ x held. ⊎_elim (λ old. inl old) (λ (p, come, stands). inr ((same x).0 p, come, stands)) (known.only x held);
+        all_set = λ x p. known.all_set x ((same x).1 p);
+      }
+
+  module _ (layer : List ℕ) where
+    -- One entry more is set.
     pub marked_more :
-        {comes' : ℕ → Type 0} {k : ℕ} {a b c : List ℕ} → from ≤ k → Marked g comes (Among order from k) i byte a b
-        → ((x : ℕ) → comes' x ↔ comes x) → Marked g comes' (λ x. x ≡ get_or order k 0) i byte b c → Marked g comes (Among order from (k + 1)) i byte a c
-    marked_more {k = k} after known same one =
+        {comes' : ℕ → Type 0} {n : ℕ} {a b c : List ℕ} → Marked g comes (AmongTo layer n) i byte a b
+        → ((x : ℕ) → comes' x ↔ comes x) → Marked g comes' (λ x. x ≡ get_or layer n 0) i byte b c → Marked g comes (AmongTo layer (n + 1)) i byte a c
+    marked_more {n = n} known same one =
         record {
           size = one.size ∙ known.size;
           others = λ x l. one.others x l ∙ known.others x l;
           keeps = λ x held. one.keeps x (known.keeps x held);
           only = λ x held.
               ⊎_elim
-              (λ old. ⊎_elim (λ first. inl first) (λ ((j, l, h, e), come, stands). inr ((j, l, omega arith, e), come, stands)) (known.only x old))
-              (λ (e, come, stands). inr ((k, after, omega arith, sym e), (same x).0 come, stands))
+              (λ old. ⊎_elim (λ first. inl first) (λ ((j, l, e), come, stands). inr ((j, omega arith, e), come, stands)) (known.only x old))
+              (λ (e, come, stands). inr ((n, omega arith, sym e), (same x).0 come, stands))
               (one.only x held);
-          all_set = λ x (j, l, h, e) come stands.
+          all_set = λ x (j, l, e) come stands.
               ⊎_elim
-              (λ now. one.all_set x (sym e ∙ ap (λ (n : ℕ). get_or order n 0) (eqb-true j k now)) ((same x).1 come) stands)
-              (λ then. let other = eqb-false j k then in one.keeps x (known.all_set x (j, l, omega arith, e) come stands))
-              (bool_cases (eqb j k));
+              (λ now. one.all_set x (sym e ∙ ap (λ (k : ℕ). get_or layer k 0) (eqb-true j n now)) ((same x).1 come) stands)
+              (λ then. let other = eqb-false j n then in one.keeps x (known.all_set x (j, omega arith, e) come stands))
+              (bool_cases (eqb j n));
         }
 
-    -- and so are all, where the end has been passed.
-    pub marked_all :
-        {k to : ℕ} {a b : List ℕ} → to ≤ k → ((j : ℕ) → from ≤ j → j < k → j < to) → Marked g comes (Among order from k) i byte a b
-        → Marked g comes (Among order from to) i byte a b
-    marked_all past within known =
-        record {
-          size = known.size;
-          others = known.others;
-          keeps = known.keeps;
-          only = λ x held. ⊎_elim (λ old. inl old) (λ ((j, l, h, e), come, stands). inr ((j, l, within j l h, e), come, stands)) (known.only x held);
-          all_set = λ x (j, l, h, e). known.all_set x (j, l, omega arith, e);
-        }
+  -- The layer is a part of the order.
+  marked_in :
+      (order : List ℕ) (from to : ℕ) {a b : List ℕ} → to ≤ length order → Marked g comes (Among (part order from to)) i byte a b
+      → Marked g comes (AmongIn order from to) i byte a b
+  marked_in order from to inside =
+      marked_same (λ x. (some_of_part order from to inside (λ y. y ≡ x), part_of_some order from to inside (λ y. y ≡ x)))
 
 -- ---- The whole text
 
@@ -577,14 +592,57 @@ module _
     bounded : Bounded (graph_of prepared q leads)
     bounded = graph_bounded prepared q leads fit
 
-    -- The entries up to the end of a layer have room.
-    pub layer_room : EntriesRoom prepared q order (get_or starts bytes 0) → (i : ℕ) → i < bytes → EntriesRoom prepared q order (get_or starts (bytes - i) 0)
-    layer_room room i more =
+    -- Each layer is a part of the order,
+    layer_inside : (i : ℕ) → i < bytes → get_or starts (bytes - i) 0 ≤ length order
+    layer_inside i more =
         let depth = all-layers.depth in
-        let one_more = all-layers.one_more in
-        let same : bytes - i ≡ depth - i + 1 = omega arith in
-        let within : get_or starts (bytes - i) 0 ≤ get_or starts bytes 0 = rw (same, one_more) (layer_within lay i (depth - i) (omega arith)) in
-        record { inside = omega (arith, room.inside); below = λ k l. room.below k (omega arith); rooms = λ k l. room.rooms k (omega arith) }
+        let same : bytes - i ≡ depth - i + 1 = omega (arith, all-layers.one_more) in
+        rw same (omega (arith, layer_within lay i (depth - i) (omega arith), lay.inside))
+
+    pub layer_rises : (i : ℕ) → i < bytes → (get_or starts (bytes - 1 - i) 0 ≤ get_or starts (bytes - i) 0) × (get_or starts (bytes - i) 0 ≤ length order)
+    layer_rises i more = (rw (last, next) (rises (all-layers.depth - i) (omega arith)), layer_inside i more)
+      where
+        last : bytes - 1 - i ≡ all-layers.depth - i
+        last = omega (arith, all-layers.one_more)
+
+        next : bytes - i ≡ all-layers.depth - i + 1
+        next = omega (arith, all-layers.one_more)
+
+        rises : (d : ℕ) → d ≤ all-layers.depth → get_or starts d 0 ≤ get_or starts (d + 1) 0
+        rises d within =
+            ⊎_elim
+            (λ b. omega (arith, lay.rising d (ltb-true d all-layers.depth b)))
+            (λ b. let h : d ≡ all-layers.depth = omega (arith, ltb-false d all-layers.depth b) in rw h lay.last_from)
+            (bool_cases (ltb d all-layers.depth))
+
+    -- and has room for its entries' rows.
+    pub layer_room :
+        EntriesRoom prepared q order (get_or starts bytes 0) → (i : ℕ) → i < bytes
+        → let layer = part order (get_or starts (bytes - 1 - i) 0) (get_or starts (bytes - i) 0) in EntriesRoom prepared q layer (length layer)
+    layer_room room i more =
+        record {
+          inside = omega arith;
+          below = λ k l. let (j, m, e) = here k l in rw e (room.below j m);
+          rooms = λ k l. let (j, m, e) = here k l in rw e (room.rooms j m);
+        }
+      where
+        from : ℕ
+        from = get_or starts (bytes - 1 - i) 0
+
+        to : ℕ
+        to = get_or starts (bytes - i) 0
+
+        within : to ≤ get_or starts bytes 0
+        within =
+            let depth = all-layers.depth in
+            let one_more = all-layers.one_more in
+            let same : bytes - i ≡ depth - i + 1 = omega arith in
+            rw (same, one_more) (layer_within lay i (depth - i) (omega arith))
+
+        here : (k : ℕ) → k < length (part order from to) → (j : ℕ) × (j < get_or starts bytes 0) × (get_or (part order from to) k 0 ≡ get_or order j 0)
+        here k l =
+            let below : k < to - from = omega (arith, part_length order from to (layer_inside i more)) in
+            (from + k, omega (arith, within), part_at order from to (layer_inside i more) k below)
 
     -- At first nothing is written.
     pub written_begins : {alive out : List ℕ} → NoneAlive alive → length out ≡ bytes → Written prepared q leads order starts bytes alive out 0
@@ -624,7 +682,7 @@ module _
     -- The next byte is the lowest of its layer:
     module _
         {alive out : List ℕ} {i : ℕ} (known : Written prepared q leads order starts bytes alive out i) (more : i < bytes) {r : ℕ}
-        (low : LowestByte (graph_of prepared q leads) (Comes q leads alive i) order (get_or starts (bytes - 1 - i) 0) (get_or starts (bytes - i) 0) r)
+        (low : LowestByte (graph_of prepared q leads) (Comes q leads alive i) (part order (get_or starts (bytes - 1 - i) 0) (get_or starts (bytes - i) 0)) r)
       where
         -- its layer is bytes - 1 - i
         inside_here : bytes - 1 - i ≤ all-layers.depth
@@ -636,8 +694,10 @@ module _
         next_start : bytes - i ≡ bytes - 1 - i + 1
         next_start = omega arith
 
-        low_here : LowestByte (graph_of prepared q leads) (Comes q leads alive i) order (get_or starts (bytes - 1 - i) 0) (get_or starts (bytes - 1 - i + 1) 0) r
-        low_here = rw next_start at low
+        low_here : LowestIn (graph_of prepared q leads) (Comes q leads alive i) order (get_or starts (bytes - 1 - i) 0) (get_or starts (bytes - 1 - i + 1) 0) r
+        low_here =
+            rw next_start at
+            (lowest_in (graph_of prepared q leads) (Comes q leads alive i) order (get_or starts (bytes - 1 - i) 0) (get_or starts (bytes - i) 0) (layer_inside i more) low)
 
         -- it is a byte,
         pub written_byte : r < 256
@@ -646,7 +706,7 @@ module _
         -- and it is written;
         pub written_more :
             {after : List ℕ}
-            → Marked (graph_of prepared q leads) (Comes q leads alive i) (Among order (get_or starts (bytes - 1 - i) 0) (get_or starts (bytes - i) 0)) i r alive after
+            → Marked (graph_of prepared q leads) (Comes q leads alive i) (Among (part order (get_or starts (bytes - 1 - i) 0) (get_or starts (bytes - i) 0))) i r alive after
             → Written prepared q leads order starts bytes after (set out i r) (i + 1)
         unfolding Comes graph_of
         written_more {after} marked-before =
@@ -670,7 +730,10 @@ module _
             }
           where
             marked : Marked (graph_of prepared q leads) (Comes q leads alive i) (OfLayer order starts (bytes - 1 - i)) i r alive after
-            marked = rw next_start at marked-before
+            marked =
+                rw next_start at
+                (marked_in (graph_of prepared q leads) (Comes q leads alive i) i r order (get_or starts (bytes - 1 - i) 0) (get_or starts (bytes - i) 0)
+                (layer_inside i more) marked-before)
 
             only :
                 (pair : ℕ) → held_in after (256 * (i % 2)) pair ≡ true

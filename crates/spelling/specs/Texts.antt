@@ -1,6 +1,7 @@
 -- The text, byte by byte from the front, and the pairs that are alive: those to which the text so far leads on a shortest way.
 use Rattle.std.specs.Prelude.{◌≡◌, true, false, List, ◌⊎◌, ℕ, zero, suc, ◌+◌, ◌*◌, ◌%◌, ◌≤◌, ◌<◌, length, get_or}
 use Rattle.search.specs.declared.patches.Quest.{Quest}
+use Rattle.search.specs.declared.searches.Search.{Search}
 use Rattle.search.specs.Graph.{Graph}
 use Rattle.search.specs.Pairs.{held_in, precedes_in, begins_in, PairRoom}
 use Rattle.search.specs.Layers.{Filled}
@@ -10,21 +11,25 @@ unfoldable pub Comes : Quest → List ℕ → List ℕ → ℕ → ℕ → Type 
 Comes quest leads alive zero pair = begins_in quest pair ≡ true
 Comes quest leads alive (suc i) pair = (from : ℕ) × (held_in alive (256 * (i % 2)) from ≡ true) × (precedes_in quest leads from pair ≡ true)
 
+-- the same of a search
+abbrev pub comes_at : Search → List ℕ → ℕ → ℕ → Type 0
+comes_at s = Comes s.quest.now s.leads.now
+
 -- The lower one of a byte and the lowest that stands at the pair, where the pair comes; 256 is no byte.
 pub record LowerByte (g : Graph) (comes : ℕ → Type 0) (pair lowest r : ℕ) : Type 0 where
   pub most : r ≤ lowest
   pub by_pair : (r ≡ lowest) ⊎ (comes pair × (g.stands pair r ≡ true))
   pub none_lower : (c : ℕ) → c < r → comes pair → ¬ (g.stands pair c ≡ true)
 
--- The lowest byte that stands at an entry of the order from `from` to before `to` that comes; if it is 256, there is none.
-pub record LowestByte (g : Graph) (comes : ℕ → Type 0) (order : List ℕ) (from to r : ℕ) : Type 0 where
+-- The lowest byte that stands at an entry of the layer that comes; if it is 256, there is none.
+pub record LowestByte (g : Graph) (comes : ℕ → Type 0) (layer : List ℕ) (r : ℕ) : Type 0 where
   pub most : r ≤ 256
-  pub by_pair : (r ≡ 256) ⊎ ((k : ℕ) × (from ≤ k) × (k < to) × comes (get_or order k 0) × (g.stands (get_or order k 0) r ≡ true))
-  pub none_lower : (k c : ℕ) → from ≤ k → k < to → c < r → comes (get_or order k 0) → ¬ (g.stands (get_or order k 0) c ≡ true)
+  pub by_pair : (r ≡ 256) ⊎ ((k : ℕ) × (k < length layer) × comes (get_or layer k 0) × (g.stands (get_or layer k 0) r ≡ true))
+  pub none_lower : (k c : ℕ) → k < length layer → c < r → comes (get_or layer k 0) → ¬ (g.stands (get_or layer k 0) c ≡ true)
 
--- the entries of the order from `from` to before `to`
-abbrev pub Among : List ℕ → ℕ → ℕ → ℕ → Type 0
-Among order from to pair = (k : ℕ) × (from ≤ k) × (k < to) × (get_or order k 0 ≡ pair)
+-- the entries of the layer
+abbrev pub Among : List ℕ → ℕ → Type 0
+Among layer pair = (k : ℕ) × (k < length layer) × (get_or layer k 0 ≡ pair)
 
 -- Of the pairs P those that come, and at which the byte stands, are set in the table of byte i; the other table is as it was.
 pub record Marked (g : Graph) (comes P : ℕ → Type 0) (i byte : ℕ) (before after : List ℕ) : Type 0 where

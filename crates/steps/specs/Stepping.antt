@@ -14,8 +14,8 @@ use Rattle.positions.specs.Positions.{holds}
 use Rattle.automaton.specs.declared.Side.TheVariants.{Source, Sheet}
 use Rattle.automaton.specs.Rows.{automaton_at}
 use Rattle.cuts.specs.declared.Ends.{Ends}
-use Rattle.texts.specs.declared.Wrote.{Wrote}
-use Rattle.texts.specs.declared.Wrote.TheVariants.{Count, Full}
+use Rattle.texts.specs.Overlay.{Wrote}
+use Rattle.std.specs.Prelude.{Some, None}
 use Rattle.lens.specs.declared.Mode.TheVariants.{Get, Key}
 use Rattle.texts.specs.Overlay.{Writes, count_fits, writes_lent}
 use Rattle.lens.specs.Reading.{mode_side, parts_none, parts_next}
@@ -38,8 +38,7 @@ use Rattle.lens.specs.Parsed.{
   loop_is_part,
 }
 use Rattle.books.specs.declared.Place.{Place}
-use Rattle.books.specs.declared.Old.{Old}
-use Rattle.books.specs.declared.Old.TheVariants.{At, Nothing}
+use Rattle.books.specs.Old.{Old}
 use Rattle.books.specs.Looking.{part_at, trail_of, old_text, OldParsed, OldFits}
 use Rattle.steps.specs.declared.Cut.{Cut}
 use Rattle.steps.specs.declared.Halves.{Halves}
@@ -103,16 +102,16 @@ behind_back s part o e h k kept =
 -- ---- An old text, or none
 
 -- a place is one place
-same_place : (p q : Place) → At p ≡ At q → p ≡ q
+same_place : (p q : Place) → Some p ≡ Some q → p ≡ q
 same_place p q e = cc e
 
 module _ {bytes : Text} {node : ℕ} {deck : Text} where
   -- where there is no old text, none is parsed
-  pub old_none : OldFits bytes node deck Nothing
+  pub old_none : OldFits bytes node deck None
   old_none = record { fits = λ p e. absurd (let z : ◌≡◌ {A = ℕ} 0 1 = cc in omega arith) }
 
   -- the old text at a place is parsed
-  pub old_at : {p : Place} → OldParsed bytes node deck p → OldFits bytes node deck (At p)
+  pub old_at : {p : Place} → OldParsed bytes node deck p → OldFits bytes node deck (Some p)
   old_at {p} parsed = record { fits = λ q e. subst (OldParsed bytes node deck) (same_place p q e) parsed }
 
   -- one that is parsed stands within the old source
@@ -246,7 +245,7 @@ sheet_ends known s parsed are =
 
 -- If there is an old text, its parts end and begin at those positions.
 pub record OldEnds (prepared : List ℕ) (child : ℕ) (old : Old) (ends : Ends) : Type 0 where
-  pub ends_are : (p : Place) → old ≡ At p → EndsAre prepared child Source p.base ends
+  pub ends_are : (p : Place) → old ≡ Some p → EndsAre prepared child Source p.base ends
 
 pub old_ends : {prepared : List ℕ} {child : ℕ} {old : Old} {ends : Ends} → EndsAre prepared child Source (old_base old) ends → OldEnds prepared child old ends
 old_ends {prepared} {child} {ends = ends} are = record { ends_are = λ p e. subst (λ o. EndsAre prepared child Source (old_base o) ends) e are }
@@ -267,7 +266,7 @@ place_long deck p room inside = length-take-le p.len (drop p.start deck) (rw len
 next_none :
     {bytes : Text} {prepared : List ℕ} {node child : ℕ} (l : Lens) (deck : Text) (p : Place) (ends : Ends)
     → p.len ≡ 0
-    → NextFits bytes prepared node child l deck (At p) ends none_next
+    → NextFits bytes prepared node child l deck (Some p) ends none_next
 unfolding old_text or_else apply first_of others_of
 next_none l deck p ends empty =
     let none_there : parts (language source l) (part_at deck p) ≡ [] = rw empty (parts_none (language source l)) in
@@ -282,7 +281,7 @@ next_none l deck p ends empty =
 -- nor where there was none
 nothing_next :
     {bytes : Text} {prepared : List ℕ} {node child : ℕ} (l : Lens) (deck : Text) (ends : Ends)
-    → NextFits bytes prepared node child l deck Nothing ends none_next
+    → NextFits bytes prepared node child l deck None ends none_next
 unfolding old_text or_else apply first_of others_of
 nothing_next l deck ends =
     record {
@@ -327,7 +326,7 @@ module _
       (loop_is_part old.parsed s source_ends some_text_lem refl)
       (parts_next (language source s.child) (part_at deck p) some_text_lem)
 
-  next_some : NextFits bytes prepared node child s.child deck (At p) ends (next_at p ends deck)
+  next_some : NextFits bytes prepared node child s.child deck (Some p) ends (next_at p ends deck)
   unfolding old_text or_else apply first_of others_of
   next_some =
       let trail = trail_of deck in
@@ -357,42 +356,42 @@ pub next_fits :
     → OldEnds prepared child old ends
     → next ≡ next_of old ends deck
     → NextFits bytes prepared node child s.child deck old ends next
-next_fits {bytes} {prepared} {node} {child} deck (At p) {ends} known s room fits are e = rw e (go (eqb p.len 0) refl)
+next_fits {bytes} {prepared} {node} {child} deck (Some p) {ends} known s room fits are e = rw e (go (eqb p.len 0) refl)
   where
     old : OldParsed bytes node deck p
     old = fits.fits p refl
 
-    go : (empty : Bool) → eqb p.len 0 ≡ empty → NextFits bytes prepared node child s.child deck (At p) ends (cond empty none_next (next_at p ends deck))
+    go : (empty : Bool) → eqb p.len 0 ≡ empty → NextFits bytes prepared node child s.child deck (Some p) ends (cond empty none_next (next_at p ends deck))
     go true f = next_none s.child deck p ends (eqb-true p.len 0 f)
     go false f =
         let some_left_lem = eqb-false p.len 0 f in
         next_some deck p ends known s old (are.ends_are p refl) (omega (arith, some_left_lem, place_long deck p room old.inside))
-next_fits deck Nothing {ends} known s room fits are e = rw e (nothing_next s.child deck ends)
+next_fits deck None {ends} known s room fits are e = rw e (nothing_next s.child deck ends)
 
 -- ---- What is written behind what
 
 -- a text written behind n bytes is counted with them
 pub writes_behind :
     (s t before after rest : Text) (n : ℕ) (more : Wrote)
-    → Writes s before after (Count n)
+    → Writes s before after (Some n)
     → Writes t (take (length after - n) (drop n after)) rest more
     → Writes (s ++ t) before (take n after ++ (rest ++ drop (length after - n) (drop n after))) (count_behind n more)
-writes_behind s t before after rest n (Count m) first second =
-    writes_lent s t before after rest n (Count m) first second (Count (n + m)) (λ k e. cc) (λ e. absurd (let z : ◌≡◌ {A = ℕ} 0 1 = cc in omega arith))
-writes_behind s t before after rest n Full first second =
-    writes_lent s t before after rest n Full first second Full (λ k e. absurd (let z : ◌≡◌ {A = ℕ} 0 1 = cc in omega arith)) (λ e. refl)
+writes_behind s t before after rest n (Some m) first second =
+    writes_lent s t before after rest n (Some m) first second (Some (n + m)) (λ k e. cc) (λ e. absurd (let z : ◌≡◌ {A = ℕ} 0 1 = cc in omega arith))
+writes_behind s t before after rest n None first second =
+    writes_lent s t before after rest n None first second None (λ k e. absurd (let z : ◌≡◌ {A = ℕ} 0 1 = cc in omega arith)) (λ e. refl)
 
 -- the sum is a number of 64 bits, since the buffer is no longer
 pub behind_fits :
     (s t before after rest : Text) (n : ℕ) (more : Wrote)
-    → Writes s before after (Count n)
+    → Writes s before after (Some n)
     → Writes t (take (length after - n) (drop n after)) rest more
     → length before < 2 ^ 64
     → Fits64 n more
 behind_fits s t before after rest n more first second small =
     record {
       fits = λ m e.
-          let whole : Writes (s ++ t) before (take n after ++ (rest ++ drop (length after - n) (drop n after))) (Count (n + m)) =
+          let whole : Writes (s ++ t) before (take n after ++ (rest ++ drop (length after - n) (drop n after))) (Some (n + m)) =
           rw e at (writes_behind s t before after rest n more first second) in
           omega (arith, count_fits (s ++ t) before (n + m) whole.answer_is, small);
     }

@@ -14,13 +14,12 @@ use Rattle.automaton.specs.declared.Side.{Side}
 use Rattle.automaton.specs.declared.Side.TheVariants.{Source, Sheet}
 use Rattle.automaton.specs.Rows.{automaton_at, Describes}
 use Rattle.cuts.specs.declared.Ends.{Ends}
-use Rattle.texts.specs.declared.Wrote.{Wrote}
-use Rattle.texts.specs.declared.Wrote.TheVariants.{Count, Full}
+use Rattle.texts.specs.Overlay.{Wrote}
+use Rattle.std.specs.Prelude.{Some, None}
 use Rattle.lens.specs.Emitting.{LensNode}
 use Rattle.lens.specs.Parsed.{Parsed}
 use Rattle.books.specs.declared.Place.{Place}
-use Rattle.books.specs.declared.Old.{Old}
-use Rattle.books.specs.declared.Old.TheVariants.{At, Nothing}
+use Rattle.books.specs.Old.{Old}
 use Rattle.books.specs.Looking.{part_at, trail_of, old_text, OldParsed, OldFits}
 use Rattle.steps.specs.declared.Spot.{Spot}
 use Rattle.steps.specs.declared.Cut.{Cut}
@@ -35,7 +34,7 @@ pub record PlaceInside (p : Place) : Type 0 where
 
 -- If there is an old text, it stands at such a place.
 pub record OldInside (old : Old) : Type 0 where
-  pub place_inside : (p : Place) → old ≡ At p → PlaceInside p
+  pub place_inside : (p : Place) → old ≡ Some p → PlaceInside p
 
 -- ---- Joins
 
@@ -65,11 +64,11 @@ pub record Refitted (prepared : List ℕ) (node : ℕ) (new : Text) (before afte
 
 -- the arm at a node creates,
 abbrev pub created_at : ℕ → ℕ → Choice
-created_at node base = record { arm = record { node = node; base = base }; old = Nothing }
+created_at node base = record { arm = record { node = node; base = base }; old = None }
 
 -- or puts onto the old text at a place
 abbrev pub put_at : ℕ → ℕ → Place → Choice
-put_at node base p = record { arm = record { node = node; base = base }; old = At p }
+put_at node base p = record { arm = record { node = node; base = base }; old = Some p }
 
 -- With the text that is kept, or none, the arm writes what the union does with the old text, or none, whatever the book; the sheet is parsed at it.
 pub record ArmIs (bytes : Text) (node : ℕ) (l m : Lens) (old kept : Option Text) (new : Text) (path : List ℕ) (r : Spot) : Type 0 where
@@ -115,25 +114,25 @@ pub record EndsAre (prepared : List ℕ) (child : ℕ) (side : Side) (base : ℕ
 
 -- where the positions of an old text's node begin; at no place, if there is none
 abbrev pub old_base : Old → ℕ
-old_base (At p) = p.base
-old_base Nothing = 0
+old_base (Some p) = p.base
+old_base None = 0
 
 -- the next part of the old text at a place, up to its path's first loop, and the rest
 abbrev pub next_at : Place → Ends → Text → Next
 next_at p ends deck =
     let i = first_loop (holds ends.last) (holds ends.first) (part_at (trail_of deck) p) in
     record {
-      part = At (record { start = p.start; len = i; base = p.base });
-      rest = At (record { start = p.start + i; len = p.len - i; base = p.base });
+      part = Some (record { start = p.start; len = i; base = p.base });
+      rest = Some (record { start = p.start + i; len = p.len - i; base = p.base });
     }
 
 abbrev pub none_next : Next
-none_next = record { part = Nothing; rest = Nothing }
+none_next = record { part = None; rest = None }
 
 -- the next part of an old text; none where no text is left
 abbrev pub next_of : Old → Ends → Text → Next
-next_of (At p) ends deck = cond (eqb p.len 0) none_next (next_at p ends deck)
-next_of Nothing ends deck = none_next
+next_of (Some p) ends deck = cond (eqb p.len 0) none_next (next_at p ends deck)
+next_of None ends deck = none_next
 
 -- the parts of an old text, by the definitions
 abbrev pub old_parts : Lens → Text → Old → List Text
@@ -163,9 +162,9 @@ pub record CountsParts (path : List ℕ) (ends : Ends) (r : ℕ) : Type 0 where
 
 -- what was written behind n bytes, with them
 abbrev pub count_behind : ℕ → Wrote → Wrote
-count_behind n (Count m) = Count (n + m)
-count_behind n Full = Full
+count_behind n (Some m) = Some (n + m)
+count_behind n None = None
 
 -- The sum is a number of 64 bits.
 pub record Fits64 (n : ℕ) (more : Wrote) : Type 0 where
-  pub fits : (m : ℕ) → more ≡ Count m → n + m < 2 ^ 64
+  pub fits : (m : ℕ) → more ≡ Some m → n + m < 2 ^ 64

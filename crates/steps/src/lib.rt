@@ -5,14 +5,13 @@
 ghost use Rattle.std.specs.Prelude.{◌≡◌, ◌+◌, ◌*◌, ◌≤◌, length};
 ghost use Rattle.automaton.specs.declared.Side.TheVariants.{Source, Sheet};
 ghost use Rattle.lens.specs.Emitting.{Prepared};
-ghost use Rattle.steps.specs.Steps.{PlaceInside, OldInside, cut_sheet, halves_of, Refitted, created_at, put_at, ChosenNew, Chosen, EndsAre, old_base, next_of, CountsParts, Fits64, count_behind};
+ghost use Rattle.steps.specs.Steps.{PlaceInside, OldInside, cut_sheet, halves_of, Refitted, created_at, put_at, ChosenNew, Chosen, EndsAre, old_base, next_of, CountsParts};
 
 use automaton::{Side, automaton_of};
-use books::{Book, Old, Place};
+use books::{Book, Place};
 use cuts::{Ends, border, first_loop, goes_left};
 use language::belongs;
 use paths::find_path;
-use texts::Wrote;
 
 // A node, and where its positions begin on the sheet side.
 #[derive(Clone, Copy)]
@@ -40,14 +39,14 @@ pub struct Halves {
 #[derive(Clone, Copy)]
 pub struct Choice {
     pub arm: Spot,
-    pub old: Old,
+    pub old: Option<Place>,
 }
 
 // The old part that is next, and what is left behind it.
 #[derive(Clone, Copy)]
 pub struct Next {
-    pub part: Old,
-    pub rest: Old,
+    pub part: Option<Place>,
+    pub rest: Option<Place>,
 }
 
 // Where a sheet is cut between two nodes.
@@ -57,16 +56,13 @@ pub fn cut_sheet(prepared: &[u64], left: usize, right: usize, base: usize, path:
 {
     let a = automaton_of(prepared, left, Side::Sheet);
     let mid = base + a.count;
-    let at = border(path, mid);
-    let near = Spot { node: left, base };
-    let far = Spot {
-        node: right,
-        base: mid,
-    };
     Cut {
-        at,
-        left: near,
-        right: far,
+        at: border(path, mid),
+        left: Spot { node: left, base },
+        right: Spot {
+            node: right,
+            base: mid,
+        },
     }
 }
 
@@ -77,31 +73,22 @@ pub fn halves_of(prepared: &[u64], left: usize, place: Place, deck: &[u8]) -> Ha
     ensures { result ≡ halves_of prepared.now left place deck.now }
 {
     let a = automaton_of(prepared, left, Side::Source);
-    let start = place.start;
-    let len = place.len;
-    let base = place.base;
+    let Place { start, len, base } = place;
     let mid = base + a.count;
     let from = Book::PATH + start;
-    let to = from + len;
-    let i = border(&deck[from..to], mid);
-    let first = Place {
-        start,
-        len: i,
-        base,
-    };
-    let second = Place {
-        start: start + i,
-        len: len - i,
-        base: mid,
-    };
-    Halves { first, second }
-}
-
-// Finding the path of a text of at most 4,096 bytes needs no room lent for the sets that it keeps.
-fn no_marks() -> [u64; 1]
-    ensures { 1 ≡ length result }
-{
-    [0u64; 1]
+    let i = border(&deck[from..from + len], mid);
+    Halves {
+        first: Place {
+            start,
+            len: i,
+            base,
+        },
+        second: Place {
+            start: start + i,
+            len: len - i,
+            base: mid,
+        },
+    }
 }
 
 // Whether a sheet fits a node. If so, its path is that of the node alone; if not, it stays as it was.
@@ -114,7 +101,8 @@ fn refit(prepared: &[u64], node: usize, new: &[u8], path: &mut [u8]) -> bool
     if !belongs(prepared, a, new) {
         return false;
     }
-    let mut marks = no_marks();
+    // For a text of at most 4,096 bytes no room is lent for the sets that finding its path keeps.
+    let mut marks = [0];
     find_path(prepared, a, new, &mut marks, path)
 }
 
@@ -124,7 +112,7 @@ fn created(node: usize, base: usize) -> Choice
 {
     Choice {
         arm: Spot { node, base },
-        old: Old::Nothing,
+        old: None,
     }
 }
 
@@ -134,7 +122,7 @@ fn put_onto(node: usize, base: usize, place: Place) -> Choice
 {
     Choice {
         arm: Spot { node, base },
-        old: Old::At(place),
+        old: Some(place),
     }
 }
 
@@ -175,21 +163,17 @@ pub fn choose(
     let mid = base + a.count;
     let fits_left = goes_left(path, mid, a.nullable);
     let b = automaton_of(prepared, left, Side::Source);
-    let start = place.start;
-    let len = place.len;
     let border = place.base + b.count;
-    let from = Book::PATH + start;
-    let to = from + len;
-    if goes_left(&deck[from..to], border, b.nullable) {
+    let from = Book::PATH + place.start;
+    if goes_left(&deck[from..from + place.len], border, b.nullable) {
         if fits_left {
             return put_onto(left, base, place);
         }
         return created(right, mid);
     }
     let own = Place {
-        start,
-        len,
         base: border,
+        ..place
     };
     if !fits_left {
         return put_onto(right, mid, own);
@@ -210,40 +194,35 @@ pub fn ends_of(prepared: &[u64], child: usize, side: Side, base: usize) -> Ends
 }
 
 // The positions of an old text's node begin there; at no place, if there is none.
-pub fn old_base(old: Old) -> usize
+pub fn old_base(old: Option<Place>) -> usize
     ensures { result ≡ old_base old }
 {
     match old {
-        Old::At(place) => place.base,
-        Old::Nothing => 0,
+        Some(place) => place.base,
+        None => 0,
     }
 }
 
 // The next part of an old text, and the rest of it; none where no text is left.
-pub fn next_old(old: Old, ends: Ends, deck: &[u8]) -> Next
+pub fn next_old(old: Option<Place>, ends: Ends, deck: &[u8]) -> Next
     requires { OldInside old × (8192 ≤ length deck.now) }
     ensures { result ≡ next_of old ends deck.now }
 {
-    let Old::At(place) = old else {
+    let Some(place) = old else {
         return Next {
-            part: Old::Nothing,
-            rest: Old::Nothing,
+            part: None,
+            rest: None,
         };
     };
-    let start = place.start;
-    let len = place.len;
-    let base = place.base;
+    let Place { start, len, base } = place;
     if len == 0 {
         return Next {
-            part: Old::Nothing,
-            rest: Old::Nothing,
+            part: None,
+            rest: None,
         };
     }
     let from = Book::PATH + start;
-    let to = from + len;
-    let last = ends.last;
-    let first = ends.first;
-    let i = first_loop(&deck[from..to], last, first);
+    let i = first_loop(&deck[from..from + len], ends.last, ends.first);
     let part = Place {
         start,
         len: i,
@@ -255,19 +234,8 @@ pub fn next_old(old: Old, ends: Ends, deck: &[u8]) -> Next
         base,
     };
     Next {
-        part: Old::At(part),
-        rest: Old::At(rest),
-    }
-}
-
-// What was written behind n bytes, with them.
-pub fn behind(n: usize, more: Wrote) -> Wrote
-    requires { Fits64 n more }
-    ensures { result ≡ count_behind n more }
-{
-    match more {
-        Wrote::Count(m) => Wrote::Count(n + m),
-        Wrote::Full => Wrote::Full,
+        part: Some(part),
+        rest: Some(rest),
     }
 }
 
@@ -275,12 +243,10 @@ pub fn behind(n: usize, more: Wrote) -> Wrote
 pub fn count_parts(path: &[u8], ends: Ends) -> usize
     ensures { CountsParts path.now ends result }
 {
-    let last = ends.last;
-    let first = ends.first;
     let mut o = 0;
     let mut n = 0;
     while o < path.len() {
-        o += first_loop(&path[o..], last, first);
+        o += first_loop(&path[o..], ends.last, ends.first);
         n += 1;
     }
     n

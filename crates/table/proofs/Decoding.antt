@@ -4,7 +4,6 @@ use mathlib.Core.Bool.{Bool, true, false, ◌&&◌, true≢false}
 use mathlib.Core.Logic.{◌⊎◌, inl, inr}
 use mathlib.Core.Option.{Option, none, some, some-injective, none-ne-some}
 use Prim.Native.Nat.{ℕ, ◌+◌, ◌*◌, ◌<◌}
-use native.Mathlib.Nat.{add-zero}
 use native.Mathlib.Omega.{arith}
 use lib.Dec.{leb, ltb}
 use lib.ListN.{length, take}
@@ -16,7 +15,11 @@ use Rattle.semantics.specs.Table.{Node, at, two, node_at, node_count, sizes_wron
 use Rattle.laws.specs.Basics.{bool_cases, and_both}
 use Rattle.table.specs.declared.Kind as K
 use Rattle.table.specs.Prepared.{OnePattern, TwoPatterns, OneLens, TwoLenses, ConstParts, RunsPart, Shows}
-use Rattle.table.specs.Rules.{decoded}
+use Rattle.table.specs.declared.operands.Operands.{Operands}
+use Rattle.std.specs.Prelude.{Some, None, IsSome}
+use Rattle.table.specs.declared.tags.Tag.{Tag}
+use Rattle.table.specs.Rules.{FoundTag, Named, OperandsRead, decoded, named}
+use borrow.Author.Rules.{rules}
 use Rattle.laws.specs.RightSizes.{right_of, pool_is}
 use Rattle.table.proofs.Trees.{tree_is, lower_tree, no_tree}
 use Rattle.table.proofs.Runs.{runs_at, range_runs, pool_part}
@@ -258,19 +261,23 @@ decoded_node bytes k s h w =
       shows = shows_row bytes k κ.0 n.a n.b n.c s h refl refl w (made ∙ kind_tree (pool bytes) (take k (trees bytes)) n κ.0 κ.1);
     }
 
--- the operand record's first byte
-pub first_operand : (bytes : Text) (k : ℕ) → at bytes (3 + node_count bytes + 3 * k + 0) ≡ (node_at bytes k).a
-unfolding node_at
-first_operand bytes k = rw (add-zero (3 + node_count bytes + 3 * k))
-
 -- what the bytes of a node that keeps the rules show
 pub shown :
-    (bytes : Text) (k : ℕ) (d : Decoded bytes k) (a b c n : ℕ) (κ : K.Kind)
-    → a ≡ at bytes (3 + node_count bytes + 3 * k + 0)
-    → b ≡ at bytes (3 + node_count bytes + 3 * k + 1)
-    → c ≡ at bytes (3 + node_count bytes + 3 * k + 2)
+    {bytes : Text} {k : ℕ} (d : Decoded bytes k) {o : Operands} {n : ℕ} {κ : Kind} {r : K.Kind}
+    → kind_of (node_at bytes k).kind ≡ some κ
+    → OperandsRead bytes k o
     → n ≡ node_count bytes
-    → κ ≡ decoded d.kind_of_node a b c (3 + n + 3 * k) (3 + 4 * n)
-    → Shows bytes k κ
-unfolding node_at
-shown bytes k d a b c n κ p q r m e = rw (e, p, q, r, m, first_operand bytes k) d.shows
+    → r ≡ decoded κ o.a o.b o.c (3 + n + 3 * k) (3 + 4 * n)
+    → Shows bytes k r
+shown d h p m e =
+    let same = some-injective _ _ (sym d.byte_is ∙ h) in
+    rw (e, p.a_is, p.b_is, p.c_is, m) (rw same at d.shows)
+
+-- a node that keeps the rules has a kind, so a tag is found, which names it
+pub has_kind : {bytes : Text} {k : ℕ} (o : FoundTag) → Decoded bytes k → Named (kind_of (node_at bytes k).kind) o → IsSome o
+has_kind None d n = absurd (none-ne-some _ (sym n ∙ d.byte_is))
+has_kind (Some t) d n = (search rules)
+
+-- what a tag that is found names
+pub tag_names : {κ : Option Kind} {t : Tag} (o : FoundTag) → o ≡ Some t → Named κ o → κ ≡ some (named t)
+tag_names {κ} o e n = (rw e at n)

@@ -2,7 +2,7 @@
 use mathlib.Core.Path.{◌≡◌, refl, sym, ap, ◌∙◌}
 use mathlib.Core.Bool.{Bool, true, false, ◌||◌}
 use mathlib.Core.List.{List}
-use mathlib.Core.Option.{some-injective}
+use mathlib.Core.Logic.{◌⊎◌, inl, inr}
 use Prim.Native.Nat.{ℕ, ◌+◌, ◌*◌, ◌≤◌, ◌<◌}
 use native.Mathlib.Nat.{add-zero}
 use native.Mathlib.Omega.{arith}
@@ -14,15 +14,13 @@ use borrow.Author.Tests.{ltb-false}
 use Rattle.semantics.specs.Text.{Text}
 use Rattle.semantics.specs.Pattern.{Pattern}
 use Rattle.semantics.specs.Lens.{Lens, Side, source, sheet, language, const_language}
-use Rattle.semantics.specs.Table.{pool_length, sizes_wrong, pool, Tree, Trees, pattern, lens, broken, tree_at, trees, tree_size, pattern_size, lens_size, tree_positions, positions, holds_match, nested, nested_match, over_limit, node_at, kind_of}
-use Rattle.semantics.specs.Table as S
+use Rattle.semantics.specs.Table.{pool_length, sizes_wrong, pool, Tree, Trees, pattern, lens, broken, tree_at, trees, tree_size, pattern_size, lens_size, tree_positions, positions, holds_match, nested, nested_match, over_limit}
 use Rattle.laws.specs.Basics.{or_neither}
 use Rattle.table.specs.declared.Kind.{Kind}
 use Rattle.table.specs.declared.Kind.TheVariants.{Word, OneOf, PatternJoin, PatternUnion, PatternRepeat, Copy, Const, Key, LensJoin, LensUnion, LensRepeat, Match}
 use Rattle.table.specs.declared.Node.{Node}
 use Rattle.table.specs.Prepared.{NodeSized, OnePattern, TwoPatterns, OneLens, TwoLenses, Shows, match_flag}
-use Rattle.table.specs.Rules.{SizedBelow, Small, Numbers, OverOne, OverTwo, OverConst, OverMatch, NodeRead, Stored, decoded, tree_holds, word_of, flag}
-use Rattle.table.proofs.Decoding.{Decoded}
+use Rattle.table.specs.Rules.{SizedBelow, Small, Smalls, nests, Numbers, OverOne, OverTwo, OverConst, OverMatch, NodeRead, Stored, tree_holds, word_of, flag}
 use Rattle.laws.specs.RightSizes.{right_of, pool_is}
 
 -- ---- The words of a sized node
@@ -119,13 +117,6 @@ unfolding flag
 flag_test true = refl
 flag_test false = refl
 
-flags_test : (a b : Bool) → ltb 0 (flag a + flag b) ≡ a || b
-unfolding flag
-flags_test true true = refl
-flags_test true false = refl
-flags_test false true = refl
-flags_test false false = refl
-
 -- a word has its length
 word_positions : (bytes : Text) (start len : ℕ) → sizes_wrong bytes ≡ false → start + len ≤ pool_length bytes → len ≡ length (take len (drop start (pool bytes)))
 word_positions bytes start len e h = sym (length-take-le len (drop start (pool bytes)) (omega (arith, length-drop start (pool bytes), pool_is bytes e)))
@@ -178,7 +169,7 @@ module _ (bytes : Text) (k : ℕ) (p : List ℕ) (ready : SizedBelow bytes k p) 
         size_is = n.size_is ∙ (rw (w.size_is, v.size_is) (sym o.size_is));
         source_is = n.source_is ∙ (rw (w.source_is, v.source_is) (sym (o.side_is source)));
         sheet_is = n.sheet_is ∙ (rw (w.sheet_is, v.sheet_is) (sym (o.side_is sheet)));
-        match_is = n.match_is ∙ (rw (w.match_is, v.match_is) (flags_test (tree_holds (tree_at (trees bytes) a)) (tree_holds (tree_at (trees bytes) b)) ∙ sym o.holds_is));
+        match_is = n.match_is ∙ (rw (w.match_is, v.match_is, flag_test (tree_holds (tree_at (trees bytes) a)), flag_test (tree_holds (tree_at (trees bytes) b))) (sym o.holds_is));
         shows = from_shows κ n.kind_is s;
       }
 
@@ -221,27 +212,41 @@ module _ (bytes : Text) (k : ℕ) (p : List ℕ) (ready : SizedBelow bytes k p) 
       let w = rw s.at_child at (child_words bytes k p ready a s.lower) in
       at_once (Match a) _ _ _ _ _ s s.tree_is (rw w.size_is) w.source_is w.sheet_is refl n
 
--- ---- A match
+-- ---- A match in a match
 
--- a node whose byte is 22 is a match
-pub match_child : (bytes : Text) (k : ℕ) (d : Decoded bytes k) → (node_at bytes k).kind ≡ 22 → Shows bytes k (Match (node_at bytes k).a)
-unfolding decoded kind_of
-match_child bytes k d e =
-    let n = node_at bytes k in
-    let is_match : d.kind_of_node ≡ S.Match = some-injective _ _ (sym d.byte_is ∙ ap kind_of e) in
-    rw is_match at d.shows
-
--- its child is lower, and says whether it is nested
-module _ (bytes : Text) (k : ℕ) (p : List ℕ) (ready : SizedBelow bytes k p) (a : ℕ) (s : Shows bytes k (Match a)) where
-  pub match_room : Small p a
-  unfolding Shows
-  match_room = child_small bytes k p ready a s.lower
-
-  pub nested_is : ltb 0 (word_of p a 3) ≡ nested (tree_at (trees bytes) k)
-  unfolding Shows nested nested_match tree_holds
-  nested_is =
+module _ (bytes : Text) (k : ℕ) (p : List ℕ) (ready : SizedBelow bytes k p) where
+  pub nests_is : (κ : Kind) → Shows bytes k κ → nests p κ ≡ nested (tree_at (trees bytes) k)
+  unfolding Shows nests nested nested_match tree_holds
+  nests_is (Word start len) s = rw s.tree_is
+  nests_is (OneOf at runs) s = rw s.tree_is
+  nests_is (PatternJoin a b) s = rw s.tree_is
+  nests_is (PatternUnion a b) s = rw s.tree_is
+  nests_is (PatternRepeat a) s = rw s.tree_is
+  nests_is (Copy a) s = rw s.tree_is
+  nests_is (Const a b c) s = rw s.tree_is
+  nests_is (Key a) s = rw s.tree_is
+  nests_is (LensJoin a b) s = rw s.tree_is
+  nests_is (LensUnion a b) s = rw s.tree_is
+  nests_is (LensRepeat a) s = rw s.tree_is
+  nests_is (Match a) s =
       let w = rw s.at_child at (child_words bytes k p ready a s.lower) in
       rw (s.tree_is, w.match_is) (flag_test (holds_match s.child))
+
+-- no other kind does
+pub no_nest : (p : List ℕ) (κ : Kind) → ((a : ℕ) → κ ≡ Match a → ⊥) → false ≡ nests p κ
+unfolding nests
+no_nest p (Word start len) h = refl
+no_nest p (OneOf at runs) h = refl
+no_nest p (PatternJoin a b) h = refl
+no_nest p (PatternUnion a b) h = refl
+no_nest p (PatternRepeat a) h = refl
+no_nest p (Copy a) h = refl
+no_nest p (Const a b c) h = refl
+no_nest p (Key a) h = refl
+no_nest p (LensJoin a b) h = refl
+no_nest p (LensUnion a b) h = refl
+no_nest p (LensRepeat a) h = refl
+no_nest p (Match a) h = absurd (h a refl)
 
 -- ---- The four words that are stored
 
@@ -281,20 +286,6 @@ stored p k r h =
 
 -- ---- The children that a kind's sizes are read from
 
-abbrev pub Smalls : List ℕ → Kind → Type 0
-Smalls p (Word start len) = Unit {0}
-Smalls p (OneOf at runs) = Unit {0}
-Smalls p (PatternJoin a b) = Small p a × Small p b
-Smalls p (PatternUnion a b) = Small p a × Small p b
-Smalls p (PatternRepeat a) = Small p a
-Smalls p (Copy a) = Small p a
-Smalls p (Const a b c) = Small p a × Small p b
-Smalls p (Key a) = Small p a
-Smalls p (LensJoin a b) = Small p a × Small p b
-Smalls p (LensUnion a b) = Small p a × Small p b
-Smalls p (LensRepeat a) = Small p a
-Smalls p (Match a) = Small p a
-
 module _ (bytes : Text) (k : ℕ) (p : List ℕ) (ready : SizedBelow bytes k p) where
   pub smalls : (κ : Kind) → Shows bytes k κ → Smalls p κ
   unfolding Shows
@@ -310,3 +301,36 @@ module _ (bytes : Text) (k : ℕ) (p : List ℕ) (ready : SizedBelow bytes k p) 
   smalls (LensUnion a b) s = (child_small bytes k p ready a s.left_lower, child_small bytes k p ready b s.right_lower)
   smalls (LensRepeat a) s = child_small bytes k p ready a s.lower
   smalls (Match a) s = child_small bytes k p ready a s.lower
+
+-- ---- Kinds that are measured alike
+
+abbrev pub WithTwo : Kind → ℕ → ℕ → Type 0
+WithTwo κ a b = (κ ≡ PatternJoin a b) ⊎ (κ ≡ PatternUnion a b) ⊎ (κ ≡ LensJoin a b) ⊎ (κ ≡ LensUnion a b)
+
+abbrev pub WithOne : Kind → ℕ → Type 0
+WithOne κ a = (κ ≡ PatternRepeat a) ⊎ (κ ≡ LensRepeat a) ⊎ (κ ≡ Copy a) ⊎ (κ ≡ Key a)
+
+pub two_smalls : {p : List ℕ} {κ : Kind} {a b : ℕ} → WithTwo κ a b → Smalls p κ → Small p a × Small p b
+two_smalls (inl e) s = rw e at s
+two_smalls (inr (inl e)) s = rw e at s
+two_smalls (inr (inr (inl e))) s = rw e at s
+two_smalls (inr (inr (inr e))) s = rw e at s
+
+pub one_small : {p : List ℕ} {κ : Kind} {a : ℕ} → WithOne κ a → Smalls p κ → Small p a
+one_small (inl e) s = rw e at s
+one_small (inr (inl e)) s = rw e at s
+one_small (inr (inr (inl e))) s = rw e at s
+one_small (inr (inr (inr e))) s = rw e at s
+
+module _ (bytes : Text) (k : ℕ) (p : List ℕ) (ready : SizedBelow bytes k p) (r : Node) where
+  pub two_worked : {κ : Kind} {a b : ℕ} → WithTwo κ a b → Shows bytes k κ → OverTwo p a b κ r → NodeRead bytes k r
+  two_worked {a = a} {b} (inl e) s n = worked bytes k p ready r (PatternJoin a b) (rw e at s) (rw e at n)
+  two_worked {a = a} {b} (inr (inl e)) s n = worked bytes k p ready r (PatternUnion a b) (rw e at s) (rw e at n)
+  two_worked {a = a} {b} (inr (inr (inl e))) s n = worked bytes k p ready r (LensJoin a b) (rw e at s) (rw e at n)
+  two_worked {a = a} {b} (inr (inr (inr e))) s n = worked bytes k p ready r (LensUnion a b) (rw e at s) (rw e at n)
+
+  pub one_worked : {κ : Kind} {a : ℕ} → WithOne κ a → Shows bytes k κ → OverOne p a κ r → NodeRead bytes k r
+  one_worked {a = a} (inl e) s n = worked bytes k p ready r (PatternRepeat a) (rw e at s) (rw e at n)
+  one_worked {a = a} (inr (inl e)) s n = worked bytes k p ready r (LensRepeat a) (rw e at s) (rw e at n)
+  one_worked {a = a} (inr (inr (inl e))) s n = worked bytes k p ready r (Copy a) (rw e at s) (rw e at n)
+  one_worked {a = a} (inr (inr (inr e))) s n = worked bytes k p ready r (Key a) (rw e at s) (rw e at n)

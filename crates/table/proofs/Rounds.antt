@@ -12,10 +12,11 @@ use Rattle.semantics.specs.Text.{Text, or_else, apply}
 use Rattle.semantics.specs.Lens.{Lens}
 use Rattle.semantics.specs.Table.{node_at, node_count, pool_length, nodes, trees, broken, tree_at, lens_at, sizes_wrong, is_broken, nested, over_limit, unknown_kind, Line, line, first_round, root_of, root_line, first_that_holds}
 use Rattle.laws.specs.NodeTrees.{node_length, node_is, tree_length}
-use Rattle.table.specs.declared.TableAnswer.TheVariants.{Ready, Refused}
+use Rattle.std.specs.Prelude.{Ok, Err}
+use Rattle.table.specs.declared.Refusal.{Refusal}
 use Rattle.table.specs.declared.Sort.TheVariants.{Lenses}
-use Rattle.table.specs.Prepared.{Sized, table_lines, table_answer, answer_for}
-use Rattle.table.specs.Rules.{ReadLeaves, Turned, Whole, node_fault, sort_at, there}
+use Rattle.table.specs.Prepared.{refusal, Sized, table_lines, table_answer, answer_for}
+use Rattle.table.specs.Rules.{Answered, ReadLeaves, Turned, Whole, node_fault, sort_at, there}
 
 -- the first line that holds, from node k's on
 pub from : Text → ℕ → Option Line
@@ -27,35 +28,35 @@ pub begins : (bytes : Text) → sizes_wrong bytes ≡ false → first_that_holds
 unfolding table_lines first_that_holds from line
 begins bytes e = rw e
 
-pub wrong_sizes : (bytes : Text) → sizes_wrong bytes ≡ true → table_answer bytes ≡ Refused 1 0
+pub wrong_sizes : (bytes : Text) → sizes_wrong bytes ≡ true → table_answer bytes ≡ Err (refusal 1 0)
 unfolding table_answer table_lines first_that_holds answer_for line
 wrong_sizes bytes e = rw e
 
 -- ---- A node's four lines
 
--- of four lines in a row, the number of the first that holds
+-- of four lines in a row, the first that holds
 module _ (bytes : Text) (k : ℕ) (rest : List Line) where
   four : Bool → Bool → Bool → Bool → Option Line
   four u b n o = first_that_holds (line 2 k u ∷ line 3 k b ∷ line 4 k n ∷ line 5 k o ∷ rest)
 
-  number : Bool → Bool → Bool → Bool → ℕ
-  number u b n o = cond u 2 (cond b 3 (cond n 4 (cond o 5 0)))
+  fault : Bool → Bool → Bool → Bool → Answered
+  fault u b n o = cond u (Err (refusal 2 k)) (cond b (Err (refusal 3 k)) (cond n (Err (refusal 4 k)) (cond o (Err (refusal 5 k)) (Ok tt))))
 
-  four_none : (u b n o : Bool) → number u b n o ≡ 0 → four u b n o ≡ first_that_holds rest
-  unfolding four number first_that_holds line
-  four_none true b n o e = absurd (omega arith)
-  four_none false true n o e = absurd (omega arith)
-  four_none false false true o e = absurd (omega arith)
-  four_none false false false true e = absurd (omega arith)
+  four_none : (u b n o : Bool) → fault u b n o ≡ Ok tt → four u b n o ≡ first_that_holds rest
+  unfolding four fault first_that_holds line
+  four_none true b n o e = cc
+  four_none false true n o e = cc
+  four_none false false true o e = cc
+  four_none false false false true e = cc
   four_none false false false false e = refl
 
-  four_some : (u b n o : Bool) → (number u b n o ≡ 0 → ⊥) → answer_for bytes (four u b n o) ≡ Refused (number u b n o) k
-  unfolding four number first_that_holds line answer_for
-  four_some true b n o h = refl
-  four_some false true n o h = refl
-  four_some false false true o h = refl
-  four_some false false false true h = refl
-  four_some false false false false h = absurd (h refl)
+  four_some : (u b n o : Bool) (d : Refusal) → fault u b n o ≡ Err d → answer_for bytes (four u b n o) ≡ Err d
+  unfolding four fault first_that_holds line answer_for
+  four_some true b n o d h = cc
+  four_some false true n o d h = cc
+  four_some false false true o d h = cc
+  four_some false false false true d h = cc
+  four_some false false false false d h = cc
 
 module _ (bytes : Text) (k : ℕ) (inside : k < node_count bytes) where
   later : List Line
@@ -71,13 +72,13 @@ module _ (bytes : Text) (k : ℕ) (inside : k < node_count bytes) where
         node_is bytes k inside,
       )
 
-  pub passes : node_fault bytes k ≡ 0 → from bytes k ≡ from bytes (suc k)
-  unfolding node_fault from number later
+  pub passes : node_fault bytes k ≡ Ok tt → from bytes k ≡ from bytes (suc k)
+  unfolding node_fault from fault later
   passes e = opened ∙ four_none bytes k later _ _ _ _ e
 
-  pub refuses : (node_fault bytes k ≡ 0 → ⊥) → answer_for bytes (from bytes k) ≡ Refused (node_fault bytes k) k
-  unfolding node_fault number
-  refuses h = ap (answer_for bytes) opened ∙ four_some bytes k later _ _ _ _ h
+  pub refuses : (d : Refusal) → node_fault bytes k ≡ Err d → answer_for bytes (from bytes k) ≡ Err d
+  unfolding node_fault fault
+  refuses d h = ap (answer_for bytes) opened ∙ four_some bytes k later _ _ _ _ d h
 
 -- ---- The root
 
@@ -96,7 +97,7 @@ root_holds : (bytes : Text) → (root_line bytes).holds ≡ not (sort_at Lenses 
 unfolding root_line line root_of sort_at
 root_holds bytes = rw (take_all (node_count bytes) (trees bytes) (omega (arith, tree_length bytes))) (root_test (lens_at (trees bytes) (node_count bytes - 1)))
 
-pub no_root : (bytes : Text) → sort_at Lenses (take (node_count bytes) (trees bytes)) (node_count bytes - 1) ≡ false → answer_for bytes (from bytes (node_count bytes)) ≡ Refused 3 (node_count bytes - 1)
+pub no_root : (bytes : Text) → sort_at Lenses (take (node_count bytes) (trees bytes)) (node_count bytes - 1) ≡ false → answer_for bytes (from bytes (node_count bytes)) ≡ Err (refusal 3 (node_count bytes - 1))
 unfolding first_that_holds answer_for root_line line
 no_root bytes e = rw (ends bytes, root_holds bytes, e)
 
@@ -106,9 +107,9 @@ root_lens bytes e = rw (ends bytes, root_holds bytes, e)
 
 -- ---- What reading leaves
 
-pub refused_leaves : (bytes : Text) (x y : ℕ) (p : List ℕ) → table_answer bytes ≡ Refused x y → ReadLeaves bytes (Refused x y) p
+pub refused_leaves : (bytes : Text) (d : Refusal) (p : List ℕ) → table_answer bytes ≡ Err d → ReadLeaves bytes (Err d) p
 unfolding table_answer answer_for
-refused_leaves bytes x y p e =
+refused_leaves bytes d p e =
     record {
       answer_is = sym e;
       sized = λ h. absurd (let f = rw h at e in let z : ◌≡◌ {A = ℕ} 0 1 = cc in omega arith);
@@ -135,11 +136,11 @@ passed_begins {bytes} e h =
     }
 
 pub passed_more :
-    {bytes : Text} {n k r : ℕ} {old new last : List ℕ}
+    {bytes : Text} {n k : ℕ} {r : Answered} {old new last : List ℕ}
     → Passed bytes n k old new
     → k < n
     → Turned bytes k r last
-    → r ≡ 0
+    → r ≡ Ok tt
     → length last ≡ length new
     → Passed bytes n (k + 1) old last
 passed_more {bytes} {n} {k} p h t z e =
@@ -153,16 +154,16 @@ passed_more {bytes} {n} {k} p h t z e =
 
 -- a turn that is refused
 pub passed_refused :
-    {bytes : Text} {n k r : ℕ} {old new last : List ℕ}
+    {bytes : Text} {n k : ℕ} {r : Answered} {d : Refusal} {old new last : List ℕ}
     → Passed bytes n k old new
     → k < n
     → Turned bytes k r last
-    → (r ≡ 0 → ⊥)
-    → ReadLeaves bytes (Refused r k) last
+    → r ≡ Err d
+    → ReadLeaves bytes (Err d) last
 unfolding table_answer
-passed_refused {bytes} {n} {k} {r} {last = last} p h t z =
-    refused_leaves bytes r k last
-    (ap (answer_for bytes) p.lines_are ∙ refuses bytes k (omega (arith, p.count_is)) (λ e. z (t.fault_is ∙ e)) ∙ ap (λ x. Refused x k) (sym t.fault_is))
+passed_refused {bytes} {n} {k} {r} {d} {last = last} p h t z =
+    refused_leaves bytes d last
+    (ap (answer_for bytes) p.lines_are ∙ refuses bytes k (omega (arith, p.count_is)) d (sym t.fault_is ∙ z))
 
 -- the root, once every node has passed
 module _ {bytes : Text} {n k : ℕ} {old new : List ℕ} (so_far : Passed bytes n k old new) (none_left : n ≤ k) where
@@ -172,13 +173,13 @@ module _ {bytes : Text} {n k : ℕ} {old new : List ℕ} (so_far : Passed bytes 
   pub passed_whole : Whole bytes n
   passed_whole = record { sizes_right = p.sized.sizes_right; inside = omega (arith, p.count_is); each = λ j l. (p.sized.each j l).whole }
 
-  pub passed_no_root : sort_at Lenses (take n (trees bytes)) (n - 1) ≡ false → ReadLeaves bytes (Refused 3 (n - 1)) new
+  pub passed_no_root : sort_at Lenses (take n (trees bytes)) (n - 1) ≡ false → ReadLeaves bytes (Err (refusal 3 (n - 1))) new
   unfolding table_answer
   passed_no_root e =
       let f = rw p.count_is at e in
-      refused_leaves bytes 3 (n - 1) new (ap (answer_for bytes) p.lines_are ∙ (rw p.count_is (no_root bytes f)))
+      refused_leaves bytes (refusal 3 (n - 1)) new (ap (answer_for bytes) p.lines_are ∙ (rw p.count_is (no_root bytes f)))
 
-  pub passed_ready : sort_at Lenses (take n (trees bytes)) (n - 1) ≡ true → ReadLeaves bytes (Ready (record { nodes = n; pool = pool_length bytes })) new
+  pub passed_ready : sort_at Lenses (take n (trees bytes)) (n - 1) ≡ true → ReadLeaves bytes (Ok (record { nodes = n; pool = pool_length bytes })) new
   unfolding table_answer answer_for
   passed_ready e =
       let f = rw p.count_is at e in

@@ -1,16 +1,18 @@
--- The runs that stand in a part of the table: the one of a range, those of a set, and the loop that asks each whether it is reversed.
-use mathlib.Core.Path.{◌≡◌, refl, sym, ap, ◌∙◌}
-use mathlib.Core.Bool.{true, false, not, ◌||◌}
-use mathlib.Core.List.{◌∷◌}
-use Prim.Native.Nat.{ℕ, suc, ◌+◌, ◌-◌, ◌*◌, ◌≤◌, ◌<◌}
+-- The runs that stand in a part of the table: the one of a range, and those of a set, each of which is asked whether it is reversed.
+use mathlib.Core.Path.{◌≡◌, refl, ap, ◌∙◌}
+use mathlib.Core.Bool.{Bool, not, ◌&&◌, ◌||◌}
+use mathlib.Core.List.{List, [], ◌∷◌}
+use Prim.Native.Nat.{ℕ, zero, suc, ◌+◌, ◌*◌, ◌≤◌, ◌<◌}
 use native.Mathlib.Omega.{arith}
-use lib.Dec.{ltb}
+use lib.Dec.{leb, ltb}
 use lib.ListN.{length, take, drop, get_or}
 use lib.Seq.{drop-cons, drop-drop}
-use borrow.Author.Tests.{lt-ltb, le-ltb, lt-leb, le-leb}
+use Rattle.std.specs.List.{list_all}
+use Rattle.std.specs.Simd.{first_chunks}
+use Rattle.std.proofs.lemmas.Bool.Decides.{nat_tests}
 use Rattle.semantics.specs.Text.{Text, some_passes}
 use Rattle.semantics.specs.Pattern.{Class, range}
-use Rattle.semantics.specs.Table.{at, two, node_count, pool, runs_of, reversed, set_part, set_keeps}
+use Rattle.semantics.specs.Table.{at, node_count, pool, runs_of, reversed}
 
 -- the runs from a place on
 unfoldable pub runs_at : Text → ℕ → ℕ → Class
@@ -47,78 +49,22 @@ pub pool_part : (bytes : Text) (start len : ℕ) → take len (drop start (pool 
 unfolding pool
 pool_part bytes start len = ap (take len) (drop-drop start (3 + 4 * node_count bytes) bytes)
 
--- ---- The loop that asks each run
+-- ---- The runs of a set, each a pair of bytes
 
--- Of the runs from a place on the first i are in order: those behind them decide.
-pub record Asked (bytes : Text) (place runs i : ℕ) : Type 0 where
-  pub inside : i ≤ runs
-  pub rest_decides : some_passes reversed (runs_at bytes place runs) ≡ some_passes reversed (runs_at bytes (place + 2 * i) (runs - i))
+-- whether a pair is no reversed run
+unfoldable pub in_order : List ℕ → Bool
+in_order run = leb (get_or run 0 0) (get_or run 1 0)
 
-module _ (bytes : Text) (place runs : ℕ) where
-  pub asked_begins : Asked bytes place runs 0
-  asked_begins =
-      let start : place + 2 * 0 ≡ place = omega arith in
-      let all_left : runs - 0 ≡ runs = omega arith in
-      record { inside = omega arith; rest_decides = rw (start, all_left) }
+one_more : (a b : ℕ) (s : Bool) → (leb a b && not s) ≡ not (ltb b a || s)
+one_more a b s = grind (arith, nat_tests)
 
-  -- the run that is asked next stands before the rest
-  rest_next :
-      (i : ℕ)
-      → i < runs
-      → place + 2 * runs ≤ length bytes
-      → Asked bytes place runs i
-      → some_passes reversed (runs_at bytes place runs)
-      ≡ ltb (at bytes (place + 2 * i + 1)) (at bytes (place + 2 * i)) || some_passes reversed (runs_at bytes (place + 2 * (i + 1)) (runs - (i + 1)))
-  unfolding some_passes reversed
-  rest_next i h l s =
-      let behind : place + 2 * i + 2 ≡ place + 2 * (i + 1) = omega arith in
-      s.rest_decides
-      ∙ ap (some_passes reversed) (runs_next bytes (place + 2 * i) (runs - (i + 1)) (runs - i) (omega arith) (omega arith))
-      ∙ ap (λ p. ltb (at bytes (place + 2 * i + 1)) (at bytes (place + 2 * i)) || some_passes reversed (runs_at bytes p (runs - (i + 1)))) behind
-
-  pub asked_more :
-      (i : ℕ)
-      → i < runs
-      → place + 2 * runs ≤ length bytes
-      → Asked bytes place runs i
-      → at bytes (place + 2 * i) ≤ at bytes (place + 2 * i + 1)
-      → Asked bytes place runs (i + 1)
-  asked_more i h l s o =
-      record {
-        inside = omega arith;
-        rest_decides = rest_next i h l s ∙ (rw (le-ltb (at bytes (place + 2 * i + 1)) (at bytes (place + 2 * i)) o));
-      }
-
-  -- a reversed run ends it
-  pub asked_reversed :
-      (i : ℕ)
-      → i < runs
-      → place + 2 * runs ≤ length bytes
-      → Asked bytes place runs i
-      → at bytes (place + 2 * i + 1) < at bytes (place + 2 * i)
-      → false ≡ not (some_passes reversed (runs_at bytes place runs))
-  asked_reversed i h l s o = rw (rest_next i h l s, lt-ltb (at bytes (place + 2 * i + 1)) (at bytes (place + 2 * i)) o)
-
-  pub asked_all : (i : ℕ) → runs ≤ i → Asked bytes place runs i → true ≡ not (some_passes reversed (runs_at bytes place runs))
-  unfolding some_passes runs_at runs_of
-  asked_all i h s =
-      let none_left : runs - i ≡ 0 = omega arith in
-      sym (ap not (s.rest_decides ∙ ap (λ n. some_passes reversed (runs_at bytes (place + 2 * i) n)) none_left))
-
--- ---- The rule of a set
-
-module _ (bytes : Text) (a b c : ℕ) (some-run : 1 ≤ c) (few : c ≤ 32) where
-  -- a part that leaves the pool keeps no rule
-  pub set_outside : length (pool bytes) < two a b + 2 * c → false ≡ set_keeps (pool bytes) a b c
-  unfolding set_keeps
-  set_outside h = rw (le-leb 1 c some-run, le-leb c 32 few, lt-leb (two a b + 2 * c) (length (pool bytes)) h)
-
-  -- within the pool its runs decide
-  pub set_decided :
-      two a b + 2 * c ≤ length (pool bytes)
-      → set_keeps (pool bytes) a b c ≡ not (some_passes reversed (runs_of (take (2 * c) (drop (3 + 4 * node_count bytes + two a b) bytes))))
-  unfolding set_keeps set_part
-  set_decided h =
-      rw
-      (le-leb 1 c some-run, le-leb c 32 few, le-leb (two a b + 2 * c) (length (pool bytes)) h)
-      (ap (λ t. not (some_passes reversed (runs_of t))) (pool_part bytes (two a b) (2 * c)))
+-- each pair is asked; a byte that is left over is none
+pub runs_asked : (n : ℕ) (xs : Text) → 2 * n ≤ length xs → length xs < 2 * n + 2 → list_all in_order (first_chunks 2 n xs) ≡ not (some_passes reversed (runs_of xs))
+unfolding in_order some_passes reversed runs_of
+runs_asked zero [] h l = refl
+runs_asked zero (a ∷ []) h l = refl
+runs_asked zero (a ∷ b ∷ xs) h l = absurd (omega arith)
+runs_asked (suc n) [] h l = absurd (omega arith)
+runs_asked (suc n) (a ∷ []) h l = absurd (omega arith)
+runs_asked (suc n) (a ∷ b ∷ xs) h l =
+    ap (λ r. leb a b && r) (runs_asked n xs (omega arith) (omega arith)) ∙ one_more a b (some_passes reversed (runs_of xs))

@@ -12,25 +12,27 @@ use borrow.Author.Tests.{ltb-true, ltb-false}
 use Rattle.semantics.specs.Text.{Text, or_else, apply, apply₂}
 use Rattle.semantics.specs.Pattern.{Pattern}
 use Rattle.semantics.specs.Lens.{Lens, const}
-use Rattle.semantics.specs.Table.{Node, at, node_at, node_count, pool, sizes_wrong, Kind, Word, Range, PatternJoin, PatternUnion, PatternRepeat, Set, Copy, Const, Key, LensJoin, LensUnion, LensRepeat, Match, kind_of, Tree, Trees, pattern, lens, broken, pattern_at, lens_at, word_at, provided, build, tree_at, tree_of, trees, is_broken, nested, over_limit, unknown_kind}
+use Rattle.semantics.specs.Table.{Node, node_at, node_count, pool, sizes_wrong, Kind, Word, Range, PatternJoin, PatternUnion, PatternRepeat, Set, Copy, Const, Key, LensJoin, LensUnion, LensRepeat, Match, kind_of, Tree, Trees, pattern, lens, pattern_at, lens_at, word_at, provided, build, tree_at, tree_of, trees, is_broken, nested, over_limit, unknown_kind}
+use Rattle.std.specs.Prelude.{Ok, Err}
 use Rattle.table.specs.declared.Node as N
-use Rattle.table.specs.Prepared.{NodeSized, Sized}
-use Rattle.table.specs.Rules.{NodeRead, Stored, Turned, there, sort_at, word_there, word_fits, range_ordered, one_child, two_children, const_parts, keeps_rules, node_fault, over_limits, flag}
+use Rattle.table.specs.declared.Refusal.{Refusal}
+use Rattle.table.specs.declared.operands.Operands.{Operands}
+use Rattle.table.specs.Prepared.{refusal, NodeSized, Sized}
+use Rattle.table.specs.Rules.{NodeRead, OperandsRead, Stored, Turned, there, sort_at, word_there, word_fits, range_ordered, one_child, two_children, const_parts, keeps_rules, node_fault, over_limits, flag}
 use Rattle.laws.specs.Basics.{bool_cases}
 use Rattle.laws.specs.RightSizes.{pool_is}
 use Rattle.table.proofs.Trees.{tree_is}
-use Rattle.table.proofs.Decoding.{first_operand}
 use Rattle.table.proofs.Measures.{flag_is}
 
 -- ---- Lines 2 and 3
 
-pub unknown_is : (n : Node) → unknown_kind n ≡ not (there (kind_of n.kind))
-unfolding unknown_kind there or_else apply
-unknown_is n = go (kind_of n.kind)
-  where
-    go : (o : Option Kind) → or_else true (apply (λ k. false) o) ≡ not (there o)
-    go none = refl
-    go (some κ) = refl
+pub unknown : (n : Node) → kind_of n.kind ≡ none → unknown_kind n ≡ true
+unfolding unknown_kind or_else apply
+unknown n e = rw e
+
+pub known : (n : Node) (κ : Kind) → kind_of n.kind ≡ some κ → unknown_kind n ≡ false
+unfolding unknown_kind or_else apply
+known n κ e = rw e
 
 -- a tree is whole where its rule is kept and its children are there
 leaf_row : (b : Bool) (r : Pattern) → not (is_broken (provided b (some (pattern r)))) ≡ b
@@ -67,7 +69,7 @@ const_row (some r) (some w) (some d) = refl
 row_kept :
     (bytes : Text) (ts : Trees) (κ : Kind) (a b c : ℕ)
     → sizes_wrong bytes ≡ false
-    → not (is_broken (build (pool bytes) ts κ a b c)) ≡ keeps_rules bytes ts (some κ) a b c
+    → not (is_broken (build (pool bytes) ts κ a b c)) ≡ keeps_rules bytes ts κ a b c
 unfolding build keeps_rules word_fits range_ordered one_child two_children const_parts sort_at word_there is_broken
 row_kept bytes ts Word a b c e = leaf_row _ _ ∙ (rw (pool_is bytes e))
 row_kept bytes ts Range a b c e = leaf_row _ _
@@ -83,35 +85,24 @@ row_kept bytes ts LensUnion a b c e = two_row _ _ (lens_at ts a) (lens_at ts b) 
 row_kept bytes ts LensRepeat a b c e = one_row _ _ (lens_at ts a) (λ l. refl)
 row_kept bytes ts Match a b c e = one_row _ _ (lens_at ts a) (λ l. refl)
 
-nothing_kept : (bytes : Text) (ts : Trees) (a b c : ℕ) → keeps_rules bytes ts none a b c ≡ not (is_broken broken)
-unfolding keeps_rules is_broken
-nothing_kept bytes ts a b c = refl
-
 kept_tree :
-    (bytes : Text) (ts : Trees) (n : Node)
+    (bytes : Text) (ts : Trees) (n : Node) (κ : Kind)
     → sizes_wrong bytes ≡ false
-    → keeps_rules bytes ts (kind_of n.kind) n.a n.b n.c ≡ not (is_broken (tree_of (pool bytes) ts n))
+    → kind_of n.kind ≡ some κ
+    → keeps_rules bytes ts κ n.a n.b n.c ≡ not (is_broken (tree_of (pool bytes) ts n))
 unfolding tree_of or_else apply
-kept_tree bytes ts n e = go (kind_of n.kind)
-  where
-    go :
-        (o : Option Kind)
-        → keeps_rules bytes ts o n.a n.b n.c ≡ not (is_broken (or_else broken (apply (λ κ. build (pool bytes) ts κ n.a n.b n.c) o)))
-    go none = nothing_kept bytes ts n.a n.b n.c
-    go (some κ) = sym (row_kept bytes ts κ n.a n.b n.c e)
+kept_tree bytes ts n κ e h = rw h (sym (row_kept bytes ts κ n.a n.b n.c e))
 
--- the rules are kept exactly where the tree is not broken
+-- the rules of a node's kind are kept exactly where its tree is not broken
 pub kept_is :
-    (bytes : Text) (k a b c : ℕ)
+    {bytes : Text} {k : ℕ} {o : Operands} {κ : Kind}
     → sizes_wrong bytes ≡ false
     → k < node_count bytes
-    → a ≡ at bytes (3 + node_count bytes + 3 * k + 0)
-    → b ≡ at bytes (3 + node_count bytes + 3 * k + 1)
-    → c ≡ at bytes (3 + node_count bytes + 3 * k + 2)
-    → keeps_rules bytes (take k (trees bytes)) (kind_of (node_at bytes k).kind) a b c ≡ not (is_broken (tree_at (trees bytes) k))
-unfolding node_at
-kept_is bytes k a b c e h p q r =
-    rw (tree_is bytes k h, p, q, r, first_operand bytes k) (kept_tree bytes (take k (trees bytes)) (node_at bytes k) e)
+    → OperandsRead bytes k o
+    → kind_of (node_at bytes k).kind ≡ some κ
+    → keeps_rules bytes (take k (trees bytes)) κ o.a o.b o.c ≡ not (is_broken (tree_at (trees bytes) k))
+kept_is {bytes} {k} {o} {κ} e h r q =
+    rw (tree_is bytes k h, r.a_is, r.b_is, r.c_is) (kept_tree bytes (take k (trees bytes)) (node_at bytes k) κ e q)
 
 -- ---- One more node
 
@@ -161,29 +152,37 @@ pub limits_are : (bytes : Text) (k : ℕ) (r : N.Node) → NodeRead bytes k r �
 unfolding over_limits over_limit
 limits_are bytes k r h = rw (h.size_is, h.source_is, h.sheet_is)
 
--- ---- The number of a node's turn
+-- ---- What a node's turn answers
 
-pub fault_2 : (bytes : Text) (k : ℕ) → unknown_kind (node_at bytes k) ≡ true → 2 ≡ node_fault bytes k
+pub fault_2 : (bytes : Text) (k : ℕ) → unknown_kind (node_at bytes k) ≡ true → Err (refusal 2 k) ≡ node_fault bytes k
 unfolding node_fault
 fault_2 bytes k u = rw u
 
 module _ (bytes : Text) (k : ℕ) (u : unknown_kind (node_at bytes k) ≡ false) where
-  pub fault_3 : is_broken (tree_at (trees bytes) k) ≡ true → 3 ≡ node_fault bytes k
+  pub fault_3 : is_broken (tree_at (trees bytes) k) ≡ true → Err (refusal 3 k) ≡ node_fault bytes k
   unfolding node_fault
   fault_3 w = rw (u, w)
 
-  pub fault_4 : is_broken (tree_at (trees bytes) k) ≡ false → nested (tree_at (trees bytes) k) ≡ true → 4 ≡ node_fault bytes k
+  pub fault_4 : is_broken (tree_at (trees bytes) k) ≡ false → nested (tree_at (trees bytes) k) ≡ true → Err (refusal 4 k) ≡ node_fault bytes k
   unfolding node_fault
   fault_4 w n = rw (u, w, n)
 
-  pub fault_5 : is_broken (tree_at (trees bytes) k) ≡ false → nested (tree_at (trees bytes) k) ≡ false → over_limit (tree_at (trees bytes) k) ≡ true → 5 ≡ node_fault bytes k
+  pub fault_5 :
+      is_broken (tree_at (trees bytes) k) ≡ false
+      → nested (tree_at (trees bytes) k) ≡ false
+      → over_limit (tree_at (trees bytes) k) ≡ true
+      → Err (refusal 5 k) ≡ node_fault bytes k
   unfolding node_fault
   fault_5 w n l = rw (u, w, n, l)
 
-  pub fault_0 : is_broken (tree_at (trees bytes) k) ≡ false → nested (tree_at (trees bytes) k) ≡ false → over_limit (tree_at (trees bytes) k) ≡ false → 0 ≡ node_fault bytes k
+  pub no_fault :
+      is_broken (tree_at (trees bytes) k) ≡ false
+      → nested (tree_at (trees bytes) k) ≡ false
+      → over_limit (tree_at (trees bytes) k) ≡ false
+      → Ok tt ≡ node_fault bytes k
   unfolding node_fault
-  fault_0 w n l = rw (u, w, n, l)
+  no_fault w n l = rw (u, w, n, l)
 
--- a turn that ends with a number other than 0 promises nothing of the prepared program
-pub refused : (bytes : Text) (k r : ℕ) (p : List ℕ) → r ≡ node_fault bytes k → 0 < r → Turned bytes k r p
-refused bytes k r p e h = record { fault_is = e; sized = λ z. absurd (omega arith) }
+-- a turn that refuses promises nothing of the prepared program
+pub refused : (bytes : Text) (k : ℕ) (d : Refusal) (p : List ℕ) → Err d ≡ node_fault bytes k → Turned bytes k (Err d) p
+refused bytes k d p e = record { fault_is = e; sized = λ z. cc }

@@ -1,12 +1,12 @@
 -- What reading a table answers, and what it leaves in the prepared program: the numbers that every later layer reads.
-use Rattle.std.specs.Prelude.{◌≡◌, false, cond, List, [], ◌∷◌, ◌++◌, ℕ, ◌+◌, ◌*◌, ◌≤◌, ◌<◌, length, take, drop, get_or}
+use Rattle.std.specs.Prelude.{◌≡◌, false, cond, List, [], ◌∷◌, ◌++◌, ℕ, ◌+◌, ◌*◌, ◌≤◌, ◌<◌, length, take, drop, get_or, Result, Ok, Err}
 use Rattle.std.proofs.Math.Option.{Option, none, some}
 use Rattle.semantics.specs.Text.{Text}
 use Rattle.semantics.specs.Pattern.{Pattern, word, one_of, concat, alt, star}
 use Rattle.semantics.specs.Lens.{Lens, copy, const, key, join, union, repeat, match, source, sheet}
 use Rattle.semantics.specs.Table.{node_count, pool_length, sizes_wrong, nodes, trees, Tree, Trees, pattern, lens, broken, tree_at, pool, runs_of, tree_size, tree_positions, holds_match, is_broken, nested, over_limit, Line, line, first_round, root_line, first_that_holds}
-use Rattle.table.specs.declared.TableAnswer.{TableAnswer}
-use Rattle.table.specs.declared.TableAnswer.TheVariants.{Ready, Refused}
+use Rattle.table.specs.declared.Table.{Table}
+use Rattle.table.specs.declared.Refusal.{Refusal}
 use Rattle.table.specs.declared.Kind.{Kind}
 use Rattle.table.specs.declared.Kind.TheVariants.{Word, OneOf, PatternJoin, PatternUnion, PatternRepeat, Copy, Const, Key, LensJoin, LensUnion, LensRepeat, Match}
 
@@ -14,9 +14,16 @@ use Rattle.table.specs.declared.Kind.TheVariants.{Word, OneOf, PatternJoin, Patt
 unfoldable pub table_lines : Text → List Line
 table_lines bytes = line 1 0 (sizes_wrong bytes) ∷ first_round 0 (nodes bytes) (trees bytes) ++ root_line bytes ∷ []
 
+-- a table that is read, or why it is refused
+abbrev pub TableAnswer : Type 0
+TableAnswer = Result Table Refusal
+
+abbrev pub refusal : ℕ → ℕ → Refusal
+refusal number node = record { number = number; node = node }
+
 unfoldable pub answer_for : Text → Option Line → TableAnswer
-answer_for bytes none = Ready (record { nodes = node_count bytes; pool = pool_length bytes })
-answer_for bytes (some l) = Refused l.number l.node
+answer_for bytes none = Ok (record { nodes = node_count bytes; pool = pool_length bytes })
+answer_for bytes (some l) = Err (refusal l.number l.node)
 
 -- the answer of reading a table
 unfoldable pub table_answer : Text → TableAnswer

@@ -5,15 +5,17 @@ ghost use Rattle.std.specs.Prelude.{◌≤◌, ◌<◌, length};
 ghost use Rattle.semantics.specs.Table.{node_count};
 ghost use Rattle.table.specs.Rules.{AllSized, NodeRead, ReadLeaves};
 
+mod operands;
 pub mod parts;
 mod round;
 mod rules;
 mod sizes;
+mod tags;
 
 use parts::{node_count, pool_length, sizes_wrong};
 use round::turn;
 use rules::is_sort;
-use sizes::{kind_of, word};
+use sizes::{kind_of, sized};
 
 // What every layer needs to know of a table: its sizes. The limits belong to it.
 #[derive(Clone, Copy)]
@@ -22,10 +24,12 @@ pub struct Table {
     pub pool: usize,
 }
 
-#[derive(Clone, Copy)]
-pub enum TableAnswer {
-    Ready(Table),
-    Refused { number: usize, node: usize },
+// Why a program, a text or a result is refused: the refusal's number, and the node that it concerns, or 0. A number and no enum: these are
+// document 02's own numbers, which C callers read and which the clauses `answer_for`, `typing_lines` and `first_that_holds` speak of.
+#[derive(Clone, Copy, PartialEq, Eq)]
+pub struct Refusal {
+    pub number: usize,
+    pub node: usize,
 }
 
 // A node's kind with its own operands: a part of the pool, the place of its runs, or child numbers. A range and a set are one kind: the runs
@@ -88,7 +92,7 @@ pub struct Node {
 }
 
 // The two sorts of node.
-#[derive(Clone, Copy)]
+#[derive(Clone, Copy, PartialEq, Eq)]
 pub enum Sort {
     Patterns,
     Lenses,
@@ -118,30 +122,27 @@ impl Table {
     pub const TEXT: usize = 4096;
 
     // A table from any bytes, its nodes' sizes in the prepared program; or the refusal of the first round.
-    pub fn read(bytes: &[u8], prepared: &mut [u64]) -> TableAnswer
+    pub fn read(bytes: &[u8], prepared: &mut [u64]) -> Result<Table, Refusal>
         requires { 1536 ≤ length prepared.old }
         ensures { ReadLeaves bytes.now result prepared.new }
     {
         if sizes_wrong(bytes) {
-            return TableAnswer::Refused { number: 1, node: 0 };
+            return Err(Refusal { number: 1, node: 0 });
         }
         let n = node_count(bytes);
-        let mut k = 0;
-        while k < n {
-            let number = turn(bytes, prepared, k);
-            if number != 0 {
-                return TableAnswer::Refused { number, node: k };
-            }
-            k += 1;
+        for k in 0..n {
+            turn(bytes, prepared, k)?;
         }
         if !is_sort(bytes, n, Sort::Lenses, n - 1) {
-            return TableAnswer::Refused {
+            return Err(Refusal {
                 number: 3,
                 node: n - 1,
-            };
+            });
         }
-        let pool = pool_length(bytes);
-        TableAnswer::Ready(Table { nodes: n, pool })
+        Ok(Table {
+            nodes: n,
+            pool: pool_length(bytes),
+        })
     }
 
     // Node k of a table that was read: its sizes from the prepared program, its kind from the table's bytes.
@@ -150,13 +151,6 @@ impl Table {
         requires k_bound { k < node_count bytes.now }
         ensures { NodeRead bytes.now k result }
     {
-        let kind = kind_of(bytes, k);
-        Node {
-            size: word(prepared, k, 0),
-            source: word(prepared, k, 1),
-            sheet: word(prepared, k, 2),
-            holds_match: 0 < word(prepared, k, 3),
-            kind,
-        }
+        sized(prepared, k, kind_of(bytes, k))
     }
 }

@@ -4,13 +4,14 @@ ghost use Rattle.semantics.specs.Table.{at, node_at, node_count, pool_length, si
 ghost use Rattle.table.specs.Rules.{Within};
 
 use crate::Table;
+use crate::operands::two;
 
 // The node count N.
 pub fn node_count(bytes: &[u8]) -> usize
     requires { 0 < length bytes.now }
     ensures { result ≡ node_count bytes.now }
 {
-    bytes[0] as usize
+    usize::from(bytes[0])
 }
 
 // The pool length P, two bytes, high byte first.
@@ -18,7 +19,7 @@ pub fn pool_length(bytes: &[u8]) -> usize
     requires { 2 < length bytes.now }
     ensures { result ≡ pool_length bytes.now }
 {
-    256 * (bytes[1] as usize) + bytes[2] as usize
+    two(bytes[1], bytes[2])
 }
 
 // Whether N, P or the total length is wrong.
@@ -30,16 +31,7 @@ pub fn sizes_wrong(bytes: &[u8]) -> bool
     }
     let n = node_count(bytes);
     let p = pool_length(bytes);
-    if n == 0 {
-        return true;
-    }
-    if Table::NODES < n {
-        return true;
-    }
-    if Table::POOL < p {
-        return true;
-    }
-    bytes.len() != 3 + 4 * n + p
+    n == 0 || Table::NODES < n || Table::POOL < p || bytes.len() != 3 + 4 * n + p
 }
 
 // The kind byte of node k.
@@ -56,6 +48,5 @@ pub fn operand(bytes: &[u8], k: usize, i: usize) -> u8
     requires i_bound { i < 3 }
     ensures { result ≡ at bytes.now (3 + node_count bytes.now + 3 * k + i) }
 {
-    let n = node_count(bytes);
-    bytes[3 + n + 3 * k + i]
+    bytes[3 + node_count(bytes) + 3 * k + i]
 }

@@ -1,38 +1,30 @@
 // The first round: a node's turn, and what it leaves in the prepared program.
-ghost use Rattle.std.specs.Prelude.{◌≡◌, false, ◌+◌, ◌*◌, ◌<◌, length};
-ghost use Rattle.semantics.specs.Table.{trees, tree_at, is_broken, nested};
-ghost use Rattle.table.specs.Rules.{SizedBelow, Turned, Stored, over_limits};
+ghost use Rattle.std.specs.Prelude.{◌≡◌, ◌+◌, ◌*◌, ◌<◌, length};
+ghost use Rattle.table.specs.Rules.{SizedBelow, Smalls, Turned, Stored, nests, over_limits};
 
-use crate::parts::{kind_byte, operand};
-use crate::rules::{keeps, known};
-use crate::sizes::{measured, word};
-use crate::{Node, Table};
+use crate::operands::Operands;
+use crate::parts::kind_byte;
+use crate::rules::keeps;
+use crate::sizes::{measured, sized};
+use crate::tags::Tag;
+use crate::{Kind, Node, Refusal, Table};
 
-// Whether node k, which keeps the rules, is a match whose child holds a match.
-fn nests(bytes: &[u8], prepared: &[u64], k: usize) -> bool
-    requires sized_below { SizedBelow bytes.now k prepared.now }
-    requires k_value { is_broken (tree_at (trees bytes.now) k) ≡ false }
-    ensures { result ≡ nested (tree_at (trees bytes.now) k) }
+// Whether a node that keeps the rules is a match whose child holds a match.
+fn nests(prepared: &[u64], node: Node) -> bool
+    requires { Smalls prepared.now node.kind }
+    ensures { result ≡ nests prepared.now node.kind }
 {
-    let kind = kind_byte(bytes, k);
-    if kind != 22 {
+    let Kind::Match { child } = node.kind else {
         return false;
-    }
-    let a = operand(bytes, k, 0) as usize;
-    0 < word(prepared, a, 3)
+    };
+    sized(prepared, child, node.kind).holds_match
 }
 
 // Whether a node passes a limit.
 fn over_limits(node: Node) -> bool
     ensures { result ≡ over_limits node }
 {
-    if Table::SIZE < node.size {
-        return true;
-    }
-    if Table::POSITIONS < node.source {
-        return true;
-    }
-    Table::POSITIONS < node.sheet
+    Table::SIZE < node.size || Table::POSITIONS < node.source || Table::POSITIONS < node.sheet
 }
 
 // Node k's four words.
@@ -41,35 +33,30 @@ fn store(prepared: &mut [u64], k: usize, node: Node)
     ensures { Stored prepared.old k node prepared.new }
 {
     let at = Table::WORDS * k;
-    let holds = node.holds_match;
     prepared[at] = node.size as u64;
     prepared[at + 1] = node.source as u64;
     prepared[at + 2] = node.sheet as u64;
-    prepared[at + 3] = holds as u64;
+    prepared[at + 3] = u64::from(node.holds_match);
 }
 
-// Node k's turn: the number of the first of its four lines that holds, or 0 and its sizes in the prepared program.
-pub fn turn(bytes: &[u8], prepared: &mut [u64], k: usize) -> usize
+// Node k's turn: the first of its four lines that holds refuses the table. Else its sizes are in the prepared program.
+pub fn turn(bytes: &[u8], prepared: &mut [u64], k: usize) -> Result<(), Refusal>
     requires { SizedBelow bytes.now k prepared.old }
     ensures { Turned bytes.now k result prepared.new }
 {
-    let kind = kind_byte(bytes, k);
-    if !known(kind) {
-        return 2;
-    }
-    let a = operand(bytes, k, 0);
-    let b = operand(bytes, k, 1);
-    let c = operand(bytes, k, 2);
-    if !keeps(bytes, k, kind, a, b, c) {
-        return 3;
+    let Some(tag) = Tag::of(kind_byte(bytes, k)) else {
+        return Err(Refusal { number: 2, node: k });
+    };
+    if !keeps(bytes, k, tag, Operands::read(bytes, k)) {
+        return Err(Refusal { number: 3, node: k });
     }
     let node = measured(bytes, prepared, k);
-    if nests(bytes, prepared, k) {
-        return 4;
+    if nests(prepared, node) {
+        return Err(Refusal { number: 4, node: k });
     }
     if over_limits(node) {
-        return 5;
+        return Err(Refusal { number: 5, node: k });
     }
     store(prepared, k, node);
-    0
+    Ok(())
 }

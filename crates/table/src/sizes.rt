@@ -1,46 +1,46 @@
 // A node by value: its kind with its own operands, and its sizes, worked out from those of its children or read from the prepared program.
-ghost use Rattle.std.specs.Prelude.{◌≡◌, true, false, ◌+◌, ◌*◌, ◌≤◌, ◌<◌, length};
-ghost use Rattle.std.proofs.Math.Option.{some};
-ghost use Rattle.semantics.specs.Table.{kind_of, trees, tree_at, is_broken};
-ghost use Rattle.semantics.specs.Table as S;
+ghost use Rattle.std.specs.Prelude.{◌≡◌, false, ◌+◌, ◌*◌, ◌≤◌, ◌<◌, length};
+ghost use Rattle.semantics.specs.Table.{trees, tree_at, is_broken};
 ghost use Rattle.table.specs.Prepared.{Shows};
-ghost use Rattle.table.specs.Rules.{Within, SizedBelow, Small, Numbers, OverOne, OverTwo, OverConst, OverMatch, NodeRead, decoded, word_of};
+ghost use Rattle.table.specs.Rules.{Within, SizedBelow, Small, SizedAs, Numbers, OverOne, OverTwo, OverConst, OverMatch, NodeRead, decoded, named};
 
-use crate::parts::{kind_byte, node_count, operand};
+use crate::operands::Operands;
+use crate::parts::{kind_byte, node_count};
+use crate::tags::Tag;
 use crate::{Kind, Node, Table};
 
-// The kind of a known kind byte, with its own operands. They stand at `at`, and the pool at `pool`.
-fn kind_from(kind: u8, a: u8, b: u8, c: u8, at: usize, pool: usize) -> Kind
+// A kind with its own operands, of those of a record that stands at `at`. The pool stands at `pool`.
+fn kind_from(tag: Tag, operands: Operands, at: usize, pool: usize) -> Kind
     requires { pool ≤ 387 }
-    ensures { (κ : S.Kind) → kind_of kind ≡ some κ → result ≡ decoded κ a b c at pool }
+    ensures { result ≡ decoded (named tag) operands.a operands.b operands.c at pool }
 {
-    let x = a as usize;
-    let y = b as usize;
-    let z = c as usize;
-    match kind {
-        0 => Kind::Word {
-            start: 256 * x + y,
+    let x = usize::from(operands.a);
+    let y = usize::from(operands.b);
+    let z = usize::from(operands.c);
+    match tag {
+        Tag::Word => Kind::Word {
+            start: operands.start(),
             len: z,
         },
-        1 => Kind::OneOf { at, runs: 1 },
-        2 => Kind::PatternJoin { left: x, right: y },
-        3 => Kind::PatternUnion { left: x, right: y },
-        4 => Kind::PatternRepeat { child: x },
-        5 => Kind::OneOf {
-            at: pool + (256 * x + y),
+        Tag::Range => Kind::OneOf { at, runs: 1 },
+        Tag::PatternJoin => Kind::PatternJoin { left: x, right: y },
+        Tag::PatternUnion => Kind::PatternUnion { left: x, right: y },
+        Tag::PatternRepeat => Kind::PatternRepeat { child: x },
+        Tag::Set => Kind::OneOf {
+            at: pool + operands.start(),
             runs: z,
         },
-        16 => Kind::Copy { pattern: x },
-        17 => Kind::Const {
+        Tag::Copy => Kind::Copy { pattern: x },
+        Tag::Const => Kind::Const {
             pattern: x,
             sheet: y,
             default: z,
         },
-        18 => Kind::Key { pattern: x },
-        19 => Kind::LensJoin { left: x, right: y },
-        20 => Kind::LensUnion { left: x, right: y },
-        21 => Kind::LensRepeat { child: x },
-        _ => Kind::Match { child: x },
+        Tag::Key => Kind::Key { pattern: x },
+        Tag::LensJoin => Kind::LensJoin { left: x, right: y },
+        Tag::LensUnion => Kind::LensUnion { left: x, right: y },
+        Tag::LensRepeat => Kind::LensRepeat { child: x },
+        Tag::Match => Kind::Match { child: x },
     }
 }
 
@@ -50,20 +50,25 @@ pub fn kind_of(bytes: &[u8], k: usize) -> Kind
     requires k_value { is_broken (tree_at (trees bytes.now) k) ≡ false }
     ensures { Shows bytes.now k result }
 {
-    let kind = kind_byte(bytes, k);
-    let a = operand(bytes, k, 0);
-    let b = operand(bytes, k, 1);
-    let c = operand(bytes, k, 2);
+    let operands = Operands::read(bytes, k);
     let n = node_count(bytes);
-    kind_from(kind, a, b, c, 3 + n + 3 * k, 3 + 4 * n)
+    let tag = Tag::of(kind_byte(bytes, k)).unwrap();
+    kind_from(tag, operands, 3 + n + 3 * k, 3 + 4 * n)
 }
 
-// Word i of node a in the prepared program.
-pub fn word(prepared: &[u64], a: usize, i: usize) -> usize
-    requires { 16 * a + i < length prepared.now }
-    ensures { result ≡ word_of prepared.now a i }
+// The sizes of node a, from its four words in the prepared program, with a kind.
+pub fn sized(prepared: &[u64], a: usize, kind: Kind) -> Node
+    requires { 16 * a + 3 < length prepared.now }
+    ensures { SizedAs prepared.now a kind result }
 {
-    prepared[Table::WORDS * a + i] as usize
+    let at = Table::WORDS * a;
+    Node {
+        size: prepared[at] as usize,
+        source: prepared[at + 1] as usize,
+        sheet: prepared[at + 2] as usize,
+        holds_match: prepared[at + 3] > 0,
+        kind,
+    }
 }
 
 // A word, a range or a set: it has no child.
@@ -84,12 +89,10 @@ fn over_one(prepared: &[u64], a: usize, kind: Kind) -> Node
     requires { Small prepared.now a }
     ensures { OverOne prepared.now a kind result }
 {
+    let child = sized(prepared, a, kind);
     Node {
-        size: 1 + word(prepared, a, 0),
-        source: word(prepared, a, 1),
-        sheet: word(prepared, a, 2),
-        holds_match: 0 < word(prepared, a, 3),
-        kind,
+        size: 1 + child.size,
+        ..child
     }
 }
 
@@ -99,28 +102,29 @@ fn over_two(prepared: &[u64], a: usize, b: usize, kind: Kind) -> Node
     requires small_2 { Small prepared.now b }
     ensures { OverTwo prepared.now a b kind result }
 {
+    let left = sized(prepared, a, kind);
+    let right = sized(prepared, b, kind);
     Node {
-        size: 1 + word(prepared, a, 0) + word(prepared, b, 0),
-        source: word(prepared, a, 1) + word(prepared, b, 1),
-        sheet: word(prepared, a, 2) + word(prepared, b, 2),
-        holds_match: 0 < word(prepared, a, 3) + word(prepared, b, 3),
+        size: 1 + left.size + right.size,
+        source: left.source + right.source,
+        sheet: left.sheet + right.sheet,
+        holds_match: left.holds_match || right.holds_match,
         kind,
     }
 }
 
-// A const: its source side is its pattern's, its sheet side its word b's. Its words count 1 each.
-fn over_const(prepared: &[u64], a: usize, b: usize, kind: Kind) -> Node
-    requires small { Small prepared.now a }
-    requires small_2 { Small prepared.now b }
-    ensures { OverConst prepared.now a b kind result }
+// A const: its source side is its pattern's, its sheet side its sheet word's. Its words count 1 each.
+fn over_const(prepared: &[u64], pattern: usize, sheet: usize, kind: Kind) -> Node
+    requires small { Small prepared.now pattern }
+    requires small_2 { Small prepared.now sheet }
+    ensures { OverConst prepared.now pattern sheet kind result }
 {
-    let size = 1 + word(prepared, a, 0) + 1 + 1;
-    let source = word(prepared, a, 1);
-    let sheet = word(prepared, b, 2);
+    let pattern = sized(prepared, pattern, kind);
+    let word = sized(prepared, sheet, kind);
     Node {
-        size,
-        source,
-        sheet,
+        size: 1 + pattern.size + 1 + 1,
+        source: pattern.source,
+        sheet: word.sheet,
         holds_match: false,
         kind,
     }
@@ -132,11 +136,8 @@ fn over_match(prepared: &[u64], a: usize, kind: Kind) -> Node
     ensures { OverMatch prepared.now a kind result }
 {
     Node {
-        size: 1 + word(prepared, a, 0),
-        source: word(prepared, a, 1),
-        sheet: word(prepared, a, 2),
         holds_match: true,
-        kind,
+        ..over_one(prepared, a, kind)
     }
 }
 
@@ -148,21 +149,17 @@ pub fn measured(bytes: &[u8], prepared: &[u64], k: usize) -> Node
 {
     let kind = kind_of(bytes, k);
     match kind {
-        Kind::Word { start: _, len } => leaf(len, kind),
-        Kind::OneOf { at: _, runs: _ } => leaf(1, kind),
-        Kind::PatternJoin { left, right } => over_two(prepared, left, right, kind),
-        Kind::PatternUnion { left, right } => over_two(prepared, left, right, kind),
-        Kind::PatternRepeat { child } => over_one(prepared, child, kind),
-        Kind::Copy { pattern } => over_one(prepared, pattern, kind),
-        Kind::Const {
-            pattern,
-            sheet,
-            default: _,
-        } => over_const(prepared, pattern, sheet, kind),
-        Kind::Key { pattern } => over_one(prepared, pattern, kind),
-        Kind::LensJoin { left, right } => over_two(prepared, left, right, kind),
-        Kind::LensUnion { left, right } => over_two(prepared, left, right, kind),
-        Kind::LensRepeat { child } => over_one(prepared, child, kind),
+        Kind::Word { len, .. } => leaf(len, kind),
+        Kind::OneOf { .. } => leaf(1, kind),
+        Kind::PatternJoin { left, right }
+        | Kind::PatternUnion { left, right }
+        | Kind::LensJoin { left, right }
+        | Kind::LensUnion { left, right } => over_two(prepared, left, right, kind),
+        Kind::PatternRepeat { child }
+        | Kind::LensRepeat { child }
+        | Kind::Copy { pattern: child }
+        | Kind::Key { pattern: child } => over_one(prepared, child, kind),
+        Kind::Const { pattern, sheet, .. } => over_const(prepared, pattern, sheet, kind),
         Kind::Match { child } => over_match(prepared, child, kind),
     }
 }

@@ -4,10 +4,10 @@
 ghost use Rattle.std.specs.Prelude.{◌≡◌, ◌++◌, ◌≤◌, length, drop};
 ghost use Rattle.semantics.specs.Tally.{tally_line};
 
-use answers::PutAnswer;
-use answers::results::no_text;
+use arrays::filled;
 use engine::put::put;
 use lines::{put_counts, put_refused};
+use table::Table;
 
 // The line for a table, a sheet and a source, at the start of a buffer, and its length.
 pub fn tally_line(table: &[u8], sheet: &[u8], source: &[u8], out: &mut [u8]) -> usize
@@ -16,15 +16,12 @@ pub fn tally_line(table: &[u8], sheet: &[u8], source: &[u8], out: &mut [u8]) -> 
     ensures answers { result ≡ length (tally_line table.now sheet.now source.now) }
     ensures short { result ≤ 81 }
 {
-    let mut result = no_text();
-    let answer = put(table, sheet, source, &mut result);
-    match answer {
-        PutAnswer::Result {
-            length: _,
-            kept,
-            made,
-            dropped,
-        } => put_counts(kept, made, dropped, out),
-        PutAnswer::Refusal { number, node } => put_refused(number, node, out),
+    let mut result: [u8; Table::TEXT] = filled(0);
+    match put(table, sheet, source, &mut result) {
+        Ok(made) => {
+            let tally = made.tally;
+            put_counts(tally.kept, tally.made, tally.dropped, out)
+        }
+        Err(refusal) => put_refused(refusal.number, refusal.node, out),
     }
 }

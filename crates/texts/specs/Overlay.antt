@@ -9,8 +9,11 @@ use Rattle.std.proofs.lemmas.Bool.{lt-leb}
 use Rattle.semantics.specs.Text.{Text, all_spaces}
 use Rattle.laws.specs.Basics.{cond_true, cond_false}
 use Rattle.laws.specs.Keys.{spaces_append}
-use Rattle.texts.specs.declared.Wrote.{Wrote}
-use Rattle.texts.specs.declared.Wrote.TheVariants.{Count, Full}
+use Rattle.std.specs.Prelude.{Option, Some, None}
+
+-- What a writer answers: how many bytes it set, which are the text, or a key but for trailing spaces; or nothing, where the text did not fit.
+abbrev pub Wrote : Type 0
+Wrote = Option ℕ
 
 unfoldable pub overlay : Text → Text → Text
 overlay text buffer = take (length buffer) text ++ drop (length text) buffer
@@ -21,7 +24,7 @@ has_room padded text buffer = cond padded (all_spaces (drop (length buffer) text
 
 -- what a writer of the text into the buffer answers: how many bytes were set, where it has room
 unfoldable pub wrote_of : Bool → Text → Text → Wrote
-wrote_of padded text buffer = cond (has_room padded text buffer) (Count (min (length text) (length buffer))) Full
+wrote_of padded text buffer = cond (has_room padded text buffer) (Some (min (length text) (length buffer))) None
 
 -- What a writer owes: the buffer afterwards, and the answer; of a text whose trailing spaces count, or don't.
 pub record Lays (padded : Bool) (text before after : Text) (answer : Wrote) : Type 0 where
@@ -104,17 +107,17 @@ room_next false s t buffer = go (fits_or_over s buffer)
 
 -- ---- What room says of the answer, and the answer of the room
 
-pub wrote_room : (padded : Bool) (text buffer : Text) → has_room padded text buffer ≡ true → wrote_of padded text buffer ≡ Count (min (length text) (length buffer))
+pub wrote_room : (padded : Bool) (text buffer : Text) → has_room padded text buffer ≡ true → wrote_of padded text buffer ≡ Some (min (length text) (length buffer))
 unfolding wrote_of
-wrote_room padded text buffer h = cond_true (has_room padded text buffer) (Count (min (length text) (length buffer))) Full h
+wrote_room padded text buffer h = cond_true (has_room padded text buffer) (Some (min (length text) (length buffer))) None h
 
-pub wrote_none : (padded : Bool) (text buffer : Text) → has_room padded text buffer ≡ false → wrote_of padded text buffer ≡ Full
+pub wrote_none : (padded : Bool) (text buffer : Text) → has_room padded text buffer ≡ false → wrote_of padded text buffer ≡ None
 unfolding wrote_of
-wrote_none padded text buffer h = cond_false (has_room padded text buffer) (Count (min (length text) (length buffer))) Full h
+wrote_none padded text buffer h = cond_false (has_room padded text buffer) (Some (min (length text) (length buffer))) None h
 
 pub count_room :
     (padded : Bool) (text buffer : Text) (n : ℕ)
-    → Count n ≡ wrote_of padded text buffer
+    → Some n ≡ wrote_of padded text buffer
     → (n ≡ min (length text) (length buffer)) × (has_room padded text buffer ≡ true)
 count_room padded text buffer n e = go (has_room padded text buffer) refl
   where
@@ -122,7 +125,7 @@ count_room padded text buffer n e = go (has_room padded text buffer) refl
     go true h = (cc (wrote_room padded text buffer h), h)
     go false h = absurd (let z : ◌≡◌ {A = ℕ} 0 1 = cc (wrote_none padded text buffer h) in omega arith)
 
-pub full_room : (padded : Bool) (text buffer : Text) → Full ≡ wrote_of padded text buffer → has_room padded text buffer ≡ false
+pub full_room : (padded : Bool) (text buffer : Text) → None ≡ wrote_of padded text buffer → has_room padded text buffer ≡ false
 full_room padded text buffer e = go (has_room padded text buffer) refl
   where
     go : (b : Bool) → has_room padded text buffer ≡ b → has_room padded text buffer ≡ false
@@ -131,22 +134,22 @@ full_room padded text buffer e = go (has_room padded text buffer) refl
 
 -- ---- and of the lengths
 
-pub wrote_fits : (padded : Bool) (text buffer : Text) → length text ≤ length buffer → wrote_of padded text buffer ≡ Count (length text)
+pub wrote_fits : (padded : Bool) (text buffer : Text) → length text ≤ length buffer → wrote_of padded text buffer ≡ Some (length text)
 wrote_fits padded text buffer h =
     let all : min (length text) (length buffer) ≡ length text = omega arith in
-    wrote_room padded text buffer (room_fits padded text buffer h) ∙ ap Count all
+    wrote_room padded text buffer (room_fits padded text buffer h) ∙ ap Some all
 
-pub wrote_over : (text buffer : Text) → length buffer < length text → wrote_of false text buffer ≡ Full
+pub wrote_over : (text buffer : Text) → length buffer < length text → wrote_of false text buffer ≡ None
 wrote_over text buffer h = wrote_none false text buffer (room_over text buffer h)
 
-pub count_fits : (text buffer : Text) (n : ℕ) → Count n ≡ wrote_of false text buffer → (n ≡ length text) × (length text ≤ length buffer)
+pub count_fits : (text buffer : Text) (n : ℕ) → Some n ≡ wrote_of false text buffer → (n ≡ length text) × (length text ≤ length buffer)
 count_fits text buffer n e = go (fits_or_over text buffer)
   where
     go : (length text ≤ length buffer) ⊎ (length buffer < length text) → (n ≡ length text) × (length text ≤ length buffer)
     go (inl h) = (cc (wrote_fits false text buffer h), h)
     go (inr h) = absurd (let z : ◌≡◌ {A = ℕ} 0 1 = cc (wrote_over text buffer h) in omega arith)
 
-pub full_over : (padded : Bool) (text buffer : Text) → Full ≡ wrote_of padded text buffer → length buffer < length text
+pub full_over : (padded : Bool) (text buffer : Text) → None ≡ wrote_of padded text buffer → length buffer < length text
 full_over padded text buffer e = go (fits_or_over text buffer)
   where
     go : (length text ≤ length buffer) ⊎ (length buffer < length text) → length buffer < length text
@@ -156,13 +159,13 @@ full_over padded text buffer e = go (fits_or_over text buffer)
 -- ---- One text behind another
 
 -- nothing is written
-pub writes_nothing : {padded : Bool} (buffer : Text) → Lays padded [] buffer buffer (Count 0)
+pub writes_nothing : {padded : Bool} (buffer : Text) → Lays padded [] buffer buffer (Some 0)
 unfolding overlay
 writes_nothing {padded} buffer =
     record { buffer_is = rw take-nil; answer_is = sym (wrote_fits padded [] buffer (omega arith)) }
 
 -- what was written lies within the buffer
-pub writes_within : {padded : Bool} (text before after : Text) (n : ℕ) → Lays padded text before after (Count n) → n ≤ length after
+pub writes_within : {padded : Bool} (text before after : Text) (n : ℕ) → Lays padded text before after (Some n) → n ≤ length after
 writes_within {padded} text before after n w = rw (w.buffer_is, overlay_length) (omega (arith, count_room padded text before n w.answer_is))
 
 -- a text whose first part fits: that part, and the second laid over the buffer from there on
@@ -190,7 +193,7 @@ overlay_next s t buffer = go (fits_or_over s buffer)
         refl
 
 -- the first part did not fit: neither does the whole, whatever comes behind
-pub writes_full : {padded : Bool} (s t before after : Text) → Lays padded s before after Full → Lays padded (s ++ t) before after Full
+pub writes_full : {padded : Bool} (s t before after : Text) → Lays padded s before after None → Lays padded (s ++ t) before after None
 writes_full {padded} s t before after w =
     let over : length before < length s = full_over padded s before w.answer_is in
     let below : length before ≤ length s = omega arith in
@@ -208,8 +211,8 @@ wrote_next :
     → (answer : Wrote)
     → answer ≡ wrote_of padded t (drop (length s) buffer)
     → (sum : Wrote)
-    → ((m : ℕ) → answer ≡ Count m → sum ≡ Count (min (length s) (length buffer) + m))
-    → (answer ≡ Full → sum ≡ Full)
+    → ((m : ℕ) → answer ≡ Some m → sum ≡ Some (min (length s) (length buffer) + m))
+    → (answer ≡ None → sum ≡ None)
     → sum ≡ wrote_of padded (s ++ t) buffer
 wrote_next padded s t buffer h answer e sum counts full = go (has_room padded t lent) refl
   where
@@ -231,12 +234,12 @@ wrote_next padded s t buffer h answer e sum counts full = go (has_room padded t 
     go : (b : Bool) → has_room padded t lent ≡ b → sum ≡ wrote_of padded (s ++ t) buffer
     go true fits =
         counts (min (length t) (length lent)) (e ∙ wrote_room padded t lent fits)
-        ∙ ap Count set_both
+        ∙ ap Some set_both
         ∙ sym (wrote_room padded (s ++ t) buffer (both ∙ fits))
     go false over = full (e ∙ wrote_none padded t lent over) ∙ sym (wrote_none padded (s ++ t) buffer (both ∙ over))
 
 -- what was set of a text, and what is behind it, where it has room
-module _ {padded : Bool} {text before after : Text} {n : ℕ} (w : Lays padded text before after (Count n)) where
+module _ {padded : Bool} {text before after : Text} {n : ℕ} (w : Lays padded text before after (Some n)) where
   set_length : length (take (length before) text) ≡ n
   set_length = omega (arith, length-take (length before) text, count_room padded text before n w.answer_is)
 
@@ -251,11 +254,11 @@ module _ {padded : Bool} {text before after : Text} {n : ℕ} (w : Lays padded t
 -- The first part has room, and the second is written into the buffer from there on: `rest` is what the second writer left of that part.
 pub writes_next :
     {padded : Bool} (s t before after rest : Text) (n : ℕ) (answer : Wrote)
-    → Lays padded s before after (Count n)
+    → Lays padded s before after (Some n)
     → Lays padded t (drop n after) rest answer
     → (sum : Wrote)
-    → ((m : ℕ) → answer ≡ Count m → sum ≡ Count (n + m))
-    → (answer ≡ Full → sum ≡ Full)
+    → ((m : ℕ) → answer ≡ Some m → sum ≡ Some (n + m))
+    → (answer ≡ None → sum ≡ None)
     → Lays padded (s ++ t) before (take n after ++ rest) sum
 writes_next {padded} s t before after rest n answer first second sum counts full =
     let (n_is, room) = count_room padded s before n first.answer_is in
@@ -272,18 +275,18 @@ writes_next {padded} s t before after rest n answer first second sum counts full
           answer
           (second.answer_is ∙ ap (wrote_of padded t) lent)
           sum
-          (λ m e. counts m e ∙ ap (λ k. Count (k + m)) n_is)
+          (λ m e. counts m e ∙ ap (λ k. Some (k + m)) n_is)
           full;
     }
 
 -- The same, with the part from n on lent and given back as the prover says it: as many elements as there are behind n, and behind them nothing.
 pub writes_lent :
     {padded : Bool} (s t before after rest : Text) (n : ℕ) (answer : Wrote)
-    → Lays padded s before after (Count n)
+    → Lays padded s before after (Some n)
     → Lays padded t (take (length after - n) (drop n after)) rest answer
     → (sum : Wrote)
-    → ((m : ℕ) → answer ≡ Count m → sum ≡ Count (n + m))
-    → (answer ≡ Full → sum ≡ Full)
+    → ((m : ℕ) → answer ≡ Some m → sum ≡ Some (n + m))
+    → (answer ≡ None → sum ≡ None)
     → Lays padded (s ++ t) before (take n after ++ (rest ++ drop (length after - n) (drop n after))) sum
 writes_lent s t before after rest n answer first second sum counts full =
     let reaches : length (drop n after) ≤ length after - n = rw length-drop (omega arith) in

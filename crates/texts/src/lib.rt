@@ -7,41 +7,33 @@ ghost use Rattle.texts.specs.Overlay.{Lays, Writes};
 
 use padding::all_spaces;
 
-// What a writer did: it set that many bytes, which are the text, or a key but for trailing spaces; or the text did not fit, and every byte of the buffer is set.
-#[derive(Clone, Copy)]
-pub enum Wrote {
-    Count(usize),
-    Full,
-}
-
-// The text is written from the buffer's first byte on, as much of it as fits.
-pub fn write_text(text: &[u8], out: &mut [u8]) -> Wrote
+// The text is written from the buffer's first byte on, as much of it as fits. The answer is how many bytes were set, which are the text; or nothing, where it did not
+// fit, and every byte of the buffer is set.
+pub fn write_text(text: &[u8], out: &mut [u8]) -> Option<usize>
     ensures { Writes text.now out.old out.new result }
 {
-    let mut i = 0;
-    while i < text.len() {
-        if i >= out.len() {
-            return Wrote::Full;
-        }
-        out[i] = text[i];
-        i += 1;
+    let n = text.len();
+    let room = out.len();
+    if room < n {
+        out.copy_from_slice(&text[..room]);
+        return None;
     }
-    Wrote::Count(i)
+    out[..n].copy_from_slice(text);
+    Some(n)
 }
 
 // The same of a text whose trailing spaces don't count: those that have no room are left out. What is behind the room tells whether they are trailing ones.
-pub fn write_key(text: &[u8], out: &mut [u8]) -> Wrote
+pub fn write_key(text: &[u8], out: &mut [u8]) -> Option<usize>
     ensures { Lays true text.now out.old out.new result }
 {
-    let wrote = write_text(text, out);
-    match wrote {
-        Wrote::Count(n) => Wrote::Count(n),
-        Wrote::Full => {
+    match write_text(text, out) {
+        Some(n) => Some(n),
+        None => {
             let n = out.len();
             if all_spaces(&text[n..]) {
-                return Wrote::Count(n);
+                return Some(n);
             }
-            Wrote::Full
+            None
         }
     }
 }
@@ -49,15 +41,5 @@ pub fn write_key(text: &[u8], out: &mut [u8]) -> Wrote
 pub fn same_text(a: &[u8], b: &[u8]) -> bool
     ensures { result ≡ same_text a.now b.now }
 {
-    if a.len() != b.len() {
-        return false;
-    }
-    let mut i = 0;
-    while i < a.len() {
-        if a[i] != b[i] {
-            return false;
-        }
-        i += 1;
-    }
-    true
+    a == b
 }

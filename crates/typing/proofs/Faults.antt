@@ -24,7 +24,9 @@ use Rattle.automaton.specs.declared.Side.{Side}
 use Rattle.automaton.specs.declared.Automaton.{Automaton}
 use Rattle.automaton.specs.Rows.{Room, Describes}
 use Rattle.automaton.specs.Built.{Built, tree_language}
-use Rattle.typing.specs.Round.{number_of, fault_of, typing_fault, Stands, Speaks, SpeaksFor}
+use Rattle.std.specs.Prelude.{Ok, Err}
+use Rattle.table.specs.Prepared.{refusal}
+use Rattle.typing.specs.Round.{TypingAnswer, answer_of, fault_of, typing_fault, Stands, Speaks, SpeaksFor}
 
 -- two tests that are true in the same case
 pub same_answer : {X : Type 0} (a b : Bool) → (a ≡ true) ↔ X → (b ≡ true) ↔ X → a ≡ b
@@ -34,18 +36,18 @@ same_answer false b p q = sym (false_of_not_true b (λ e. not_both (p.1 (q.0 e))
 -- ---- Lines in a row
 
 -- where there is none, nothing holds
-pub no_line : 0 ≡ fault_of []
-unfolding fault_of number_of first_that_holds
+pub no_line : Ok tt ≡ fault_of []
+unfolding fault_of answer_of first_that_holds
 no_line = refl
 
 module _ (number k : ℕ) (test : Bool) (ls : List Line) where
-  -- a line that holds gives its number
-  pub line_holds : test ≡ true → number ≡ fault_of (line number k test ∷ ls)
-  unfolding fault_of number_of first_that_holds line
+  -- a line that holds refuses
+  pub line_holds : test ≡ true → Err (refusal number k) ≡ fault_of (line number k test ∷ ls)
+  unfolding fault_of answer_of first_that_holds line
   line_holds e = rw e
 
   -- one that does not is passed over
-  pub line_passed : {later : ℕ} → test ≡ false → later ≡ fault_of ls → later ≡ fault_of (line number k test ∷ ls)
+  pub line_passed : {later : TypingAnswer} → test ≡ false → later ≡ fault_of ls → later ≡ fault_of (line number k test ∷ ls)
   unfolding fault_of first_that_holds line
   line_passed e h = rw e h
 
@@ -106,12 +108,12 @@ module _ {bytes : Text} {k : ℕ} {node : Node} (read : NodeRead bytes k node) w
   shown e = subst (Shows bytes k) e read.shows
 
   -- a node with no typing line
-  pub no_fault : {t : Tree} → tree_at (trees bytes) k ≡ t → tree_lines k t ≡ [] → 0 ≡ typing_fault bytes k
-  unfolding typing_fault fault_of number_of first_that_holds
+  pub no_fault : {t : Tree} → tree_at (trees bytes) k ≡ t → tree_lines k t ≡ [] → Ok tt ≡ typing_fault bytes k
+  unfolding typing_fault fault_of answer_of first_that_holds
   no_fault e h = rw (e, h)
 
 -- a lens has the fault of its lines
-lens_fault : (bytes : Text) (k : ℕ) {l : Lens} {number : ℕ} → tree_at (trees bytes) k ≡ lens l → number ≡ fault_of (typing_lines k l) → number ≡ typing_fault bytes k
+lens_fault : (bytes : Text) (k : ℕ) {l : Lens} {fault : TypingAnswer} → tree_at (trees bytes) k ≡ lens l → fault ≡ fault_of (typing_lines k l) → fault ≡ typing_fault bytes k
 unfolding typing_fault tree_lines
 lens_fault bytes k e h = rw e h
 
@@ -122,12 +124,12 @@ module _ {bytes : Text} {prepared : List ℕ} (built : Built bytes prepared) {k 
 
   -- its fault, if the automata of both tell it
   pub two_fault :
-      {make : Lens → Lens → Lens} {a b number : ℕ} (h : TwoLenses (trees bytes) k a b (λ l m. lens (make l m)))
-      → ((j : ℕ) (l m : Lens) → SpeaksFor prepared a l → SpeaksFor prepared b m → number ≡ fault_of (typing_lines j (make l m)))
-      → number ≡ typing_fault bytes k
+      {make : Lens → Lens → Lens} {a b : ℕ} {fault : TypingAnswer} (h : TwoLenses (trees bytes) k a b (λ l m. lens (make l m)))
+      → ((l m : Lens) → SpeaksFor prepared a l → SpeaksFor prepared b m → fault ≡ fault_of (typing_lines k (make l m)))
+      → fault ≡ typing_fault bytes k
   two_fault h f =
       lens_fault bytes k h.tree_is
-      (f k h.left h.right
+      (f h.left h.right
       (speaks_for built (omega (arith, h.left_lower)) h.at_left)
       (speaks_for built (omega (arith, h.right_lower)) h.at_right))
 
@@ -137,23 +139,23 @@ module _ {bytes : Text} {prepared : List ℕ} (built : Built bytes prepared) {k 
 
   -- a repeat's fault, if its own automata and those of its child tell it
   pub repeat_fault :
-      {a number : ℕ} (h : OneLens (trees bytes) k a (λ l. lens (repeat l)))
-      → ((j : ℕ) (l : Lens) → SpeaksFor prepared a l → SpeaksFor prepared k (repeat l) → number ≡ fault_of (typing_lines j (repeat l)))
-      → number ≡ typing_fault bytes k
+      {a : ℕ} {fault : TypingAnswer} (h : OneLens (trees bytes) k a (λ l. lens (repeat l)))
+      → ((l : Lens) → SpeaksFor prepared a l → SpeaksFor prepared k (repeat l) → fault ≡ fault_of (typing_lines k (repeat l)))
+      → fault ≡ typing_fault bytes k
   repeat_fault h f =
       lens_fault bytes k h.tree_is
-      (f k h.child (speaks_for built (omega (arith, h.lower)) h.at_child) (speaks_for built inside h.tree_is))
+      (f h.child (speaks_for built (omega (arith, h.lower)) h.at_child) (speaks_for built inside h.tree_is))
 
   -- a const's fault, if its parts tell it
   pub const_fault :
-      {a b c number : ℕ} (h : ConstParts (trees bytes) k a b c)
-      → ((j : ℕ) (r : Pattern) (w d : Text)
+      {a b c : ℕ} {fault : TypingAnswer} (h : ConstParts (trees bytes) k a b c)
+      → ((r : Pattern) (w d : Text)
       → tree_at (trees bytes) a ≡ pattern r
       → tree_at (trees bytes) c ≡ pattern (word d)
-      → number ≡ fault_of (typing_lines j (const r w d)))
-      → number ≡ typing_fault bytes k
+      → fault ≡ fault_of (typing_lines k (const r w d)))
+      → fault ≡ typing_fault bytes k
   const_fault h f =
-      lens_fault bytes k h.tree_is (f k h.child h.sheet_word h.default_word h.at_child h.at_default)
+      lens_fault bytes k h.tree_is (f h.child h.sheet_word h.default_word h.at_child h.at_default)
 
 -- ---- The default word
 

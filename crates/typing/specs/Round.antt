@@ -1,5 +1,5 @@
--- The second round as its functions go through it, node by node: the number of a node's refusal, and the answer for the whole program.
-use Rattle.std.specs.Prelude.{List, ℕ, ◌+◌, ◌*◌, ◌≤◌, length}
+-- The second round as its functions go through it, node by node: a node's refusal, and the answer for the whole program.
+use Rattle.std.specs.Prelude.{List, ℕ, ◌+◌, ◌*◌, ◌≤◌, length, Result, Ok, Err}
 use Rattle.std.proofs.Math.Option.{Option, none, some}
 use Rattle.semantics.specs.Text.{Text}
 use Rattle.semantics.specs.Pattern.{Pattern}
@@ -7,14 +7,18 @@ use Rattle.semantics.specs.Lens.{Lens, language}
 use Rattle.semantics.specs.Table.{tree_at, trees, Line, tree_lines, second_round, first_that_holds}
 use Rattle.automaton.specs.declared.Side.{Side}
 use Rattle.automaton.specs.Rows.{side_of, automaton_at, Room, Describes}
-use Rattle.typing.specs.declared.round.TypingAnswer.{TypingAnswer}
-use Rattle.typing.specs.declared.round.TypingAnswer.TheVariants.{Typed, Refused}
+use Rattle.table.specs.declared.Refusal.{Refusal}
+use Rattle.table.specs.Prepared.{refusal}
 
 -- ---- The answer
 
+-- a program that is typed, or why it is refused
+abbrev pub TypingAnswer : Type 0
+TypingAnswer = Result (Unit {0}) Refusal
+
 unfoldable pub answer_of : Option Line → TypingAnswer
-answer_of none = Typed
-answer_of (some l) = Refused l.number l.node
+answer_of none = Ok tt
+answer_of (some l) = Err (refusal l.number l.node)
 
 -- the answer of the second round: its first line that holds
 unfoldable pub typing_answer : Text → TypingAnswer
@@ -22,16 +26,12 @@ typing_answer bytes = answer_of (first_that_holds (second_round 0 (trees bytes))
 
 -- ---- One node
 
-unfoldable pub number_of : Option Line → ℕ
-number_of none = 0
-number_of (some l) = l.number
+-- the first of the lines that holds, if one does
+unfoldable pub fault_of : List Line → TypingAnswer
+fault_of ls = answer_of (first_that_holds ls)
 
--- the number of the first of the lines that holds, or 0
-unfoldable pub fault_of : List Line → ℕ
-fault_of ls = number_of (first_that_holds ls)
-
--- the number of the first of node k's typing lines that holds, or 0
-unfoldable pub typing_fault : Text → ℕ → ℕ
+-- the first of node k's typing lines that holds, if one does
+unfoldable pub typing_fault : Text → ℕ → TypingAnswer
 typing_fault bytes k = fault_of (tree_lines k (tree_at (trees bytes) k))
 
 -- ---- The automata that are asked

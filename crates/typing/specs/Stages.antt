@@ -1,5 +1,5 @@
 -- A stage: from some states of a first automaton, texts are read to its end and beside it, from its start, in a second.
-use Rattle.std.specs.Prelude.{◌≡◌, true, ◌&&◌, ◌||◌, List, ◌⊎◌, ◌↔◌, ℕ, ◌<◌, length}
+use Rattle.std.specs.Prelude.{◌≡◌, true, ◌&&◌, ◌||◌, List, ◌⊎◌, ◌↔◌, ℕ, ◌<◌}
 use Rattle.std.proofs.Math.Option.{none, some}
 use Rattle.semantics.specs.Pattern.{Pattern}
 use Rattle.laws.specs.Walks.{State, Staged}
@@ -15,10 +15,6 @@ use Rattle.typing.specs.declared.questions.Marked.{Marked}
 abbrev pub In : Marked → State → Type 0
 In m none = m.start ≡ true
 In m (some p) = holds m.at p ≡ true
-
--- Room for the pairs of a stage: which positions share a byte, the pairs that were led on, and those that are reached.
-abbrev pub PairRoom : List ℕ → List ℕ → List ℕ → Type 0
-PairRoom shares led cells = (length shares ≡ 256) × (length led ≡ 256) × (length cells ≡ 256)
 
 -- The marked positions are the automaton's.
 pub record Within (a : Automaton) (m : Marked) : Type 0 where

@@ -1,32 +1,36 @@
 -- The path of a text, step by step: what the loops forward cite. Assumes nothing.
 use mathlib.Core.Path.{◌≡◌, refl, sym, ap, subst, ◌∙◌}
-use mathlib.Core.Bool.{Bool, true, false}
+use mathlib.Core.Bool.{Bool, true, false, true≢false}
 use mathlib.Core.List.{List, [], ◌∷◌, ◌++◌, append_assoc}
 use mathlib.Core.Logic.Iff
 use mathlib.Core.Logic.{◌↔◌, ⊎_elim}
-use Prim.Native.Nat.{ℕ, suc, ◌+◌, ◌≤◌, ◌<◌}
+use Prim.Native.Nat.{ℕ, suc, ◌+◌, ◌<◌}
 use native.Mathlib.Numerals.{add-one}
 use native.Mathlib.Omega.{arith}
-use borrow.Author.Tests.{ltb-true, ltb-false, eqb-true, eqb-false, le-leb, lt-leb}
-use lib.Dec.{ltb, eqb, leb}
+use borrow.Author.Tests.{ltb-true, ltb-false, eqb-true, eqb-false}
+use lib.Dec.{ltb, eqb}
 use lib.ListN.{length, get_or, take, drop, set}
 use lib.Seq.{take-suc, take-set-le, get_or-set_same, lt-length-set, drop-cons}
 use Rattle.semantics.specs.Text.{Text}
 use Rattle.semantics.specs.Pattern.{Pattern, In, nullable, matches}
 use Rattle.semantics.specs.Table.{positions}
-use Rattle.laws.specs.Basics.{not_both, false_of_not_true, and_both, and_of, bool_cases, cond_true, cond_false}
+use Rattle.laws.specs.Basics.{not_both, false_of_not_true, and_both, and_of, bool_cases}
 use Rattle.laws.specs.Membership.{matches_in_lem, in_nullable, nullable_in}
 use Rattle.laws.specs.PositionAutomaton.{stands_at, first_at, last_at, follow_at, rest_at, ReadsAt, first_law, follow_law, last_law}
 use Rattle.laws.specs.Paths.{LeastStep}
 use Rattle.positions.specs.declared.Set.{Set}
-use Rattle.positions.specs.Positions.{holds, Removed, Met, FirstFrom}
+use Rattle.positions.specs.declared.Below.{Below}
+use Rattle.positions.specs.Positions.{holds, Met, FirstFrom}
+use Rattle.positions.specs.Below.{Taken, Done}
+use Rattle.positions.proofs.Walk.{WalkAt, at_start, at_first, at_inside, at_next, at_end}
 use Rattle.automaton.specs.declared.Automaton.{Automaton}
 use Rattle.automaton.specs.Rows.{stands_in, Room, Describes, follow_of}
 use Rattle.language.specs.Runs.{Behind}
-use Rattle.language.proofs.Gathering.{LeftFrom, left_begins, left_first, left_next, left_on}
 use Rattle.language.proofs.Steps.{stands_is, counted}
 use Rattle.walks.specs.declared.Walk.{Walk}
-use Rattle.walks.specs.Walking.{Reads, Lowest, Alone, Past, ReadsOn, Walked, walk_at}
+use Rattle.walks.specs.Walking.{Reads, NoneReads, Lowest, Alone, Past, ReadsOn, Walked, walk_at}
+use Rattle.std.specs.Prelude.{Option, None, Some, IfSome}
+use Rattle.std.specs.Option.{is_some}
 
 -- a text belongs exactly if it can be read on from the first positions
 whole_reads : (r : Pattern) (t : Text) → In r t ↔ ReadsOn r (nullable r) (first_at r) t
@@ -119,120 +123,102 @@ module _ {prepared : List ℕ} {a : Automaton} {text path : List ℕ} where
     walked_stuck r d none =
         false_of_not_true (matches r text) (λ e. none ((rw left_is at (known.so_far r d).belongs_iff).0 (matches_in_lem r text e)))
 
--- A walk that passed no position yet begins, and one that passed p last has come past it.
-pub walk_none : (a : Automaton) (at passed : ℕ) (set : Set) → 128 ≤ passed → ◌≡◌ {A = Walk} (record { at = at; here = a.nullable; set = set }) (walk_at a at passed set)
-walk_none a at passed set h =
-    λ k. record { at = at; here = sym (cond_true (leb 128 passed) a.nullable (holds a.last passed) (le-leb 128 passed h)) k; set = set }
-
-pub walk_passed :
-    (a : Automaton) (at passed : ℕ) (set : Set) {here : Bool} → passed < 128 → here ≡ holds a.last passed
-    → ◌≡◌ {A = Walk} (record { at = at; here = here; set = set }) (walk_at a at passed set)
-walk_passed a at passed set h is =
-    λ k. record { at = at; here = (is ∙ sym (cond_false (leb 128 passed) a.nullable (holds a.last passed) (lt-leb 128 passed h))) k; set = set }
-
+-- A walk that passed p last has come past it.
 pub past_at :
     {prepared : List ℕ} {a : Automaton} {p at : ℕ} {set : Set} → Room a prepared → p < a.count → set ≡ follow_of prepared (a.start + p)
-    → Past prepared a p at (walk_at a at p set)
-past_at {a = a} {p} {at} room l is =
+    → Past prepared a p at (walk_at a at (Some p) set)
+past_at {p = p} room l is =
     record {
       at_is = refl;
-      here_is = λ r d. cond_false (leb 128 p) a.nullable (holds a.last p) (lt-leb 128 p (omega (arith, room.few))) ∙ d.last_is p;
+      here_is = λ r d. d.last_is p;
       set_is = λ r d q. rw is ((d.row_is p (counted room d p l)).follow_is q);
     }
 
 -- ---- The positions of a set, one after the other
 
--- The place is a position of the set or past all, and what is left are the positions from it on.
-pub record NextOf (due : Set) (p : ℕ) (left : Set) : Type 0 where
-  pub at_one : p < 128 → holds due p ≡ true
-  pub left_from : LeftFrom due p left
+-- None of the positions before the place reads the byte, or the one that was found does and no other.
+abbrev pub OneBefore : List ℕ → Automaton → Set → ℕ → ℕ → Option ℕ → Type 0
+OneBefore prepared a due byte place None = (q : ℕ) → q < place → Reads prepared a due byte q → ⊥
+OneBefore prepared a due byte place (Some found) = Reads prepared a due byte found × ((q : ℕ) → q < place → Reads prepared a due byte q → q ≡ found)
 
-pub next_begins : {due : Set} {p : ℕ} → FirstFrom due 0 p → NextOf due p due
-next_begins first = record { at_one = first.held; left_from = left_begins first }
-
--- The first of what is left goes: then comes the next position of the set.
-module _ {due left : Set} {n : ℕ} (known : NextOf due n left) (below : n < 128) {rest : Set} {p : ℕ} (less : (k : ℕ) → FirstFrom left 0 k → Removed left k rest) (first : FirstFrom rest 0 p) where
-  removed : Removed left n rest
-  removed = less n (left_first known.left_from below (known.at_one below))
-
-  pub next_first : FirstFrom due (n + 1) p
-  next_first = left_next known.left_from below (known.at_one below) removed first
-
-  pub next_on : NextOf due p rest
-  next_on = record { at_one = next_first.held; left_from = left_on known.left_from below (known.at_one below) removed first }
-
--- None of the positions before p reads the byte.
-pub record NoneBefore (prepared : List ℕ) (a : Automaton) (due : Set) (byte p : ℕ) : Type 0 where
-  pub none : (q : ℕ) → q < p → Reads prepared a due byte q → ⊥
-
--- Of the positions before p the one that was found reads the byte, and no other; if none was found, none does.
-pub record OneBefore (prepared : List ℕ) (a : Automaton) (due : Set) (byte p found : ℕ) : Type 0 where
-  pub reads : found < 128 → Reads prepared a due byte found
-  pub no_other : (q : ℕ) → q < p → Reads prepared a due byte q → q ≡ found
+-- So it is for the positions that have come on a walk, those before some place.
+pub record OneCame (prepared : List ℕ) (a : Automaton) (due : Set) (byte : ℕ) (walk : Below) (found : Option ℕ) : Type 0 where
+  pub place : ℕ
+  pub comes : WalkAt due a.count walk place
+  pub one : OneBefore prepared a due byte place found
 
 module _ {prepared : List ℕ} {a : Automaton} {due : Set} {byte : ℕ} where
-  -- What is true of each position before n that reads the byte, and of n if it does, is true of each before the next position.
+  -- What is true of each position before n that reads the byte, and of the next one if it does, is true of each before what is behind that.
   passed_on :
       (P : ℕ → Type 0) {n p : ℕ}
       → ((q : ℕ) → q < n → Reads prepared a due byte q → P q)
-      → (Reads prepared a due byte n → P n)
-      → FirstFrom due (n + 1) p
-      → (q : ℕ) → q < p → Reads prepared a due byte q → P q
-  passed_on P {n} before here next q h reads =
+      → (Reads prepared a due byte p → P p)
+      → FirstFrom due n p
+      → (q : ℕ) → q < p + 1 → Reads prepared a due byte q → P q
+  passed_on P {n} {p} before here next q h reads =
       ⊎_elim
       (λ e. before q (ltb-true q n e) reads)
       (λ e.
       let k = ltb-false q n e in
       ⊎_elim
-      (λ z. let same = eqb-true q n z in subst P (sym same) (here (subst (Reads prepared a due byte) same reads)))
-      (λ z. let ne = eqb-false q n z in absurd (not_both reads.held (next.skipped q (omega arith) h)))
-      (bool_cases (eqb q n)))
+      (λ z. let same = eqb-true q p z in subst P (sym same) (here (subst (Reads prepared a due byte) same reads)))
+      (λ z. let ne = eqb-false q p z in absurd (not_both reads.held (next.skipped q k (omega arith))))
+      (bool_cases (eqb q p)))
       (bool_cases (ltb q n))
 
-  -- Before the first position of a set there is none.
-  pub none_begins : {p : ℕ} → FirstFrom due 0 p → NoneBefore prepared a due byte p
-  none_begins first = record { none = λ q h reads. not_both reads.held (first.skipped q (omega arith) h) }
+  pub one_begins : {walk of : Below} → walk ≡ of → of ≡ record { left = due; end = a.count } → OneCame prepared a due byte walk None
+  one_begins same begun = record { place = 0; comes = at_start same begun; one = λ q l reads. absurd (omega arith) }
 
-  pub one_begins : {p : ℕ} → FirstFrom due 0 p → OneBefore prepared a due byte p 128
-  one_begins first =
-      record { reads = λ l. absurd (omega arith); no_other = λ q h reads. absurd ((none_begins first).none q h reads) }
+  module _ {walk after : Below} {p : ℕ} (taken : Taken walk p after) where
+    -- The position that comes reads the byte, if it may stand there.
+    pub reads_here : {found : Option ℕ} → OneCame prepared a due byte walk found → stands_in prepared (a.start + p) byte ≡ true → Reads prepared a due byte p
+    reads_here known stands = record { inside = at_inside known.comes taken; held = (at_first known.comes taken).held taken.small; stands = stands }
 
-  -- A position at which the byte may not stand is passed.
-  module _ {n p : ℕ} (not-here : stands_in prepared (a.start + n) byte ≡ false) (next : FirstFrom due (n + 1) p) where
-    pub none_on : NoneBefore prepared a due byte n → NoneBefore prepared a due byte p
-    none_on before =
-        record { none = passed_on (λ q. ⊥) before.none (λ reads. not_both reads.stands not-here) next }
-
-    pub one_kept : {found : ℕ} → OneBefore prepared a due byte n found → OneBefore prepared a due byte p found
-    one_kept {found} before =
+    -- Where none came that reads it, it is the lowest.
+    pub lowest_here : OneCame prepared a due byte walk None → stands_in prepared (a.start + p) byte ≡ true → Lowest prepared a due byte p
+    lowest_here known stands =
         record {
-          reads = before.reads;
-          no_other = passed_on (λ q. q ≡ found) before.no_other (λ reads. absurd (not_both reads.stands not-here)) next;
+          reads = reads_here known stands;
+          none_lower = λ q l reads. passed_on (λ k. k < p → ⊥) (λ k m j _. known.one k m j) (λ j m. omega arith) (at_first known.comes taken) q (omega arith) reads l;
         }
 
-  -- The first at which it may stand is found.
-  pub one_found :
-      {n p found : ℕ}
-      → a.count ≤ 128
-      → 128 ≤ found
-      → Reads prepared a due byte n
-      → FirstFrom due (n + 1) p
-      → OneBefore prepared a due byte n found
-      → OneBefore prepared a due byte p n
-  one_found {n} few none_yet here next before =
-      record {
-        reads = λ l. here;
-        no_other = passed_on (λ q. q ≡ n) (λ q h reads. absurd (omega (arith, before.no_other q h reads, reads.inside))) (λ reads. refl) next;
-      }
+    -- The first at which it may stand is found.
+    pub one_found : (found : Option ℕ) → is_some found ≡ false → OneCame prepared a due byte walk found → stands_in prepared (a.start + p) byte ≡ true → OneCame prepared a due byte after (Some p)
+    one_found (Some found) none known stands = absurd (true≢false none)
+    one_found None none known stands =
+        record {
+          place = p + 1;
+          comes = at_next known.comes taken;
+          one = (reads_here known stands, passed_on (λ q. q ≡ p) (λ q l reads. absurd (known.one q l reads)) (λ reads. refl) (at_first known.comes taken));
+        }
 
-  -- Past all positions, what was found is the answer.
-  pub none_lowest : {p : ℕ} → a.count ≤ p → NoneBefore prepared a due byte p → Lowest prepared a due byte 128
-  none_lowest past before =
-      record { reads = λ l. absurd (omega arith); none_lower = λ q h reads. before.none q (omega (arith, reads.inside)) reads }
+    -- One at which it may not stand is passed.
+    pub one_kept : (found : Option ℕ) → OneCame prepared a due byte walk found → stands_in prepared (a.start + p) byte ≡ false → OneCame prepared a due byte after found
+    one_kept None known not-here =
+        record {
+          place = p + 1;
+          comes = at_next known.comes taken;
+          one = passed_on (λ q. ⊥) known.one (λ reads. not_both reads.stands not-here) (at_first known.comes taken);
+        }
+    one_kept (Some found) known not-here =
+        record {
+          place = p + 1;
+          comes = at_next known.comes taken;
+          one = (known.one.0, passed_on (λ q. q ≡ found) known.one.1 (λ reads. absurd (not_both reads.stands not-here)) (at_first known.comes taken));
+        }
 
-  pub one_alone : {p found : ℕ} → a.count ≤ p → OneBefore prepared a due byte p found → Alone prepared a due byte found
-  one_alone past before =
-      record { reads = before.reads; no_other = λ l q reads. before.no_other q (omega (arith, reads.inside)) reads }
+  -- Once none is left, what was found is the answer.
+  module _ {walk : Below} (done : Done walk) where
+    before_all : {place q : ℕ} → WalkAt due a.count walk place → Reads prepared a due byte q → q < place
+    before_all {place} {q} comes reads =
+        ⊎_elim (λ e. ltb-true q place e) (λ e. absurd (not_both reads.held (at_end comes done q (ltb-false q place e) reads.inside))) (bool_cases (ltb q place))
+
+    pub none_reads : OneCame prepared a due byte walk None → NoneReads prepared a due byte
+    none_reads known = record { none = λ q reads. known.one q (before_all known.comes reads) reads }
+
+    pub one_alone : (found : Option ℕ) → OneCame prepared a due byte walk found → IfSome found (Alone prepared a due byte)
+    one_alone None known = tt
+    one_alone (Some found) known = record { reads = known.one.0; no_other = λ q reads. known.one.1 q (before_all known.comes reads) reads }
 
 -- ---- Which position a step takes
 

@@ -12,25 +12,25 @@ use Rattle.laws.specs.Basics.{bool_cases}
 use Rattle.positions.specs.declared.Set.{Set}
 use Rattle.automaton.specs.declared.Automaton.{Automaton}
 use Rattle.automaton.specs.Rows.{follow_of}
-use Rattle.walks.specs.Walking.{Alone, DueBehind, StepsKept, NoSteps}
+use Rattle.walks.specs.Walking.{Alone, StepsKept}
 
--- zeros keep none
-pub zeros_none : (n : ℕ) → n ≤ 8192 → NoSteps (replicate n 0)
-zeros_none n h =
-    let size = length-replicate {A = ℕ} n 0 in
-    record { few = omega (arith, size); none_kept = λ i l. get_or-replicate {A = ℕ} n i 0 0 (omega (arith, size)) }
+module _ {prepared : List ℕ} {a : Automaton} where
+  -- zeros keep none
+  pub zeros_kept : {n : ℕ} {steps : List ℕ} → n ≤ 8192 → steps ≡ replicate n 0 → StepsKept prepared a steps
+  zeros_kept {n} {steps} h is =
+      let size : length steps ≡ n = rw is (length-replicate {A = ℕ} n 0) in
+      record {
+        few = omega (arith, size);
+        kept_is = λ passed byte step s l e.
+            let zero : get_or steps (256 * passed + byte) 0 ≡ 0 = rw is (get_or-replicate {A = ℕ} n (256 * passed + byte) 0 0 (omega (arith, size))) in
+            absurd (omega arith);
+      }
 
 module _ {prepared : List ℕ} {a : Automaton} {steps : List ℕ} where
-  pub none_kept : NoSteps steps → StepsKept prepared a steps
-  none_kept none = record { few = none.few; kept_is = λ passed byte step s l e. absurd (omega (arith, none.none_kept (256 * passed + byte) l)) }
-
   module _
-      {passed byte : ℕ} {due : Set} (behind : DueBehind prepared a passed due) (known : StepsKept prepared a steps) (small : byte < 256)
+      (passed byte : ℕ) {due : Set} (due_here : due ≡ follow_of prepared (a.start + passed)) (known : StepsKept prepared a steps) (small : byte < 256)
       (inside : 256 * passed + byte < length steps)
     where
-      due_here : due ≡ follow_of prepared (a.start + passed)
-      due_here = behind.due_is (omega (arith, known.few))
-
       -- a step that is kept is the one that would be found
       pub kept_alone : 0 < get_or steps (256 * passed + byte) 0 → Alone prepared a due byte (get_or steps (256 * passed + byte) 0 - 1)
       kept_alone l = rw due_here (known.kept_is passed byte (get_or steps (256 * passed + byte) 0 - 1) small inside (omega arith)).1

@@ -1,5 +1,5 @@
 -- A path is found byte by byte: which positions a step chooses from, which steps are kept, and what is known of the text so far.
-use Rattle.std.specs.Prelude.{◌≡◌, Bool, true, cond, List, [], ◌∷◌, ◌++◌, ◌↔◌, ℕ, ◌+◌, ◌*◌, ◌≤◌, ◌<◌, leb, length, get_or, take, drop}
+use Rattle.std.specs.Prelude.{◌≡◌, Bool, true, List, [], ◌∷◌, ◌++◌, ◌↔◌, ℕ, ◌+◌, ◌*◌, ◌≤◌, ◌<◌, length, get_or, take, drop, Option, None, Some}
 use Rattle.semantics.specs.Text.{Text}
 use Rattle.semantics.specs.Pattern.{Pattern, In}
 use Rattle.laws.specs.PositionAutomaton.{last_at, follow_at, ReadsAt}
@@ -18,15 +18,19 @@ pub record Reads (prepared : List ℕ) (a : Automaton) (due : Set) (byte p : ℕ
   pub held : holds due p ≡ true
   pub stands : stands_in prepared (a.start + p) byte ≡ true
 
--- p is the lowest such position; where there is none, p is 128.
+-- There is no such position.
+pub record NoneReads (prepared : List ℕ) (a : Automaton) (due : Set) (byte : ℕ) : Type 0 where
+  pub none : (q : ℕ) → Reads prepared a due byte q → ⊥
+
+-- p is the lowest such position.
 pub record Lowest (prepared : List ℕ) (a : Automaton) (due : Set) (byte p : ℕ) : Type 0 where
-  pub reads : p < 128 → Reads prepared a due byte p
+  pub reads : Reads prepared a due byte p
   pub none_lower : (q : ℕ) → q < p → Reads prepared a due byte q → ⊥
 
--- p is the only such position; where there is none, or are several, p is 128.
+-- p is the only such position.
 pub record Alone (prepared : List ℕ) (a : Automaton) (due : Set) (byte p : ℕ) : Type 0 where
-  pub reads : p < 128 → Reads prepared a due byte p
-  pub no_other : p < 128 → (q : ℕ) → Reads prepared a due byte q → q ≡ p
+  pub reads : Reads prepared a due byte p
+  pub no_other : (q : ℕ) → Reads prepared a due byte q → q ≡ p
 
 -- The path has come past position p: the text may end there, or go on at what may follow it.
 pub record Past (prepared : List ℕ) (a : Automaton) (p at : ℕ) (walk : Walk) : Type 0 where
@@ -34,16 +38,21 @@ pub record Past (prepared : List ℕ) (a : Automaton) (p at : ℕ) (walk : Walk)
   pub here_is : (r : Pattern) → Describes r a prepared → walk.here ≡ last_at r p
   pub set_is : (r : Pattern) → Describes r a prepared → (q : ℕ) → holds walk.set q ≡ follow_at r p q
 
--- the walk that has passed a position last, or none yet if it is 128 or more
-abbrev pub walk_at : Automaton → ℕ → ℕ → Set → Walk
-walk_at a at passed set = record { at = at; here = cond (leb 128 passed) a.nullable (holds a.last passed); set = set }
+-- whether a text may end at the position passed last, or where none was passed yet
+abbrev pub may_end : Automaton → Option ℕ → Bool
+may_end a None = a.nullable
+may_end a (Some p) = holds a.last p
+
+-- the walk that has passed a position last, or none yet
+abbrev pub walk_at : Automaton → ℕ → Option ℕ → Set → Walk
+walk_at a at passed set = record { at = at; here = may_end a passed; set = set }
 
 -- ---- Steps that are kept
 
--- The set has the positions that may follow the one passed last; where none was passed yet, that is 128.
-pub record DueBehind (prepared : List ℕ) (a : Automaton) (passed : ℕ) (due : Set) : Type 0 where
-  pub bounded : passed ≤ 128
-  pub due_is : passed < 128 → due ≡ follow_of prepared (a.start + passed)
+-- The set has the positions that may follow the one passed last, if one was passed.
+abbrev pub DueBehind : List ℕ → Automaton → Option ℕ → Set → Type 0
+DueBehind prepared a None due = Unit {0}
+DueBehind prepared a (Some p) due = (p < 128) × (due ≡ follow_of prepared (a.start + p))
 
 -- Of the first 32 positions and each byte, the slice may have the step from that position by that byte, as a number that is one more. 0 says that none is kept.
 pub record StepsKept (prepared : List ℕ) (a : Automaton) (steps : List ℕ) : Type 0 where
@@ -51,11 +60,6 @@ pub record StepsKept (prepared : List ℕ) (a : Automaton) (steps : List ℕ) : 
   pub kept_is :
       (passed byte step : ℕ) → byte < 256 → 256 * passed + byte < length steps → get_or steps (256 * passed + byte) 0 ≡ step + 1
       → (step < 128) × Alone prepared a (follow_of prepared (a.start + passed)) byte step
-
--- No step is kept.
-pub record NoSteps (steps : List ℕ) : Type 0 where
-  pub few : length steps ≤ 8192
-  pub none_kept : (i : ℕ) → i < length steps → get_or steps i 0 ≡ 0
 
 -- ---- The path so far
 

@@ -1,10 +1,11 @@
 // The least path of a text, forward, as long as there is one way to go.
 #![tactic(auto)]
 
-ghost use Rattle.std.specs.Prelude.{◌≡◌, ◌<◌, length};
+ghost use Rattle.std.specs.Prelude.{◌≡◌, ◌<◌, length, IfSome, MatchOption};
 ghost use Rattle.automaton.specs.Rows.{Room};
-ghost use Rattle.walks.specs.Walking.{Lowest, Alone, Past, walk_at, DueBehind, NoSteps, StepsKept, Walked};
+ghost use Rattle.walks.specs.Walking.{NoneReads, Lowest, Alone, Past, walk_at, DueBehind, StepsKept, Walked};
 
+use arrays::filled;
 use automaton::Automaton;
 use positions::Set;
 
@@ -21,44 +22,32 @@ pub struct Walk {
 
 // ---- One step
 
-// The lowest of the positions at which the byte may stand; `Set::SIZE` if there is none.
-pub fn lowest(prepared: &[u64], a: Automaton, due: Set, byte: u8) -> usize
+// The lowest of the positions at which the byte may stand.
+pub fn lowest(prepared: &[u64], a: Automaton, due: Set, byte: u8) -> Option<usize>
     requires { Room a prepared.now }
-    ensures { Lowest prepared.now a due byte result }
+    ensures { MatchOption result (NoneReads prepared.now a due byte) (Lowest prepared.now a due byte) }
 {
-    let count = a.count;
-    let mut left = due;
-    let mut p = left.first_from(0);
-    while p < count {
-        let row = a.start + p;
-        if automaton::stands(prepared, row, byte) {
-            return p;
+    for p in due.below(a.count) {
+        if automaton::stands(prepared, a.start + p, byte) {
+            return Some(p);
         }
-        left = left.rest();
-        p = left.first_from(0);
     }
-    Set::SIZE
+    None
 }
 
-// The only one of the positions at which the byte may stand; `Set::SIZE` if there is none or more than one.
-fn alone(prepared: &[u64], a: Automaton, due: Set, byte: u8) -> usize
+// The only one of the positions at which the byte may stand; `None` if there is none or more than one.
+fn alone(prepared: &[u64], a: Automaton, due: Set, byte: u8) -> Option<usize>
     requires { Room a prepared.now }
-    ensures { Alone prepared.now a due byte result }
+    ensures { IfSome result (Alone prepared.now a due byte) }
 {
-    let count = a.count;
-    let mut left = due;
-    let mut found = Set::SIZE;
-    let mut p = left.first_from(0);
-    while p < count {
-        let row = a.start + p;
-        if automaton::stands(prepared, row, byte) {
-            if found < Set::SIZE {
-                return Set::SIZE;
+    let mut found = None;
+    for p in due.below(a.count) {
+        if automaton::stands(prepared, a.start + p, byte) {
+            if found.is_some() {
+                return None;
             }
-            found = p;
+            found = Some(p);
         }
-        left = left.rest();
-        p = left.first_from(0);
     }
     found
 }
@@ -69,34 +58,24 @@ pub fn past(prepared: &[u64], a: Automaton, p: usize, at: usize) -> Walk
     requires p_lt_count { p < a.count }
     ensures { Past prepared.now a p at result }
 {
-    let last = a.last;
-    let row = a.start + p;
     Walk {
         at,
-        here: last.has(p),
-        set: automaton::follow(prepared, row),
+        here: a.last.has(p),
+        set: automaton::follow(prepared, a.start + p),
     }
 }
 
 // ---- Forward, as long as there is one way to go
 
-// A walk that has passed a position last; `Set::SIZE` if it has passed none. So it is asked once, at the walk's end, whether the text may end there.
-fn walk_at(a: Automaton, at: usize, passed: usize, set: Set) -> Walk
+// A walk that has passed a position last, or none yet. So it is asked once, at the walk's end, whether the text may end there.
+fn walk_at(a: Automaton, at: usize, passed: Option<usize>, set: Set) -> Walk
     ensures { result ≡ walk_at a at passed set }
 {
-    if Set::SIZE <= passed {
-        return Walk {
-            at,
-            here: a.nullable,
-            set,
-        };
-    }
-    let last = a.last;
-    Walk {
-        at,
-        here: last.has(passed),
-        set,
-    }
+    let here = match passed {
+        None => a.nullable,
+        Some(p) => a.last.has(p),
+    };
+    Walk { at, here, set }
 }
 
 // ---- Steps that are kept
@@ -104,41 +83,36 @@ fn walk_at(a: Automaton, at: usize, passed: usize, set: Set) -> Walk
 // How many steps there is room for: one for each byte behind each of the first 32 positions.
 const STEPS: usize = 8192;
 
-// Room for steps, with none kept.
-fn no_steps() -> [u8; STEPS]
-    ensures { NoSteps result }
-{
-    [0u8; STEPS]
-}
-
 // The only one of the positions at which the byte may stand, as `alone` tells it; `due` has those that may follow the position passed last. A step that was
 // found stands behind that position, as a number that is one more, and is not asked for again.
+// Kept by hand, and no `Option`: one of a byte takes twice the room, which is cleared for each long text.
 fn step_alone(
     prepared: &[u64],
     a: Automaton,
-    passed: usize,
+    passed: Option<usize>,
     due: Set,
     byte: u8,
     steps: &mut [u8],
-) -> usize
+) -> Option<usize>
     requires room { Room a prepared.now }
     requires due_behind { DueBehind prepared.now a passed due }
     requires steps_kept { StepsKept prepared.now a steps.old }
-    ensures { Alone prepared.now a due byte result × StepsKept prepared.now a steps.new }
+    ensures { IfSome result (Alone prepared.now a due byte) × StepsKept prepared.now a steps.new }
 {
-    let i = 256 * passed + byte as usize;
+    let Some(behind) = passed else {
+        return alone(prepared, a, due, byte);
+    };
+    let i = 256 * behind + byte as usize;
     if steps.len() <= i {
         return alone(prepared, a, due, byte);
     }
     let kept = steps[i] as usize;
     if 0 < kept {
-        return kept - 1;
+        return Some(kept - 1);
     }
-    let p = alone(prepared, a, due, byte);
-    if p < Set::SIZE {
-        steps[i] = (p + 1) as u8;
-    }
-    p
+    let p = alone(prepared, a, due, byte)?;
+    steps[i] = (p + 1) as u8;
+    Some(p)
 }
 
 // The path up to the first byte at which there is a choice, or none can be made.
@@ -155,19 +129,16 @@ fn walk_alone(
     ensures { Walked prepared.now a text.now path.new result }
 {
     let mut due = a.first;
-    let mut passed = Set::SIZE;
-    let mut i = 0;
-    while i < text.len() {
-        let p = step_alone(prepared, a, passed, due, text[i], steps);
-        if Set::SIZE <= p {
+    let mut passed = None;
+    for (i, byte) in text.iter().enumerate() {
+        let Some(p) = step_alone(prepared, a, passed, due, *byte, steps) else {
             return walk_at(a, i, passed, due);
-        }
+        };
         path[i] = p as u8;
-        i += 1;
-        passed = p;
+        passed = Some(p);
         due = automaton::follow(prepared, a.start + p);
     }
-    walk_at(a, i, passed, due)
+    walk_at(a, text.len(), passed, due)
 }
 
 // The same for a text that is long enough for kept steps to be worth their room.
@@ -176,7 +147,7 @@ fn walk_long(prepared: &[u64], a: Automaton, text: &[u8], path: &mut [u8]) -> Wa
     requires path_len { length path.old ≡ length text.now }
     ensures { Walked prepared.now a text.now path.new result }
 {
-    let mut steps = no_steps();
+    let mut steps: [u8; STEPS] = filled(0);
     walk_alone(prepared, a, text, path, &mut steps)
 }
 
@@ -190,6 +161,6 @@ pub fn walk_first(prepared: &[u64], a: Automaton, text: &[u8], path: &mut [u8]) 
         return walk_long(prepared, a, text, path);
     }
     // A short text would not earn the clearing of the room: an array has one number at least, and that is all.
-    let mut none = [0u8; 1];
+    let mut none: [u8; 1] = filled(0);
     walk_alone(prepared, a, text, path, &mut none)
 }

@@ -15,8 +15,8 @@ ghost use Rattle.plains.specs.Writing.{AsksNone, NoMatch, WithinBuffer, WritesBe
 ghost use Rattle.matches.specs.WithBook.{Ready, WritesMatch};
 
 use automaton::Side;
-use below::{VARIES, asks_none, count_at};
-use books::{Old, Place};
+use below::{asks_none, count_at};
+use books::Place;
 use counted::{Plain, next_counted};
 use cuts::{Ends, first_loop};
 use matches::{find_entry, write_matches};
@@ -35,7 +35,7 @@ fn plain_behind(
     spot: Spot,
     new: &[u8],
     path: &mut [u8],
-    old: Old,
+    old: Option<Place>,
     deck: &[u8],
     below: &[u64],
     out: &mut [u8],
@@ -45,14 +45,11 @@ fn plain_behind(
     requires within_buffer { WithinBuffer done out.old × AsksNone below.now spot.node done.book }
     ensures { WritesBehind bytes.now spot.node deck.now (old_text deck.now old) new.now done out.old out.new result }
 {
-    let book = done.book;
-    let wrote = done.wrote;
     let plain = Plain {
-        wrote,
+        wrote: done.wrote,
         met: done.met,
     };
-    let matches = count_at(below, spot.node);
-    if matches < VARIES {
+    if let Some(matches) = count_at(below, spot.node) {
         let more = next_counted(
             plain,
             matches as usize,
@@ -65,20 +62,18 @@ fn plain_behind(
             deck,
             out,
         );
-        let written = more.wrote;
         return Done {
-            wrote: written,
-            book,
+            wrote: more.wrote,
+            book: done.book,
             met: more.met,
         };
     }
     let more = write_plain(
         plain, bytes, prepared, spot, new, path, old, deck, below, out,
     );
-    let written = more.wrote;
     Done {
-        wrote: written,
-        book,
+        wrote: more.wrote,
+        book: done.book,
         met: more.met,
     }
 }
@@ -103,18 +98,15 @@ pub fn put(
     requires within_buffer { WithinBuffer done out.old × (length card.old ≡ 4098) }
     ensures { WritesBehind bytes.now spot.node deck.now (some (part_at deck.now place)) new.now done out.old out.new result }
 {
-    let node = spot.node;
-    let base = spot.base;
-    let old = Old::At(place);
-    let book = done.book;
-    if asks_none(below, node, book.left) {
+    let Spot { node, base } = spot;
+    let old = Some(place);
+    if asks_none(below, node, done.book.left) {
         return plain_behind(
             done, bytes, prepared, spot, new, path, old, deck, below, out,
         );
     }
     let read = Table::node(bytes, prepared, node);
-    let kind = read.kind;
-    match kind {
+    match read.kind {
         Kind::LensJoin { left, right } => {
             let cut = cut_sheet(prepared, left, right, base, path);
             let i = cut.at;
@@ -153,14 +145,13 @@ pub fn put(
         Kind::LensUnion { left, right } => {
             let choice = choose(prepared, left, right, base, new, path, place, deck);
             let arm = choice.arm;
-            let kept = choice.old;
-            match kept {
-                Old::At(place) => {
+            match choice.old {
+                Some(place) => {
                     return put(
                         done, bytes, prepared, arm, new, path, place, deck, below, card, out,
                     );
                 }
-                Old::Nothing => {
+                None => {
                     return create(
                         done, bytes, prepared, arm, new, path, deck, below, card, out,
                     );
@@ -205,18 +196,15 @@ pub fn create(
     requires within_buffer { WithinBuffer done out.old × (length card.old ≡ 4098) }
     ensures { WritesBehind bytes.now spot.node deck.now none new.now done out.old out.new result }
 {
-    let node = spot.node;
-    let base = spot.base;
-    let old = Old::Nothing;
-    let book = done.book;
-    if asks_none(below, node, book.left) {
+    let Spot { node, base } = spot;
+    let old = None;
+    if asks_none(below, node, done.book.left) {
         return plain_behind(
             done, bytes, prepared, spot, new, path, old, deck, below, out,
         );
     }
     let read = Table::node(bytes, prepared, node);
-    let kind = read.kind;
-    match kind {
+    match read.kind {
         Kind::LensJoin { left, right } => {
             let cut = cut_sheet(prepared, left, right, base, path);
             let i = cut.at;
@@ -267,7 +255,7 @@ fn write_parts(
     ends: Ends,
     new: &[u8],
     path: &mut [u8],
-    old: Old,
+    old: Option<Place>,
     deck: &[u8],
     below: &[u64],
     card: &mut [u8],
@@ -282,25 +270,22 @@ fn write_parts(
 {
     let base = spot.base;
     let part = Spot { node: child, base };
-    let last = ends.last;
-    let first = ends.first;
     let olds = ends_of(prepared, child, Side::Source, old_base(old));
     let mut left = old;
     let mut o = 0;
     while o < new.len() {
-        let e = o + first_loop(&path[o..], last, first);
+        let e = o + first_loop(&path[o..], ends.last, ends.first);
         let next = next_old(left, olds, deck);
-        let kept = next.part;
         left = next.rest;
         let piece = &new[o..e];
         let track = &mut path[o..e];
-        match kept {
-            Old::At(place) => {
+        match next.part {
+            Some(place) => {
                 done = put(
                     done, bytes, prepared, part, piece, track, place, deck, below, card, out,
                 );
             }
-            Old::Nothing => {
+            None => {
                 done = create(
                     done, bytes, prepared, part, piece, track, deck, below, card, out,
                 );
@@ -321,7 +306,7 @@ fn write_repeat(
     child: usize,
     new: &[u8],
     path: &mut [u8],
-    old: Old,
+    old: Option<Place>,
     deck: &[u8],
     below: &[u64],
     card: &mut [u8],
@@ -336,8 +321,7 @@ fn write_repeat(
     let base = spot.base;
     let ends = ends_of(prepared, child, Side::Sheet, base);
     let read = Table::node(bytes, prepared, child);
-    let kind = read.kind;
-    if let Kind::Match { child: inner } = kind {
+    if let Kind::Match { child: inner } = read.kind {
         let part = Spot { node: inner, base };
         return write_matches(
             done, bytes, prepared, spot, child, part, ends, new, path, deck, below, card, out,
@@ -367,22 +351,17 @@ fn write_match(
     requires within_buffer { WithinBuffer done out.old × (length card.old ≡ 4098) }
     ensures { WritesMatch bytes.now spot.node deck.now new.now done out.old out.new result }
 {
-    let book = done.book;
-    let wrote = done.wrote;
-    let lookup = find_entry(bytes, prepared, spot, new, path, deck, card, book);
-    let rest = lookup.book;
-    let found = lookup.old;
-    let met = wrapping_add_usize(done.met, 1);
+    let lookup = find_entry(bytes, prepared, spot, new, path, deck, card, done.book);
     let left = Done {
-        wrote,
-        book: rest,
-        met,
+        wrote: done.wrote,
+        book: lookup.book,
+        met: wrapping_add_usize(done.met, 1),
     };
-    match found {
-        Old::At(place) => put(
+    match lookup.old {
+        Some(place) => put(
             left, bytes, prepared, spot, new, path, place, deck, below, card, out,
         ),
-        Old::Nothing => create(
+        None => create(
             left, bytes, prepared, spot, new, path, deck, below, card, out,
         ),
     }

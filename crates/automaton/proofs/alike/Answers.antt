@@ -1,6 +1,5 @@
 -- `automaton::alike` meets its contract: the two numbers are compared. Assumes nothing.
 use Rattle.automaton.specs.Rows.{alike_in}
-use borrow.Author.Rules.{rules}
 use mathlib.Core.Path.{refl}
 use Rattle.automaton.proofs.alike.Goals as goal
 

@@ -1,6 +1,5 @@
 -- `automaton::class_at` meets its contract: two sets make a class. Assumes nothing.
-use borrow.Author.Rules.{rules}
 use Rattle.automaton.proofs.class_at.Goals as goal
 
 pub returns : goal.returns
-returns c = rw (c.set_at-high.ensures, c.set_at-low.ensures)
+returns c = rw (c.set_at.ensures, c.set_at-2.ensures)

@@ -1,5 +1,4 @@
 -- `automaton::first_shared` meets its contract: a letter is asked of the other position, two classes are compared. Assumes nothing.
-use borrow.Author.Rules.{rules}
 use Rattle.automaton.proofs.Standing.{first_letter, first_of_classes, first_turned}
 use Rattle.automaton.proofs.first_shared.Goals as goal
 

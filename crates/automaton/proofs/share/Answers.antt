@@ -1,6 +1,5 @@
 -- `automaton::share` meets its contract: a letter is asked of the other position, two classes are compared. Assumes nothing.
 use Rattle.automaton.proofs.Standing.{share_first, share_second, share_classes}
-use borrow.Author.Rules.{rules}
 use mathlib.Core.Path.{◌∙◌}
 use Rattle.automaton.proofs.share.Goals as goal
 

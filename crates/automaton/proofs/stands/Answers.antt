@@ -2,7 +2,6 @@
 use Rattle.positions.specs.Positions.{bit}
 use Rattle.positions.proofs.Bits.{same_test}
 use Rattle.automaton.proofs.Standing.{stands_letter, stands_class, class_bit}
-use borrow.Author.Rules.{rules}
 use mathlib.Core.Path.{sym, ◌∙◌}
 use native.Mathlib.Omega.{arith}
 use Rattle.automaton.proofs.stands.Goals as goal

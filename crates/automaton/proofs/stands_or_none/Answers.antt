@@ -1,5 +1,4 @@
 -- `automaton::stands_or_none` meets its contract: the byte, if it may stand there. Assumes nothing.
-use borrow.Author.Rules.{rules}
 use mathlib.Core.Path.{sym, ◌∙◌}
 use Rattle.laws.specs.Basics.{cond_true, cond_false}
 use Rattle.automaton.specs.Rows.{stands_or_none}

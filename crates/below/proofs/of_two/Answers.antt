@@ -1,9 +1,8 @@
 -- `below::of_two` meets its contract. Assumes nothing.
 use mathlib.Core.Path.{◌∙◌}
+use Prim.Native.Nat.{◌+◌}
+use Rattle.below.proofs.Lower.{capped}
 use Rattle.below.proofs.of_two.Goals as goal
 
-pub returns-then-union : goal.returns-then-union
-returns-then-union c = c.same_of.ensures ∙ rw c.if-union.true
-
-pub returns : goal.returns
-returns c = c.sum_of.ensures ∙ rw c.if-union.false
+pub returns-else-union : goal.returns-else-union
+returns-else-union c m n e f = rw c.if-union.false (c.sum_of.ensures m n e f ∙ capped (m + n))

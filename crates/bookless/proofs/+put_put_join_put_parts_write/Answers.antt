@@ -5,12 +5,13 @@ use borrow.Author.Rules.{rules}
 use native.Mathlib.Omega.{arith}
 use Prim.Native.Nat.{ℕ, suc, ◌+◌, ◌*◌, ◌≤◌, ◌<◌, max}
 use native.Mathlib.Nat.{le-max_left, le-max_right, max-le, suc-max-suc}
-use mathlib.Core.Path.{refl, sym, ◌∙◌}
+use mathlib.Core.Path.{sym, ◌∙◌}
+use mathlib.Core.Logic.{inl, inr}
 use Rattle.automaton.specs.declared.Side.TheVariants.{Source, Sheet}
 use Rattle.lens.specs.Reading.{mode_side}
 use Rattle.texts.specs.Cutting.{part_length_lem}
 use Rattle.lens.specs.Nodes.{
-  lens_read,
+  no_pattern,
   shown_join,
   shown_union,
   shown_repeat,
@@ -72,35 +73,18 @@ put-emit-requires t c =
 
 pub put-returns-in-Word : goal.put-returns-in-Word
 put-returns-in-Word t c =
-    lens_read _ c.requires.lens_node c.node-read.ensures c.in-Word.is refl
-
-pub put-returns-in-OneOf : goal.put-returns-in-OneOf
-put-returns-in-OneOf t c =
-    lens_read _ c.requires.lens_node c.node-read.ensures c.in-OneOf.is refl
-
-pub put-returns-in-PatternJoin : goal.put-returns-in-PatternJoin
-put-returns-in-PatternJoin t c =
-    lens_read _ c.requires.lens_node c.node-read.ensures c.in-PatternJoin.is refl
-
-pub put-returns-in-PatternUnion : goal.put-returns-in-PatternUnion
-put-returns-in-PatternUnion t c =
-    lens_read _ c.requires.lens_node c.node-read.ensures c.in-PatternUnion.is refl
-
-pub put-returns-in-PatternRepeat : goal.put-returns-in-PatternRepeat
-put-returns-in-PatternRepeat t c =
-    lens_read _ c.requires.lens_node c.node-read.ensures c.in-PatternRepeat.is refl
+    no_pattern c.requires.lens_node c.node-read.ensures c.in-Word.is
 
 pub put-returns-in-Copy : goal.put-returns-in-Copy
 put-returns-in-Copy t c =
-    puts_copy c.node-read.ensures c.in-Copy.is c.write_text.ensures
+    elim c.in-Copy.is [
+      | inl w ↦ puts_copy c.node-read.ensures w.1 c.write_text.ensures
+      | inr w ↦ puts_key c.node-read.ensures w.1 c.write_text.ensures
+    ]
 
 pub put-returns-in-Const : goal.put-returns-in-Const
 put-returns-in-Const t c =
     puts_const c.node-read.ensures c.args.place c.args.deck.now c.in-Const.is c.write_text-in-Const.ensures
-
-pub put-returns-in-Key : goal.put-returns-in-Key
-put-returns-in-Key t c =
-    puts_key c.node-read.ensures c.in-Key.is c.write_text-in-Key.ensures
 
 pub put-returns-in-LensJoin : goal.put-returns-in-LensJoin
 put-returns-in-LensJoin t c =
@@ -131,22 +115,22 @@ put_join-halves_of-halves-requires t c =
     let known = c.requires.lens_node.0 in
     let given = c.requires.given_join in record { prepared = (node_prepared known Source, join_inside given); in_bounds = given.deck_room }
 
-pub put_join-slice_bounds-front-end : goal.put_join-slice_bounds-front-end
-put_join-slice_bounds-front-end t c =
-    let known = c.requires.lens_node.0 in
-    let given = c.requires.given_join in
-    let inside = cut_inside known given.parsed c.cut_sheet-cut.ensures in
-    inside.0
-
 pub put_join-slice_bounds-put-end : goal.put_join-slice_bounds-put-end
 put_join-slice_bounds-put-end t c =
     let known = c.requires.lens_node.0 in
     let given = c.requires.given_join in
     let inside = cut_inside known given.parsed c.cut_sheet-cut.ensures in
+    inside.0
+
+pub put_join-slice_bounds-put-end-2 : goal.put_join-slice_bounds-put-end-2
+put_join-slice_bounds-put-end-2 t c =
+    let known = c.requires.lens_node.0 in
+    let given = c.requires.given_join in
+    let inside = cut_inside known given.parsed c.cut_sheet-cut.ensures in
     inside.1
 
-pub put_join-put-wrote-requires : goal.put_join-put-wrote-requires
-put_join-put-wrote-requires t c =
+pub put_join-put-requires : goal.put_join-put-requires
+put_join-put-requires t c =
     let known = c.requires.lens_node.0 in
     let given = c.requires.given_join in
     let p = c.args.place in
@@ -156,68 +140,58 @@ put_join-put-wrote-requires t c =
     let near = near_node p deck known given cut_is halves_are in
     let falls = left-falls c.args.left c.args.right in (omega (arith, near, falls, c.decreases), (rw near known, near_given p deck known given cut_is halves_are))
 
-pub put_join-returns-in_default : goal.put_join-returns-in_default
-put_join-returns-in_default t c =
-    let known = c.requires.lens_node.0 in
-    let given = c.requires.given_join in
-    let p = c.args.place in
-    let deck = c.args.deck.now in
-    let cut_is = c.cut_sheet-cut.ensures in
-    let halves_are = c.halves_of-halves.ensures in
-    join_full p deck known given cut_is halves_are c.put-wrote.ensures c.in_default.is
-
-pub put_join-slice_bounds-back-count : goal.put_join-slice_bounds-back-count
-put_join-slice_bounds-back-count t c =
+pub put_join-slice_bounds-put-count-3 : goal.put_join-slice_bounds-put-count-3
+put_join-slice_bounds-put-count-3 t c =
     let known = c.requires.lens_node.0 in
     let given = c.requires.given_join in
     let inside = cut_inside known given.parsed c.cut_sheet-cut.ensures in
     inside.0
 
-pub put_join-slice_bounds-back-start : goal.put_join-slice_bounds-back-start
-put_join-slice_bounds-back-start t c =
+pub put_join-slice_bounds-put-start-3 : goal.put_join-slice_bounds-put-start-3
+put_join-slice_bounds-put-start-3 t c =
     let known = c.requires.lens_node.0 in
     let given = c.requires.given_join in
     let inside = cut_inside known given.parsed c.cut_sheet-cut.ensures in
     inside.0
 
-pub put_join-slice_bounds-rest-count : goal.put_join-slice_bounds-rest-count
-put_join-slice_bounds-rest-count t c =
+pub put_join-slice_bounds-put-count-5 : goal.put_join-slice_bounds-put-count-5
+put_join-slice_bounds-put-count-5 t c =
     let known = c.requires.lens_node.0 in
     let given = c.requires.given_join in
     let p = c.args.place in
     let deck = c.args.deck.now in
     let cut_is = c.cut_sheet-cut.ensures in
     let halves_are = c.halves_of-halves.ensures in
-    near_within p deck known given cut_is halves_are c.put-wrote.ensures c.in-Count.is
+    near_within p deck known given cut_is halves_are c.put.ensures c.in_ok-n.was
 
-pub put_join-slice_bounds-rest-start : goal.put_join-slice_bounds-rest-start
-put_join-slice_bounds-rest-start t c =
+pub put_join-slice_bounds-put-start-5 : goal.put_join-slice_bounds-put-start-5
+put_join-slice_bounds-put-start-5 t c =
     let known = c.requires.lens_node.0 in
     let given = c.requires.given_join in
     let p = c.args.place in
     let deck = c.args.deck.now in
     let cut_is = c.cut_sheet-cut.ensures in
     let halves_are = c.halves_of-halves.ensures in
-    near_within p deck known given cut_is halves_are c.put-wrote.ensures c.in-Count.is
+    near_within p deck known given cut_is halves_are c.put.ensures c.in_ok-n.was
 
-pub put_join-slice_bounds-put-count-2 : goal.put_join-slice_bounds-put-count-2
-put_join-slice_bounds-put-count-2 t c =
+pub put_join-slice_bounds-put-count-4 : goal.put_join-slice_bounds-put-count-4
+put_join-slice_bounds-put-count-4 t c =
     let known = c.requires.lens_node.0 in
     let given = c.requires.given_join in
     let inside = cut_inside known given.parsed c.cut_sheet-cut.ensures in
-    let same = part_length_lem c.args.path.now c.put-wrote.new.path 0 _ (omega arith) inside.1 (search rules) in
+    let same = part_length_lem c.args.path.now c.put.new.path 0 _ (omega arith) inside.1 (search rules) in
     omega (arith, same, inside.1)
 
-pub put_join-slice_bounds-put-start-2 : goal.put_join-slice_bounds-put-start-2
-put_join-slice_bounds-put-start-2 t c =
+pub put_join-slice_bounds-put-start-4 : goal.put_join-slice_bounds-put-start-4
+put_join-slice_bounds-put-start-4 t c =
     let known = c.requires.lens_node.0 in
     let given = c.requires.given_join in
     let inside = cut_inside known given.parsed c.cut_sheet-cut.ensures in
-    let same = part_length_lem c.args.path.now c.put-wrote.new.path 0 _ (omega arith) inside.1 (search rules) in
+    let same = part_length_lem c.args.path.now c.put.new.path 0 _ (omega arith) inside.1 (search rules) in
     omega (arith, same, inside.1)
 
-pub put_join-put-more-requires : goal.put_join-put-more-requires
-put_join-put-more-requires t c =
+pub put_join-put-requires-2 : goal.put_join-put-requires-2
+put_join-put-requires-2 t c =
     let known = c.requires.lens_node.0 in
     let given = c.requires.given_join in
     let p = c.args.place in
@@ -225,17 +199,7 @@ put_join-put-more-requires t c =
     let cut_is = c.cut_sheet-cut.ensures in
     let halves_are = c.halves_of-halves.ensures in
     let far = far_node p deck known given cut_is halves_are in
-    let falls = right-falls c.args.left c.args.right in (omega (arith, far, falls, c.decreases), (rw far c.requires.lens_node.1, far_given p deck known given cut_is halves_are c.put-wrote.new.path (search rules)))
-
-pub put_join-behind-requires : goal.put_join-behind-requires
-put_join-behind-requires t c =
-    let known = c.requires.lens_node.0 in
-    let given = c.requires.given_join in
-    let p = c.args.place in
-    let deck = c.args.deck.now in
-    let cut_is = c.cut_sheet-cut.ensures in
-    let halves_are = c.halves_of-halves.ensures in
-    join_fits p deck known given cut_is halves_are c.put-wrote.ensures c.in-Count.is c.put-more.ensures (omega (arith, c.well_formed))
+    let falls = right-falls c.args.left c.args.right in (omega (arith, far, falls, c.decreases), (rw far c.requires.lens_node.1, far_given p deck known given cut_is halves_are c.put.new.path (search rules)))
 
 pub put_join-returns : goal.put_join-returns
 put_join-returns t c =
@@ -245,7 +209,7 @@ put_join-returns t c =
     let deck = c.args.deck.now in
     let cut_is = c.cut_sheet-cut.ensures in
     let halves_are = c.halves_of-halves.ensures in
-    rw c.behind.ensures (join_next p deck known given cut_is halves_are c.put-wrote.ensures c.in-Count.is c.put-more.ensures)
+    rw c.in_ok-m.was at (join_next p deck known given cut_is halves_are c.put.ensures c.in_ok-n.was c.put-2.ensures)
 
 pub put_parts-ends_of-ends-requires : goal.put_parts-ends_of-ends-requires
 put_parts-ends_of-ends-requires t c =
@@ -271,56 +235,40 @@ put_parts-next_old-next-requires t c =
     let inv = c.loop-o.invariant in
     (old_inside inv.left_fits, inv.deck_room)
 
-pub put_parts-slice_bounds-piece-end : goal.put_parts-slice_bounds-piece-end
-put_parts-slice_bounds-piece-end t c =
+pub put_parts-slice_bounds-write-end : goal.put_parts-slice_bounds-write-end
+put_parts-slice_bounds-write-end t c =
     let inv = c.loop-o.invariant in
     let more = c.loop-o-test.true in
     let found = c.first_loop.ensures in
     (part_within inv more found).0
 
-pub put_parts-slice_bounds-track-end : goal.put_parts-slice_bounds-track-end
-put_parts-slice_bounds-track-end t c =
+pub put_parts-slice_bounds-write-end-in-loop-o : goal.put_parts-slice_bounds-write-end-in-loop-o
+put_parts-slice_bounds-write-end-in-loop-o t c =
     let inv = c.loop-o.invariant in
     let more = c.loop-o-test.true in
     let found = c.first_loop.ensures in
     (part_within inv more found).1
 
-pub put_parts-slice_bounds-rest-count : goal.put_parts-slice_bounds-rest-count
-put_parts-slice_bounds-rest-count t c =
+pub put_parts-slice_bounds-write-count-in-loop-o-2 : goal.put_parts-slice_bounds-write-count-in-loop-o-2
+put_parts-slice_bounds-write-count-in-loop-o-2 t c =
     parts_room c.loop-o.invariant
 
-pub put_parts-slice_bounds-rest-start : goal.put_parts-slice_bounds-rest-start
-put_parts-slice_bounds-rest-start t c =
+pub put_parts-slice_bounds-write-start-in-loop-o-2 : goal.put_parts-slice_bounds-write-start-in-loop-o-2
+put_parts-slice_bounds-write-start-in-loop-o-2 t c =
     parts_room c.loop-o.invariant
 
-pub put_parts-write-wrote-requires : goal.put_parts-write-wrote-requires
-put_parts-write-wrote-requires t c =
+pub put_parts-write-requires : goal.put_parts-write-requires
+put_parts-write-requires t c =
     let inv = c.loop-o.invariant in
     let more = c.loop-o-test.true in
     let found = c.first_loop.ensures in (omega (arith, inv.part.lower, c.decreases), (inv.known, part_given inv more found c.next_old-next.ensures))
-
-pub put_parts-shape_of-path-in_default : goal.put_parts-shape_of-path-in_default
-put_parts-shape_of-path-in_default t c =
-    let inv = c.loop-o.invariant in
-    let more = c.loop-o-test.true in
-    let found = c.first_loop.ensures in
-    let kept = part_length_lem c.loop-o.path c.write-wrote.new.path c.loop-o.o _ (omega arith) (part_within inv more found).1 (search rules) in
-    kept ∙ inv.as_long ∙ sym (parsed_length c.requires.given.sheet_given.parsed)
-
-pub put_parts-returns-in_default : goal.put_parts-returns-in_default
-unfolding old_text
-put_parts-returns-in_default t c =
-    let inv = c.loop-o.invariant in
-    let more = c.loop-o-test.true in
-    let found = c.first_loop.ensures in
-    parts_full inv more found c.next_old-next.ensures c.write-wrote.ensures c.in_default.is
 
 pub put_parts-overflow_add-n : goal.put_parts-overflow_add-n
 put_parts-overflow_add-n t c =
     let inv = c.loop-o.invariant in
     let more = c.loop-o-test.true in
     let found = c.first_loop.ensures in
-    let next = parts_next_put inv more found c.next_old-next.ensures c.write-wrote.ensures c.write-wrote.new.path c.in-Count.is (search rules) in
+    let next = parts_next_put inv more found c.next_old-next.ensures c.write.ensures c.write.new.path c.in_ok-m.was (search rules) in
     let room = parts_room next in
     let long = parts_length next in
     omega (arith, room, long, c.well_formed)
@@ -337,7 +285,7 @@ put_parts-loop-o-preserved t c =
     let inv = c.loop-o.invariant in
     let more = c.loop-o-test.true in
     let found = c.first_loop.ensures in
-    parts_next_put inv more found c.next_old-next.ensures c.write-wrote.ensures c.write-wrote.new.path c.in-Count.is (search rules)
+    parts_next_put inv more found c.next_old-next.ensures c.write.ensures c.write.new.path c.in_ok-m.was (search rules)
 
 pub put_parts-shape_of-path : goal.put_parts-shape_of-path
 put_parts-shape_of-path t c =
@@ -350,16 +298,64 @@ put_parts-returns t c =
 
 pub write-put-requires : goal.write-put-requires
 write-put-requires t c =
-    let given = c.requires.given_old in (omega (arith, c.decreases), (c.requires.lens_node, record { sheet_given = given.sheet_given; old_parsed = given.old_fits.fits c.in-At.place c.in-At.is }))
+    let given = c.requires.given_old in (omega (arith, c.decreases), (c.requires.lens_node, record { sheet_given = given.sheet_given; old_parsed = given.old_fits.fits c.in-Some.place c.in-Some.is }))
 
 pub write-emit-requires : goal.write-emit-requires
 unfolding mode_side
 write-emit-requires t c = record { lens_node = c.requires.lens_node; parsed = c.requires.given_old.sheet_given.parsed }
 
-pub write-returns-in-At : goal.write-returns-in-At
-write-returns-in-At t c =
-    puts_at c.in-At.place c.args.deck.now c.in-At.is c.put.ensures
+pub write-returns-in-Some : goal.write-returns-in-Some
+write-returns-in-Some t c =
+    puts_at c.in-Some.place c.args.deck.now c.in-Some.is c.put.ensures
 
-pub write-returns-in-Nothing : goal.write-returns-in-Nothing
-write-returns-in-Nothing t c =
-    puts_nothing c.args.deck.now c.in-Nothing.is (puts_created c.emit.ensures)
+pub write-returns-in-None : goal.write-returns-in-None
+write-returns-in-None t c =
+    puts_nothing c.args.deck.now c.in-None.is (puts_created c.emit.ensures)
+
+pub put_join-returns-in_err-n : goal.put_join-returns-in_err-n
+put_join-returns-in_err-n t c =
+    let known = c.requires.lens_node.0 in
+    let given = c.requires.given_join in
+    let p = c.args.place in
+    let deck = c.args.deck.now in
+    let cut_is = c.cut_sheet-cut.ensures in
+    let halves_are = c.halves_of-halves.ensures in
+    rw c.from_residual.ensures (join_full p deck known given cut_is halves_are c.put.ensures c.in_err-n.was)
+
+pub put_join-returns-in_err-m : goal.put_join-returns-in_err-m
+put_join-returns-in_err-m t c =
+    let known = c.requires.lens_node.0 in
+    let given = c.requires.given_join in
+    let p = c.args.place in
+    let deck = c.args.deck.now in
+    let cut_is = c.cut_sheet-cut.ensures in
+    let halves_are = c.halves_of-halves.ensures in
+    rw c.from_residual-in_err-m.ensures
+    (rw c.in_err-m.was at (join_next p deck known given cut_is halves_are c.put.ensures c.in_ok-n.was c.put-2.ensures))
+
+pub put_join-overflow_add-result : goal.put_join-overflow_add-result
+put_join-overflow_add-result t c =
+    let known = c.requires.lens_node.0 in
+    let given = c.requires.given_join in
+    let p = c.args.place in
+    let deck = c.args.deck.now in
+    let cut_is = c.cut_sheet-cut.ensures in
+    let halves_are = c.halves_of-halves.ensures in
+    let fits = join_fits p deck known given cut_is halves_are c.put.ensures c.in_ok-n.was c.put-2.ensures (omega (arith, c.well_formed)) in
+    omega (arith, fits.fits c.in_ok-m.m c.in_ok-m.was)
+
+pub put_parts-returns-in_err-m : goal.put_parts-returns-in_err-m
+unfolding old_text
+put_parts-returns-in_err-m t c =
+    let inv = c.loop-o.invariant in
+    let more = c.loop-o-test.true in
+    let found = c.first_loop.ensures in
+    rw c.from_residual.ensures (parts_full inv more found c.next_old-next.ensures c.write.ensures c.in_err-m.was)
+
+pub put_parts-shape_of-path-in_err-m : goal.put_parts-shape_of-path-in_err-m
+put_parts-shape_of-path-in_err-m t c =
+    let inv = c.loop-o.invariant in
+    let more = c.loop-o-test.true in
+    let found = c.first_loop.ensures in
+    let kept = part_length_lem c.loop-o.path c.write.new.path c.loop-o.o _ (omega arith) (part_within inv more found).1 (search rules) in
+    kept ∙ inv.as_long ∙ sym (parsed_length c.requires.given.sheet_given.parsed)

@@ -20,7 +20,7 @@ decreases-write l = 3 * l.spot.node + 2
 
 abbrev pub invariant-put_parts-loop-o : goal.invariant-put_parts-loop-o
 invariant-put_parts-loop-o l =
-    PartsPut l.bytes l.prepared l.node l.child l.base l.last l.first l.olds l.new l.path l.deck l.initial.out l.out l.initial.left l.left l.o l.n
+    PartsPut l.bytes l.prepared l.node l.child l.base l.ends.last l.ends.first l.olds l.new l.path l.deck l.initial.out l.out l.initial.left l.left l.o l.n
 
 abbrev pub decreases-put_parts-loop-o : goal.decreases-put_parts-loop-o
 decreases-put_parts-loop-o l =

@@ -1,22 +1,12 @@
--- `cards::fingerprint` meets its contract. The loop's invariant: the print is that of the first i bytes. Assumes nothing.
-use native.Mathlib.Omega.{arith}
+-- `cards::fingerprint` meets its contract. The loop's invariant: the print is that of the bytes so far. Assumes nothing.
 use Rattle.cards.proofs.Printing.{printed_none, printed_more, printed_all}
 use Rattle.cards.proofs.fingerprint.Goals as goal
 
-pub loop-i-init : goal.loop-i-init
-loop-i-init c = printed_none
+pub loop-byte-init : goal.loop-byte-init
+loop-byte-init c = printed_none
 
-pub overflow_cast-print : goal.overflow_cast-print
-overflow_cast-print c = omega (arith, c.shared_slice_known-1.given c.loop-i.i)
-
-pub overflow_add-print : goal.overflow_add-print
-overflow_add-print c = omega (arith, c.type_inv.text c.loop-i.i)
-
-pub overflow_add-print-in-loop-i : goal.overflow_add-print-in-loop-i
-overflow_add-print-in-loop-i c = omega (arith, c.type_inv.text c.loop-i.i)
-
-pub loop-i-preserved : goal.loop-i-preserved
-loop-i-preserved c = printed_more c.loop-i.invariant c.loop-i-test.true
+pub loop-byte-preserved : goal.loop-byte-preserved
+loop-byte-preserved c = rw c.from.ensures (printed_more c.loop-byte.invariant c.loop-byte-test.true)
 
 pub returns : goal.returns
-returns c = printed_all c.loop-i.invariant c.loop-i-test.false
+returns c = printed_all c.loop-byte.invariant c.loop-byte-test.false

@@ -2,8 +2,8 @@
 use Rattle.chosen.proofs.Parting.{tells_result, tells_refusal}
 use Rattle.chosen.proofs.is_source.Goals as goal
 
-pub returns-in-Result : goal.returns-in-Result
-returns-in-Result c = tells_result c.get-answer.ensures c.in-Result.is
+pub returns-in-Ok : goal.returns-in-Ok
+returns-in-Ok c = tells_result c.get.ensures c.in-Ok.is
 
-pub returns-in-Refusal : goal.returns-in-Refusal
-returns-in-Refusal c = tells_refusal c.get-answer.ensures c.in-Refusal.is
+pub returns-in-Err : goal.returns-in-Err
+returns-in-Err c = tells_refusal c.get.ensures c.in-Err.is

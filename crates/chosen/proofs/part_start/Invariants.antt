@@ -1,10 +1,6 @@
--- `chosen::part_start` meets its contract, one part after the other. The measure is what is left of the number. Assumes nothing.
-use Prim.Native.Nat.{◌-◌}
+-- `chosen::part_start` meets its contract, one part after the other. Assumes nothing.
 use Rattle.chosen.proofs.Parting.{Reached}
 use Rattle.chosen.proofs.part_start.Given as goal
 
-abbrev pub invariant-loop-k : goal.invariant-loop-k
-invariant-loop-k l = Reached l.bytes l.source l.number l.start l.k
-
-abbrev pub decreases-loop-k : goal.decreases-loop-k
-decreases-loop-k l = l.number - l.k
+abbrev pub invariant-loop-part : goal.invariant-loop-part
+invariant-loop-part l = Reached l.bytes l.source l.number l.start l._part

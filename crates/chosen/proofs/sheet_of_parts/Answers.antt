@@ -1,4 +1,4 @@
--- `chosen::sheet_of_parts` meets its contract: what is written, with the sheets still to come, is all. The measure is what is left of the choice. Assumes nothing.
+-- `chosen::sheet_of_parts` meets its contract: what is written, with the sheets still to come, is all. Assumes nothing.
 use mathlib.Core.Path.{refl}
 use native.Mathlib.Omega.{arith}
 use borrow.Author.Rules.{rules}
@@ -6,20 +6,20 @@ use lib.ListN.{length-take, length-drop}
 use Rattle.chosen.proofs.Gathering.{gather_begins, gather_more, gather_ends}
 use Rattle.chosen.proofs.sheet_of_parts.Goals as goal
 
-pub loop-i-init : goal.loop-i-init
-loop-i-init c = (gather_begins, refl)
+pub loop-number-init : goal.loop-number-init
+loop-number-init c = (gather_begins, refl)
 
 pub slice_bounds-sheet_of_part-count : goal.slice_bounds-sheet_of_part-count
-slice_bounds-sheet_of_part-count c = c.loop-i.invariant.0.within
+slice_bounds-sheet_of_part-count c = c.loop-number.invariant.0.within
 
 pub overflow_add-n : goal.overflow_add-n
 overflow_add-n c = omega (arith, simp (length-take, length-drop) at c.sheet_of_part-n.ensures.within)
 
-pub loop-i-preserved : goal.loop-i-preserved
-loop-i-preserved c = (gather_more c.loop-i.invariant.0 (omega arith) (search rules) c.sheet_of_part-n.ensures, search rules)
+pub loop-number-preserved : goal.loop-number-preserved
+loop-number-preserved c = (gather_more c.loop-number.invariant.0 (omega arith) (search rules) c.sheet_of_part-n.ensures, search rules)
 
 pub shape_of-out : goal.shape_of-out
-shape_of-out c = c.loop-i.invariant.1
+shape_of-out c = c.loop-number.invariant.1
 
 pub returns : goal.returns
-returns c = gather_ends c.loop-i.invariant.0 (omega arith)
+returns c = gather_ends c.loop-number.invariant.0 (omega arith)

@@ -1,22 +1,14 @@
--- `cuts::border` meets its contract. The loop's invariant: the first i positions are below n. Assumes nothing.
-use Prim.Native.Nat.{◌-◌}
-use native.Mathlib.Omega.{arith}
+-- `cuts::border` meets its contract. Assumes nothing.
+use mathlib.Core.Path.{◌∙◌}
+use lib.Dec.{leb}
 use borrow.Author.Rules.{rules}
-use lib.ListN.{length}
-use Rattle.cuts.proofs.Readings.{Bordered, bordered_none, bordered_more, bordered_here, bordered_all}
+use borrow.Author.Tests.{tests}
+use Rattle.std.proofs.lemmas.Iterator.{YieldsList-from_slice}
+use Rattle.std.proofs.lemmas.Iterator.Search.{position_from_yields_List}
+use Rattle.cuts.proofs.Readings.{border_found}
 use Rattle.cuts.proofs.border.Goals as goal
 
-pub loop-i-init : goal.loop-i-init
-loop-i-init c = bordered_none
-
-pub overflow_cast-path : goal.overflow_cast-path
-overflow_cast-path c = omega (arith, c.shared_slice_known-1.given c.loop-i.i)
-
-pub returns-then-n-path : goal.returns-then-n-path
-returns-then-n-path c = bordered_here c.loop-i.invariant c.loop-i-test.true c.if-n-path.true
-
-pub loop-i-preserved : goal.loop-i-preserved
-loop-i-preserved c = bordered_more c.loop-i.invariant c.loop-i-test.true c.if-n-path.false
-
 pub returns : goal.returns
-returns c = bordered_all c.loop-i.invariant c.loop-i-test.false
+returns c =
+    let found = position_from_yields_List (λ x. leb c.args.n x) _ _ _ c.position.ensures.ran (YieldsList-from_slice c.args.path.now cc) (λ x b q k. search (rules, tests)) in
+    c.unwrap_or.ensures ∙ border_found c.args.n c.args.path.now found

@@ -1,8 +1,7 @@
 -- `ends::may_end` meets its contract. Assumes nothing.
 use Rattle.ends.specs.Places.{flagged}
-use borrow.Author.Rules.{rules}
 use Rattle.ends.proofs.may_end.Goals as goal
 
-pub returns-then-run : goal.returns-then-run
+pub returns-then-place : goal.returns-then-place
 unfolding flagged
-returns-then-run c = rw c.if-run.true
+returns-then-place c = rw c.if-place.true

@@ -1,11 +1,7 @@
 -- `ends::next_end` meets its contract. The loop's invariant: the bytes in front of the place were read, and the first half may end at none of the places
 -- that were passed. Assumes nothing.
-use Prim.Native.Nat.{◌-◌}
 use native.Mathlib.Omega.{arith}
-use borrow.Author.Rules.{rules}
-use lib.ListN.{length}
-use Rattle.ends.specs.Places.{ReadTo}
-use Rattle.ends.proofs.Forward.{Passed, passed_none, passed_more, next_here, next_last}
+use Rattle.ends.proofs.Forward.{passed_none, passed_more, next_here, next_last}
 use Rattle.ends.proofs.next_end.Goals as goal
 
 pub loop-place-init : goal.loop-place-init

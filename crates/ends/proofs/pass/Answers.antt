@@ -1,7 +1,6 @@
 -- `ends::pass` meets its contract. Assumes nothing.
 use native.Mathlib.Omega.{arith}
 use Rattle.ends.proofs.Forward.{read_more}
-use borrow.Author.Rules.{rules}
 use Rattle.ends.proofs.pass.Goals as goal
 
 pub returns : goal.returns

@@ -1,6 +1,5 @@
 -- `ends::retreat` meets its contract. Assumes nothing.
 use Rattle.ends.proofs.Backward.{retreated}
-use borrow.Author.Rules.{rules}
 use Rattle.ends.proofs.retreat.Goals as goal
 
 pub returns : goal.returns

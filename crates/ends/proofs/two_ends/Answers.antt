@@ -1,7 +1,6 @@
 -- `ends::two_ends` meets its contract. Assumes nothing.
 use native.Mathlib.Omega.{arith}
 use Rattle.ends.proofs.Forward.{read_begins, both_places}
-use borrow.Author.Rules.{rules}
 use Rattle.ends.proofs.two_ends.Goals as goal
 
 pub next_end-place-requires : goal.next_end-place-requires

@@ -4,4 +4,4 @@ use Rattle.engine.proofs.check.Goals as goal
 
 pub returns : goal.returns
 unfolding Owed
-returns c = c.answer_in-reply.ensures.owed.answer_is
+returns c = c.answer_in.ensures.owed.answer_is

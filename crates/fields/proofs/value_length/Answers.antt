@@ -1,30 +1,44 @@
 -- `fields::value_length` meets its contract. Assumes nothing.
-use borrow.Author.Rules.{rules}
-use mathlib.Core.Path.{sym, ap, ◌∙◌}
-use native.Mathlib.Omega.{arith}
-use borrow.Author.Tests.{not-true, not-false}
-use Rattle.sections.specs.Afm.{is_digit}
+use Rattle.std.proofs.Common.{◌≡◌, ◌∙◌, ap, false, get_or, arith, rules}
+use Rattle.semantics.specs.Text.{Text}
+use Rattle.sections.specs.Afm.{begins_with, is_digit}
 use Rattle.texts.specs.Cutting.{rest_lent}
-use Rattle.fields.specs.declared.Digits.{Digits}
 use Rattle.fields.specs.Scan.{front, number_in}
-use Rattle.fields.specs.Runs.{begins_some, value_within}
-use Rattle.fields.proofs.Scanning.{value_plain_length, value_nought, value_negative}
+use Rattle.fields.specs.Runs.{value_within}
+use Rattle.fields.proofs.Scanning.{nothing, begins_first, begins_other, plain_none, plain_some, minus_none, minus_nought, minus_some}
 use Rattle.fields.proofs.value_length.Goals as goal
 
-pub returns-then-not-begins_with : goal.returns-then-not-begins_with
-returns-then-not-begins_with c = ap (λ (d : Digits). d.count) c.number_at-plain.ensures ∙ value_plain_length c.args.text.now (sym c.begins_with.ensures ∙ c.if-not-begins_with.true)
-
-pub slice_bounds-number_at-count : goal.slice_bounds-number_at-count
-slice_bounds-number_at-count c = begins_some 45 c.args.text.now (sym c.begins_with.ensures ∙ c.if-not-begins_with.false)
-
-pub slice_bounds-number_at-start : goal.slice_bounds-number_at-start
-slice_bounds-number_at-start c = begins_some 45 c.args.text.now (sym c.begins_with.ensures ∙ c.if-not-begins_with.false)
+pub returns-in_err-negative-in-45 : goal.returns-in_err-negative-in-45
+returns-in_err-negative-in-45 c =
+    let t = c.args.text.now in
+    let lent = ap (λ (d : Text). number_in 32768 (front is_digit d)) (rest_lent t 1) in
+    let first : get_or t 0 0 ≡ 45 = search rules in
+    nothing _ c.from_residual.ensures (minus_none t (begins_first 45 t (omega arith) first) (c.in_err-negative-in-45.ensures.value ∙ lent))
 
 pub returns-then-negative-eq0 : goal.returns-then-negative-eq0
-returns-then-negative-eq0 c = value_nought c.args.text.now (sym c.begins_with.ensures ∙ c.if-not-begins_with.false) c.number_at-negative.result (c.number_at-negative.ensures ∙ ap (λ t. number_in 32768 (front is_digit t)) (rest_lent c.args.text.now 1)) c.if-negative-eq0.true
+returns-then-negative-eq0 c =
+    let t = c.args.text.now in
+    let lent = ap (λ (d : Text). number_in 32768 (front is_digit d)) (rest_lent t 1) in
+    let first : get_or t 0 0 ≡ 45 = search rules in
+    minus_nought t (begins_first 45 t (omega arith) first) c.in_ok-negative-in-45.negative (c.in_ok-negative-in-45.ensures.value ∙ lent) c.if-negative-eq0.true
 
-pub overflow_add-result : goal.overflow_add-result
-overflow_add-result c = omega (arith, value_negative c.args.text.now (sym c.begins_with.ensures ∙ c.if-not-begins_with.false) c.number_at-negative.result (c.number_at-negative.ensures ∙ ap (λ t. number_in 32768 (front is_digit t)) (rest_lent c.args.text.now 1)) c.if-negative-eq0.false, value_within c.args.text.now, c.well_formed)
+pub returns-else-negative-eq0 : goal.returns-else-negative-eq0
+returns-else-negative-eq0 c =
+    let t = c.args.text.now in
+    let lent = ap (λ (d : Text). number_in 32768 (front is_digit d)) (rest_lent t 1) in
+    let first : get_or t 0 0 ≡ 45 = search rules in
+    let all = minus_some t (begins_first 45 t (omega arith) first) c.in_ok-negative-in-45.negative (c.in_ok-negative-in-45.ensures.value ∙ lent) c.if-negative-eq0.false in
+    (all, omega arith, omega (arith, value_within t))
 
-pub returns : goal.returns
-returns c = value_negative c.args.text.now (sym c.begins_with.ensures ∙ c.if-not-begins_with.false) c.number_at-negative.result (c.number_at-negative.ensures ∙ ap (λ t. number_in 32768 (front is_digit t)) (rest_lent c.args.text.now 1)) c.if-negative-eq0.false
+pub returns-in_err-plain-in_default : goal.returns-in_err-plain-in_default
+returns-in_err-plain-in_default c =
+    let t = c.args.text.now in
+    let plain : begins_with 45 t ≡ false = begins_other 45 t (search rules) in
+    nothing _ c.from_residual-in_err-plain-in_default.ensures (plain_none t plain c.in_err-plain-in_default.ensures.value)
+
+pub returns-in_ok-plain-in_default : goal.returns-in_ok-plain-in_default
+returns-in_ok-plain-in_default c =
+    let t = c.args.text.now in
+    let plain : begins_with 45 t ≡ false = begins_other 45 t (search rules) in
+    let (all, some) = plain_some t plain c.in_ok-plain-in_default.plain c.in_ok-plain-in_default.ensures.value in
+    (all, some, omega (arith, value_within t))

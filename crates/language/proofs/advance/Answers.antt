@@ -1,6 +1,5 @@
 -- `language::advance` meets its contract, by the law of a step forward. Assumes nothing.
 use Rattle.language.proofs.Steps.{forward_steps}
-use borrow.Author.Rules.{rules}
 use Rattle.language.proofs.advance.Goals as goal
 
 pub returns : goal.returns

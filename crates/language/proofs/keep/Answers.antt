@@ -1,6 +1,5 @@
 -- `language::keep` meets its contract. Assumes nothing.
 use native.Mathlib.Omega.{arith}
-use borrow.Author.Rules.{rules}
 use lib.ListN.{length-set}
 use Rattle.language.proofs.Leading.{stored_two}
 use Rattle.language.proofs.keep.Goals as goal

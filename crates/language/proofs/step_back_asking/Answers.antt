@@ -1,25 +1,30 @@
 -- `language::step_back_asking` meets its contract, by the law of a step backward. The loop's invariant: the set has those below q that one of
 -- `here` may follow. Assumes nothing.
-use mathlib.Core.Path.{◌≡◌}
+use mathlib.Core.Path.{refl}
 use native.Mathlib.Omega.{arith}
-use Prim.Native.Nat.{◌-◌, ◌≤◌}
-use borrow.Author.Rules.{rules}
-use Rattle.language.specs.Sets.{Gathered, Meeting}
-use Rattle.language.proofs.Gathering.{gathered_none, gathered_more, gathered_at}
+use Rattle.laws.specs.Basics.{not_both}
+use Rattle.language.proofs.Gathering.{gathered_none, gathered_more, gathered_at, grown_not, grown_with}
 use Rattle.language.proofs.Leading.{asked, asked_none}
 use Rattle.language.proofs.Steps.{behind_steps}
 use Rattle.language.proofs.step_back_asking.Goals as goal
+use Rattle.language.proofs.step_back_asking.Goals.{then-meets, else-meets}
 
 pub returns-then-is_empty : goal.returns-then-is_empty
 returns-then-is_empty c = record { stepped = λ r d t known. behind_steps c.requires d known (asked_none c.standing-here.ensures (c.is_empty.ensures.0 c.if-is_empty.true)) }
 
 pub loop-q-init : goal.loop-q-init
-loop-q-init c = (search rules, gathered_none _ c.empty-set.result c.empty-set.ensures)
+loop-q-init c = gathered_none _ c.empty-set.result c.empty-set.ensures
 
 pub loop-q-preserved : goal.loop-q-preserved
-loop-q-preserved c = (search rules, gathered_more _ c.loop-q.q c.loop-q.set c.meet_at-set.result c.loop-q.invariant.1 c.meet_at-set.ensures)
+loop-q-preserved c =
+    gathered_more _ c.loop-q.q c.loop-q.set c.if-meets.set c.loop-q.invariant
+    (elim c.if-meets.branch [
+      | then-meets w ↦
+          rw w.set-is (grown_with _ c.loop-q.q c.loop-q.set w.with-set.result w.with-set.ensures (λ k g. g.itself) (record { itself = refl; met = rw c.follow-next.ensures at (c.meets.ensures.0 w.if-meets.true) }))
+      | else-meets w ↦ rw w.set-is (grown_not _ c.loop-q.set (λ k g. not_both (c.meets.ensures.1 (rw c.follow-next.ensures g.met)) w.if-meets.false))
+    ])
 
 pub returns : goal.returns
 returns c =
-    let back = asked c.standing-here.ensures c.requires.few (gathered_at _ (omega (arith, c.loop-q.invariant.0, c.loop-q-test.false)) c.loop-q.invariant.1) in
+    let back = asked c.standing-here.ensures c.requires.few (gathered_at _ (omega arith) c.loop-q.invariant) in
     record { stepped = λ r d t known. behind_steps c.requires d known back }

@@ -1,5 +1,4 @@
 -- `lines::digit_count` meets its contract. Assumes nothing.
-use borrow.Author.Rules.{rules}
 use native.Mathlib.Omega.{arith}
 use Rattle.lines.proofs.Digits.{few_digits, decimal_count}
 use Rattle.lines.proofs.digit_count.Goals as goal

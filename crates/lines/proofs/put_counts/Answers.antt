@@ -1,5 +1,4 @@
 -- `lines::put_counts` meets its contract: each part stands behind the one before. Assumes nothing.
-use borrow.Author.Rules.{rules}
 use native.Mathlib.Omega.{arith}
 use Rattle.semantics.specs.Tally.{counts_line}
 use Rattle.lines.proofs.Texts.{puts_then}

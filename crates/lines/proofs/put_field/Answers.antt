@@ -1,5 +1,4 @@
 -- `lines::put_field` meets its contract: the digits stand behind the space. Assumes nothing.
-use borrow.Author.Rules.{rules}
 use native.Mathlib.Omega.{arith}
 use Rattle.semantics.specs.Calls.{field}
 use Rattle.lines.proofs.Texts.{puts_then, decimal_short}

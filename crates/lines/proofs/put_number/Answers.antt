@@ -1,5 +1,4 @@
 -- `lines::put_number` meets its contract: the digits are put as they are shown. Assumes nothing.
-use borrow.Author.Rules.{rules}
 use native.Mathlib.Omega.{arith}
 use Rattle.lines.proofs.Texts.{puts_as}
 use Rattle.lines.proofs.Digits.{few_digits, decimal_lent}

@@ -9,7 +9,7 @@ use lib.ListN.{length}
 use borrow.Author.Tests.{not-true}
 use Rattle.lens.specs.Nodes.{shown_match, shown_union, shown_join, shown_repeat}
 use Rattle.lens.specs.Parsed.{parsed_join}
-use Rattle.listing.specs.Listing.{to_list_part, lists_as, lists_none}
+use Rattle.listing.specs.Listing.{to_list_part, lists_as, lists_some, lists_many, lists_none}
 use Rattle.listing.proofs.NodeEntries.{node_small, node_words, no_match, leaf_entries, match_entries, repeat_entries_lem}
 use Rattle.listing.proofs.Pieces.{arms_few, arm_left, arm_right, halves_few, join_halves, join_over, join_next}
 use Rattle.listing.proofs.RepeatEntries.{repeated_begin, path_reaches, path_left, turn, repeated_next, repeated_over, repeated_ends}
@@ -18,7 +18,7 @@ use Rattle.listing.proofs.+list_list_parts.Goals as goal
 pub list-returns-then-not-read : goal.list-returns-then-not-read
 list-returns-then-not-read t c =
     let none = no_match c.node-read.ensures c.args.text.now (not-true c.node-read.result.holds_match c.if-not-read.true) in
-    lists_as none (lists_none _ _ _ _ _ c.requires.to_list.sized c.requires.to_list.few)
+    lists_as none (lists_some (lists_none _ _ _ _ _ c.requires.to_list.sized c.requires.to_list.few))
 
 pub list-list_match-requires : goal.list-list_match-requires
 list-list_match-requires t c =
@@ -67,15 +67,12 @@ list-slice_bounds-front-end t c = (join_halves c.requires.to_list.built c.requir
 pub list-slice_bounds-list-end : goal.list-slice_bounds-list-end
 list-slice_bounds-list-end t c = (join_halves c.requires.to_list.built c.requires.node_bound c.requires.parsed c.node-read.ensures c.in-LensJoin.is c.automaton_of-a-in-LensJoin.ensures c.border-i.ensures).path_within
 
-pub list-list-half-requires : goal.list-list-half-requires
-list-list-half-requires t c =
+pub list-list-requires-in-LensJoin : goal.list-list-requires-in-LensJoin
+list-list-requires-in-LensJoin t c =
     let shown = shown_join c.node-read.ensures c.in-LensJoin.is in
     let halves = join_halves c.requires.to_list.built c.requires.node_bound c.requires.parsed c.node-read.ensures c.in-LensJoin.is c.automaton_of-a-in-LensJoin.ensures c.border-i.ensures in
     let i = c.border-i.result in
     let part = to_list_part c.requires.to_list 0 i c.args.at (omega arith) halves.within (omega arith) c.requires.to_list.sized c.requires.to_list.few in (omega (arith, shown.left_lower, c.decreases), (part, (lt_trans shown.left_lower c.requires.node_bound, halves.parsed_left)))
-
-pub list-returns-then-half : goal.list-returns-then-half
-list-returns-then-half t c = join_over (join_halves c.requires.to_list.built c.requires.node_bound c.requires.parsed c.node-read.ensures c.in-LensJoin.is c.automaton_of-a-in-LensJoin.ensures c.border-i.ensures) c.list-half.ensures c.if-half.true
 
 pub list-slice_bounds-back-count : goal.list-slice_bounds-back-count
 list-slice_bounds-back-count t c = (join_halves c.requires.to_list.built c.requires.node_bound c.requires.parsed c.node-read.ensures c.in-LensJoin.is c.automaton_of-a-in-LensJoin.ensures c.border-i.ensures).within
@@ -93,12 +90,12 @@ pub list-overflow_add-at : goal.list-overflow_add-at
 list-overflow_add-at t c =
     omega (arith, c.requires.to_list.place_small, (join_halves c.requires.to_list.built c.requires.node_bound c.requires.parsed c.node-read.ensures c.in-LensJoin.is c.automaton_of-a-in-LensJoin.ensures c.border-i.ensures).within)
 
-pub list-list-requires-in-LensJoin : goal.list-list-requires-in-LensJoin
-list-list-requires-in-LensJoin t c =
+pub list-list-requires-in-LensJoin-2 : goal.list-list-requires-in-LensJoin-2
+list-list-requires-in-LensJoin-2 t c =
     let shown = shown_join c.node-read.ensures c.in-LensJoin.is in
     let halves = join_halves c.requires.to_list.built c.requires.node_bound c.requires.parsed c.node-read.ensures c.in-LensJoin.is c.automaton_of-a-in-LensJoin.ensures c.border-i.ensures in
     let i = c.border-i.result in
-    let first = c.list-half.ensures in
+    let first = c.list-in-LensJoin.ensures.listed_into _ c.in_ok-more-in-LensJoin.was in
     let part = to_list_part c.requires.to_list i (length c.args.text.now) (c.args.at + i) halves.within (omega arith) refl first.sized first.few in (omega (arith, shown.right_lower, c.decreases), (part, (lt_trans shown.right_lower c.requires.node_bound, halves.parsed_right)))
 
 pub list-list_parts-requires : goal.list-list_parts-requires
@@ -115,9 +112,6 @@ list-returns-else-goes_left t c =
     let arm = arm_right c.requires.to_list.built c.requires.node_bound c.requires.parsed shown c.automaton_of-a.ensures c.goes_left.ensures c.if-goes_left.false in
     lists_as arm.entries_are c.list-in-LensUnion.ensures
 
-pub list-returns-else-half : goal.list-returns-else-half
-list-returns-else-half t c = join_next (join_halves c.requires.to_list.built c.requires.node_bound c.requires.parsed c.node-read.ensures c.in-LensJoin.is c.automaton_of-a-in-LensJoin.ensures c.border-i.ensures) c.list-half.ensures c.if-half.false c.list-in-LensJoin.ensures
-
 pub list-returns-in-LensRepeat : goal.list-returns-in-LensRepeat
 list-returns-in-LensRepeat t c =
     lists_as (repeat_entries_lem c.node-read.ensures c.args.text.now c.in-LensRepeat.is) c.list_parts.ensures
@@ -125,7 +119,7 @@ list-returns-in-LensRepeat t c =
 pub list-returns-in_default : goal.list-returns-in_default
 list-returns-in_default t c =
     let none = leaf_entries c.node-read.ensures c.args.text.now c.in_default.not-LensJoin c.in_default.not-LensUnion c.in_default.not-LensRepeat c.in_default.not-Match in
-    lists_as none (lists_none _ _ _ _ _ c.requires.to_list.sized c.requires.to_list.few)
+    lists_as none (lists_some (lists_none _ _ _ _ _ c.requires.to_list.sized c.requires.to_list.few))
 
 pub list_parts-list_matches-requires : goal.list_parts-list_matches-requires
 list_parts-list_matches-requires t c = record { to_list = c.requires.to_list; child_lt_node = c.requires.child_lt_node; one_lens = c.requires.one_lens; one_lens_2 = shown_match c.node-read.ensures c.in-Match.is; parsed = c.requires.parsed }
@@ -164,17 +158,13 @@ pub list_parts-overflow_add-at : goal.list_parts-overflow_add-at
 list_parts-overflow_add-at t c =
     omega (arith, c.requires.to_list.place_small, (turn c.loop-o.invariant c.requires.one_lens c.loop-o-test.true c.first_loop.ensures).within)
 
-pub list_parts-list-listing-requires : goal.list_parts-list-listing-requires
-list_parts-list-listing-requires t c =
+pub list_parts-list-requires : goal.list_parts-list-requires
+list_parts-list-requires t c =
     let found = turn c.loop-o.invariant c.requires.one_lens c.loop-o-test.true c.first_loop.ensures in
     let known = c.loop-o.invariant.lists_done in
     let end = c.loop-o.o + c.first_loop.result in
     let part = to_list_part c.requires.to_list c.loop-o.o end (c.args.at + c.loop-o.o) (omega arith) found.within refl known.sized known.few in
     let lower = c.requires.child_lt_node in (omega (arith, c.decreases, lower.0), (part, (lt_trans lower.0 lower.1, found.parsed)))
-
-pub list_parts-returns-then-listing : goal.list_parts-returns-then-listing
-list_parts-returns-then-listing t c =
-    repeated_over c.loop-o.invariant c.requires.one_lens c.loop-o-test.true c.first_loop.ensures c.list-listing.ensures c.if-listing.true
 
 pub list_parts-loop-o-smaller : goal.list_parts-loop-o-smaller
 list_parts-loop-o-smaller t c =
@@ -182,8 +172,18 @@ list_parts-loop-o-smaller t c =
     omega (arith, found.moves, found.within)
 
 pub list_parts-loop-o-preserved : goal.list_parts-loop-o-preserved
-list_parts-loop-o-preserved t c =
-    repeated_next c.loop-o.invariant c.requires.one_lens c.loop-o-test.true c.first_loop.ensures c.list-listing.ensures c.if-listing.false
+list_parts-loop-o-preserved t c = repeated_next c.loop-o.invariant c.requires.one_lens c.loop-o-test.true c.first_loop.ensures c.list.ensures c.in_ok-book.was
 
 pub list_parts-returns : goal.list_parts-returns
-list_parts-returns t c = repeated_ends c.loop-o.invariant c.loop-o-test.false
+list_parts-returns t c = lists_some (repeated_ends c.loop-o.invariant c.loop-o-test.false)
+
+pub list_parts-returns-in_err-book : goal.list_parts-returns-in_err-book
+list_parts-returns-in_err-book t c = rw c.from_residual.ensures (repeated_over c.loop-o.invariant c.requires.one_lens c.loop-o-test.true c.first_loop.ensures c.list.ensures c.in_err-book.was)
+
+pub list-returns-in_ok-more-in-LensJoin : goal.list-returns-in_ok-more-in-LensJoin
+list-returns-in_ok-more-in-LensJoin t c =
+    join_next (join_halves c.requires.to_list.built c.requires.node_bound c.requires.parsed c.node-read.ensures c.in-LensJoin.is c.automaton_of-a-in-LensJoin.ensures c.border-i.ensures) (c.list-in-LensJoin.ensures.listed_into _ c.in_ok-more-in-LensJoin.was) c.list-in-LensJoin-2.ensures
+
+pub list-returns-in_err-more-in-LensJoin : goal.list-returns-in_err-more-in-LensJoin
+list-returns-in_err-more-in-LensJoin t c =
+    rw c.from_residual.ensures (lists_many (join_over (join_halves c.requires.to_list.built c.requires.node_bound c.requires.parsed c.node-read.ensures c.in-LensJoin.is c.automaton_of-a-in-LensJoin.ensures c.border-i.ensures) (c.list-in-LensJoin.ensures.over c.in_err-more-in-LensJoin.was)))

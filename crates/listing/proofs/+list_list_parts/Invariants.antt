@@ -13,7 +13,7 @@ abbrev pub decreases-list_parts : goal.decreases-list_parts
 decreases-list_parts l = 2 * l.node
 
 abbrev pub invariant-list_parts-loop-o : goal.invariant-list_parts-loop-o
-invariant-list_parts-loop-o l = Repeated l.bytes l.node l.child l.base l.path l.text l.at l.initial.book l.last l.first l.book l.o
+invariant-list_parts-loop-o l = Repeated l.bytes l.node l.child l.base l.path l.text l.at l.initial.book l.ends.last l.ends.first l.book l.o
 
 abbrev pub decreases-list_parts-loop-o : goal.decreases-list_parts-loop-o
 decreases-list_parts-loop-o l = length l.text - l.o

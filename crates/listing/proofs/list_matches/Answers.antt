@@ -3,6 +3,7 @@ use mathlib.Core.Path.{refl}
 use Prim.Native.Nat.{◌<◌}
 use native.Mathlib.Nat.{lt_trans}
 use native.Mathlib.Omega.{arith}
+use Rattle.listing.specs.Listing.{lists_some}
 use Rattle.listing.proofs.NodeEntries.{node_small, node_words}
 use Rattle.listing.proofs.RepeatEntries.{repeated_begin, path_reaches, path_left, turn, repeated_next, repeated_over, repeated_ends, part_added, part_full}
 use Rattle.listing.proofs.list_matches.Goals as goal
@@ -107,4 +108,4 @@ loop-o-preserved c =
     repeated_next known c.requires.one_lens c.loop-o-test.true c.first_loop.ensures more refl
 
 pub returns : goal.returns
-returns c = repeated_ends c.loop-o.invariant c.loop-o-test.false
+returns c = lists_some (repeated_ends c.loop-o.invariant c.loop-o-test.false)

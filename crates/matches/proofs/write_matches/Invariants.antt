@@ -1,5 +1,5 @@
 use Rattle.plains.proofs.Parts.{Parting}
-use Rattle.books.specs.declared.Old.TheVariants.{Nothing}
+use Rattle.std.specs.Prelude.{None}
 use Rattle.std.proofs.Common.{◌≡◌, ◌-◌, length}
 use Rattle.matches.proofs.write_matches.Given as goal
 
@@ -10,16 +10,16 @@ invariant-loop-o l =
     l.prepared
     l.child
     l.part.base
-    l.last
-    l.first
-    (record { last = l.last; first = l.first })
+    l.ends.last
+    l.ends.first
+    l.ends
     l.new
     l.deck
-    Nothing
+    None
     (record { wrote = l.initial.wrote; book = l.initial.book; met = l.initial.met })
     l.initial.out
     l.path
-    Nothing
+    None
     l.o
     l.out
     (record { wrote = l.wrote; book = l.book; met = l.met })

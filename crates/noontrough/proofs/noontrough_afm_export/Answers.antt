@@ -5,6 +5,6 @@ use Rattle.noontrough.proofs.noontrough_afm_export.Goals as goal
 pub returns : goal.returns
 returns c =
     record {
-      numbers_are = c.in_numbers.ensures ∙ ap numbers_of c.export.ensures.answer_is;
+      numbers_are = c.from.ensures ∙ ap numbers_of c.export.ensures.answer_is;
       buffer_is = c.export.ensures.buffer_is;
     }

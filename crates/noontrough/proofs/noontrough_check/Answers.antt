@@ -3,4 +3,4 @@ use Rattle.noontrough.specs.Exports.{numbers_of}
 use Rattle.noontrough.proofs.noontrough_check.Goals as goal
 
 pub returns : goal.returns
-returns c = c.in_numbers.ensures ∙ ap numbers_of c.check.ensures
+returns c = c.from.ensures ∙ ap numbers_of c.check.ensures

@@ -5,6 +5,6 @@ use Rattle.noontrough.proofs.noontrough_clash.Goals as goal
 pub returns : goal.returns
 returns c =
     record {
-      numbers_are = c.in_clash_numbers.ensures ∙ ap clash_numbers_of c.clash.ensures.answer_is;
+      numbers_are = c.from.ensures ∙ ap clash_numbers_of c.clash.ensures.answer_is;
       buffer_is = c.clash.ensures.buffer_is;
     }

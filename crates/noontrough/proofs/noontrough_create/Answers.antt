@@ -5,6 +5,6 @@ use Rattle.noontrough.proofs.noontrough_create.Goals as goal
 pub returns : goal.returns
 returns c =
     record {
-      numbers_are = c.in_numbers.ensures ∙ ap numbers_of c.create.ensures.answer_is;
+      numbers_are = c.from.ensures ∙ ap numbers_of c.create.ensures.answer_is;
       buffer_is = c.create.ensures.buffer_is;
     }

@@ -5,6 +5,6 @@ use Rattle.noontrough.proofs.noontrough_get.Goals as goal
 pub returns : goal.returns
 returns c =
     record {
-      numbers_are = c.in_numbers.ensures ∙ ap numbers_of c.get.ensures.answer_is;
+      numbers_are = c.from.ensures ∙ ap numbers_of c.get.ensures.answer_is;
       buffer_is = c.get.ensures.buffer_is;
     }

@@ -1,16 +1,11 @@
--- `padding::all_spaces` meets its contract. The loop's invariant: the rest from i on tells. Assumes nothing.
-use mathlib.Core.Path.{refl}
-use Rattle.padding.proofs.Spaces.{tells_more, tells_other, tells_end}
+-- `padding::all_spaces` meets its contract. Assumes nothing.
+use Rattle.std.proofs.Common.{◌∙◌, eqb, rules, tests}
+use Rattle.std.proofs.lemmas.Iterator.{YieldsList-from_slice}
+use Rattle.std.proofs.lemmas.Iterator.Search.{all_from_yields_List}
+use Rattle.padding.proofs.Spaces.{each_space}
 use Rattle.padding.proofs.all_spaces.Goals as goal
 
-pub loop-i-init : goal.loop-i-init
-loop-i-init c = record { tells = refl }
-
-pub returns-then-text-i-ne32 : goal.returns-then-text-i-ne32
-returns-then-text-i-ne32 c = tells_other c.loop-i.invariant c.loop-i-test.true c.if-text-i-ne32.true
-
-pub loop-i-preserved : goal.loop-i-preserved
-loop-i-preserved c = tells_more c.loop-i.invariant c.loop-i-test.true c.if-text-i-ne32.false
-
 pub returns : goal.returns
-returns c = tells_end c.loop-i.invariant c.loop-i-test.false
+returns c =
+    let text = c.args.text.now in
+    all_from_yields_List (λ b. eqb b 32) _ _ _ c.all.ensures.ran (YieldsList-from_slice text cc) (λ x b q k. search (rules, tests)) ∙ each_space text

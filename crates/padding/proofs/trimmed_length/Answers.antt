@@ -1,15 +1,20 @@
--- `padding::trimmed_length` meets its contract. The loop's invariant: from n on there are only spaces. Assumes nothing.
-use Rattle.padding.proofs.Spaces.{spaces_none, spaces_more, spaces_end, spaces_all}
+-- `padding::trimmed_length` meets its contract: only spaces stand behind the last other byte. Assumes nothing.
+use Rattle.std.proofs.Common.{◌≡◌, ℕ, ◌+◌, ◌-◌, ◌<◌, ◌≤◌, length, get_or, arith, rules}
+use Rattle.padding.proofs.Spaces.{front_length}
 use Rattle.padding.proofs.trimmed_length.Goals as goal
 
-pub loop-n-init : goal.loop-n-init
-loop-n-init c = spaces_none _
+pub returns-in-Some : goal.returns-in-Some
+returns-in-Some c =
+    let text = c.args.text.now in
+    let last = c.in-Some.last in
+    let inside : last < length text = search rules in
+    let spaces : (k : ℕ) → last + 1 ≤ k → k < length text → get_or text k 0 ≡ 32 = search rules in
+    let other : ¬ (get_or text last 0 ≡ 32) = search rules in
+    let back : last + 1 - 1 ≡ last = omega arith in
+    front_length text (last + 1) (omega arith) spaces (λ some. rw back other)
 
-pub returns-then-text-n-ne32 : goal.returns-then-text-n-ne32
-returns-then-text-n-ne32 c = spaces_end c.loop-n.invariant c.loop-n-test.true c.if-text-n-ne32.true
-
-pub loop-n-preserved : goal.loop-n-preserved
-loop-n-preserved c = spaces_more c.loop-n.invariant c.loop-n-test.true c.if-text-n-ne32.false
-
-pub returns : goal.returns
-returns c = spaces_all c.loop-n.invariant c.loop-n-test.false
+pub returns-in-None : goal.returns-in-None
+returns-in-None c =
+    let text = c.args.text.now in
+    let spaces : (k : ℕ) → 0 ≤ k → k < length text → get_or text k 0 ≡ 32 = search rules in
+    front_length text 0 (omega arith) spaces (λ some. absurd (omega arith))

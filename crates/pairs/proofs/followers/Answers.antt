@@ -1,36 +1,23 @@
--- `pairs::followers` meets its contract. The loop's invariant: p is in the set, or past it, and what the positions below p give is gathered. Assumes nothing.
-use mathlib.Core.Path.{◌≡◌, sym, ◌∙◌, ap₂}
-use mathlib.Core.Bool.{Bool, true, ◌&&◌, ◌||◌}
-use Prim.Native.Nat.{◌-◌, ◌<◌, min}
+-- `pairs::followers` meets its contract. The loop's invariant: what the positions give that have come is gathered. Assumes nothing.
+use mathlib.Core.Path.{sym, ap₂, ◌∙◌}
+use mathlib.Core.Bool.{Bool, ◌&&◌, ◌||◌}
 use native.Mathlib.Omega.{arith}
-use borrow.Author.Rules.{rules}
 use Rattle.positions.specs.declared.Set.{Set}
 use Rattle.positions.specs.Positions.{holds}
-use Rattle.pairs.specs.Pairs.{Gathered, by_follow}
-use Rattle.pairs.proofs.Cells.{gathered_first, gathered_next}
+use Rattle.positions.proofs.Walk.{at_inside}
+use Rattle.pairs.proofs.Cells.{on_begins, on_next, on_end}
 use Rattle.pairs.proofs.followers.Goals as goal
 
 pub loop-p-init : goal.loop-p-init
-loop-p-init c = (c.first_from-p.ensures.held, gathered_first (λ p q e. rw e) c.args.a.count c.empty-out.ensures c.first_from-p.ensures)
+loop-p-init c = on_begins (λ p q e. rw e) c.into_iter-p-iterator.ensures.into_iter_gives c.below-p-items.ensures c.empty-out.ensures
 
-pub overflow_add-p : goal.overflow_add-p
-overflow_add-p c = omega (arith, c.requires.few)
-
-pub loop-p-smaller : goal.loop-p-smaller
-loop-p-smaller c = omega (arith, c.first_from-p-in-loop-p.ensures.from)
+pub follow-requires : goal.follow-requires
+follow-requires c = omega (arith, c.requires.inside, at_inside c.loop-p.invariant.comes c.in-Some.ensures.steps)
 
 pub loop-p-preserved : goal.loop-p-preserved
 loop-p-preserved c =
-    let there = c.loop-p.invariant.0 (omega (arith, c.requires.few)) in (
-      c.first_from-p-in-loop-p.ensures.held,
-      gathered_next
-          (λ p q e. rw e)
-          c.args.a.count
-          (omega arith)
-          c.loop-p.invariant.1
-          (λ q. c.union-out.ensures q ∙ ap₂ (λ (t : Bool) (f : Set). t && holds f q || holds c.loop-p.out q) (sym there) c.follow.ensures)
-          c.first_from-p-in-loop-p.ensures,
-    )
+    on_next (λ p q e. rw e) c.loop-p.invariant c.in-Some.ensures.steps
+    (λ q there. c.union-out.ensures q ∙ ap₂ (λ (t : Bool) (f : Set). t && holds f q || holds c.loop-p.out q) (sym there) c.follow.ensures)
 
 pub returns : goal.returns
-returns c = let all : min c.loop-p.p c.args.a.count ≡ c.args.a.count = omega arith in rw all at c.loop-p.invariant.1
+returns c = on_end (λ p q e. rw e) c.loop-p.invariant c.in-None.ensures.steps

@@ -1,6 +1,5 @@
 -- `pairs::gain` meets its contract. Assumes nothing.
 use Rattle.pairs.proofs.Cells.{gained}
-use borrow.Author.Rules.{rules}
 use Rattle.pairs.proofs.gain.Goals as goal
 
 pub returns : goal.returns

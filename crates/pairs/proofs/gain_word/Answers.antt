@@ -1,7 +1,6 @@
 -- `pairs::gain_word` meets its contract. Assumes nothing.
 use mathlib.Core.Path.{refl}
 use Rattle.pairs.proofs.Cells.{word_change}
-use borrow.Author.Rules.{rules}
 use Rattle.pairs.proofs.gain_word.Goals as goal
 
 pub returns : goal.returns

@@ -1,5 +1,4 @@
 -- `pairs::joined_if` meets its contract. Assumes nothing.
-use borrow.Author.Rules.{rules}
 use Rattle.pairs.proofs.joined_if.Goals as goal
 
 pub returns-then-test : goal.returns-then-test

@@ -1,6 +1,5 @@
 -- `pairs::pour_at` meets its contract. Assumes nothing.
 use native.Mathlib.Omega.{arith}
-use borrow.Author.Rules.{rules}
 use Rattle.laws.specs.Basics.{not_both}
 use Rattle.pairs.proofs.Spreads.{found_by, poured_nothing, poured_row}
 use Rattle.pairs.proofs.pour_at.Goals as goal

@@ -1,25 +1,23 @@
--- `pairs::rows` meets its contract. Assumes nothing.
-use borrow.Author.Rules.{rules}
-use mathlib.Core.Path.{◌≡◌, ◌∙◌, ap₂}
+-- `pairs::rows` meets its contract. The loop's invariant: the rows of the positions that have come are gathered. Assumes nothing.
+use mathlib.Core.Path.{sym, ap₂, ◌∙◌}
 use mathlib.Core.Bool.{Bool, ◌&&◌, ◌||◌}
-use Prim.Native.Nat.{◌≤◌, ◌-◌}
 use native.Mathlib.Omega.{arith}
 use Rattle.positions.specs.declared.Set.{Set}
 use Rattle.positions.specs.Positions.{holds}
-use Rattle.pairs.specs.Pairs.{Gathered, by_row}
-use Rattle.pairs.proofs.Cells.{gathered_none, gathered_more}
+use Rattle.positions.proofs.Walk.{at_inside}
+use Rattle.pairs.proofs.Cells.{on_begins, on_next, on_end}
 use Rattle.pairs.proofs.rows.Goals as goal
 
 pub loop-x-init : goal.loop-x-init
-loop-x-init c = (search rules, gathered_none c.empty-out.ensures)
+loop-x-init c = on_begins (λ p q e. rw e) c.into_iter-x-iterator.ensures.into_iter_gives c.below-x-items.ensures c.empty-out.ensures
+
+pub row-requires : goal.row-requires
+row-requires c = omega (arith, at_inside c.loop-x.invariant.comes c.in-Some.ensures.steps)
 
 pub loop-x-preserved : goal.loop-x-preserved
-loop-x-preserved c = (
-  search rules,
-  gathered_more
-      c.loop-x.invariant.1
-      (λ q. c.joined_if-out.ensures q ∙ ap₂ (λ (t : Bool) (f : Set). t && holds f q || holds c.loop-x.out q) c.has.ensures c.row-reached.ensures),
-)
+loop-x-preserved c =
+    on_next (λ p q e. rw e) c.loop-x.invariant c.in-Some.ensures.steps
+    (λ q there. c.union-out.ensures q ∙ ap₂ (λ (t : Bool) (f : Set). t && holds f q || holds c.loop-x.out q) (sym there) c.row.ensures)
 
 pub returns : goal.returns
-returns c = let all : c.loop-x.x ≡ c.args.count = omega arith in rw all at c.loop-x.invariant.1
+returns c = on_end (λ p q e. rw e) c.loop-x.invariant c.in-None.ensures.steps

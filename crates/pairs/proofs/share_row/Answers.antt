@@ -1,6 +1,5 @@
 -- `pairs::share_row` meets its contract: a position with the same bytes as the one before it has its row. Assumes nothing.
 use mathlib.Core.Path.{sym, ◌∙◌}
-use borrow.Author.Rules.{rules}
 use Rattle.pairs.proofs.Spreads.{last_alike, shares_last}
 use Rattle.pairs.proofs.share_row.Goals as goal
 

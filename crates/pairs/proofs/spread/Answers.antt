@@ -1,6 +1,5 @@
 -- `pairs::spread` meets its contract. Assumes nothing.
 use native.Mathlib.Omega.{arith}
-use borrow.Author.Rules.{rules}
 use Rattle.pairs.proofs.Spreads.{spread_row}
 use Rattle.pairs.proofs.spread.Goals as goal
 

@@ -8,14 +8,14 @@ use Rattle.quests.proofs.fill_tables.Goals as goal
 pub fill_leads-requires : goal.fill_leads-requires
 fill_leads-requires c =
     let pre = c.requires in
-    let args = c.args in record { room = pre.room.0; no_leads = part_empty 0 args.leads.now (omega arith) (empty_all pre.cleared) }
+    let args = c.args in record { room = pre.rooms.part_room; no_leads = part_empty 0 args.leads.now (omega arith) (empty_all pre.cleared) }
 
 pub fill_leads-requires-2 : goal.fill_leads-requires-2
 fill_leads-requires-2 c =
     let pre = c.requires in
     let args = c.args in
     let none = args.leads.now in
-    let first = c.fill_leads.new.leads in record { room = pre.room.1; no_leads = part_empty 128 _ (omega arith) (still_empty 0 128 none first refl (omega arith) (search rules) (empty_all pre.cleared)) }
+    let first = c.fill_leads.new.leads in record { room = pre.rooms.whole_room; no_leads = part_empty 128 _ (omega arith) (still_empty 0 128 none first refl (omega arith) (search rules) (empty_all pre.cleared)) }
 
 pub fill_leads-requires-3 : goal.fill_leads-requires-3
 fill_leads-requires-3 c =
@@ -24,7 +24,7 @@ fill_leads-requires-3 c =
     let none = args.leads.now in
     let first = c.fill_leads.new.leads in
     let second = c.fill_leads-2.new.leads in
-    let one = still_empty 0 128 none first refl (omega arith) (search rules) (empty_all pre.cleared) in record { room = pre.room.2; no_leads = part_empty 256 _ (omega arith) (still_empty 128 256 _ second refl (omega arith) (search rules) one) }
+    let one = still_empty 0 128 none first refl (omega arith) (search rules) (empty_all pre.cleared) in record { room = pre.rooms.rest_room; no_leads = part_empty 256 _ (omega arith) (still_empty 128 256 _ second refl (omega arith) (search rules) one) }
 
 pub returns : goal.returns
 returns c =
@@ -33,9 +33,9 @@ returns c =
     c.fill_leads.new.leads
     c.fill_leads-2.new.leads
     c.fill_leads-3.new.leads
-    c.requires.room.0.few
-    c.requires.room.1.few
-    c.requires.room.2.few
+    c.requires.rooms.part_room.few
+    c.requires.rooms.whole_room.few
+    c.requires.rooms.rest_room.few
     c.requires.cleared.long
     (search rules)
     (search rules)

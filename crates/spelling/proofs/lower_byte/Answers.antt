@@ -1,32 +1,25 @@
 -- `spelling::lower_byte` meets its contract, for each way that it returns. Assumes nothing.
-use mathlib.Core.Path.{sym, subst}
 use Rattle.laws.specs.Basics.{not_both}
-use Rattle.automaton.specs.Rows.{RowRoom}
 use Rattle.spelling.proofs.Writing.{lower_past, lower_not, lower_by}
 use Rattle.spelling.proofs.lower_byte.Goals as goal
+use Rattle.spelling.proofs.lower_byte.Goals.{else-byte-lowest-via-else-byte-lowest, else-byte-lowest-via-then-byte-lowest+else-may_come}
 
-pub first_shared-byte-requires : goal.first_shared-byte-requires
-first_shared-byte-requires c =
-    let rows = c.rows_of-at.ensures in
-    let room = c.requires.pair_bound.2 in
-    let prepared = c.args.prepared.now in record { row_room = subst (RowRoom prepared) (sym rows.0) room.left; row_room_2 = subst (RowRoom prepared) (sym rows.1) room.right }
-
-pub returns-then-lowest-byte : goal.returns-then-lowest-byte
-returns-then-lowest-byte c =
+pub returns-then-may_come : goal.returns-then-may_come
+returns-then-may_come c =
     let args = c.args in
     let rows = c.rows_of-at.ensures in
-    lower_past args.prepared.now args.quest args.leads.now _ args.pair c.requires.pair_bound.2.inside rows.0 rows.1 c.first_shared-byte.ensures c.requires.pair_bound.1 c.if-lowest-byte.true
+    lower_by args.prepared.now args.search.quest.now args.search.leads.now _ args.pair c.requires.pair_bound.2.inside rows.0 rows.1 c.first_shared-byte.ensures
+    c.requires.pair_bound.1 c.if-byte-lowest.true (c.may_come.ensures.0 c.if-may_come.true)
 
-pub returns-then-not-may_come : goal.returns-then-not-may_come
-returns-then-not-may_come c =
+pub returns-else-byte-lowest : goal.returns-else-byte-lowest
+returns-else-byte-lowest c =
     let args = c.args in
     let rows = c.rows_of-at.ensures in
-    lower_not args.prepared.now args.quest args.leads.now _ args.pair c.requires.pair_bound.2.inside rows.0 rows.1 c.first_shared-byte.ensures c.requires.pair_bound.1
-    (λ come. not_both (c.may_come.ensures.1 come) c.if-not-may_come.true)
-
-pub returns : goal.returns
-returns c =
-    let args = c.args in
-    let rows = c.rows_of-at.ensures in
-    lower_by args.prepared.now args.quest args.leads.now _ args.pair c.requires.pair_bound.2.inside rows.0 rows.1 c.first_shared-byte.ensures c.requires.pair_bound.1 c.if-lowest-byte.false
-    (c.may_come.ensures.0 c.if-not-may_come.false)
+    elim c.else-byte-lowest.branch [
+      | else-byte-lowest-via-else-byte-lowest w ↦
+          lower_past args.prepared.now args.search.quest.now args.search.leads.now _ args.pair c.requires.pair_bound.2.inside rows.0 rows.1
+          c.first_shared-byte.ensures c.requires.pair_bound.1 w.if-byte-lowest.false
+      | else-byte-lowest-via-then-byte-lowest+else-may_come w ↦
+          lower_not args.prepared.now args.search.quest.now args.search.leads.now _ args.pair c.requires.pair_bound.2.inside rows.0 rows.1
+          c.first_shared-byte.ensures c.requires.pair_bound.1 (λ come. not_both (w.may_come.ensures.1 come) w.if-may_come.false)
+    ]

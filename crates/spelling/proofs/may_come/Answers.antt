@@ -12,25 +12,25 @@ use Rattle.spelling.proofs.may_come.Goals as goal
 pub returns-then-i-eq0 : goal.returns-then-i-eq0
 returns-then-i-eq0 c =
     let args = c.args in
-    let first = comes_first args.quest args.leads.now args.alive.now args.i args.pair c.if-i-eq0.true in
+    let first = comes_first args.search.quest.now args.search.leads.now args.alive.now args.i args.pair c.if-i-eq0.true in
     (λ e. first.1 (sym c.begins.ensures ∙ e), λ come. c.begins.ensures ∙ first.0 come)
 
 pub some_alive-requires : goal.some_alive-requires
 some_alive-requires c =
     let pair = c.args.pair in
-    (c.requires.1, omega arith, subst PatchFits (sym c.before-2.ensures) (before_fits c.args.leads.now (pair / 128) (pair % 128)))
+    (c.requires.0, omega arith, subst PatchFits (sym c.before-2.ensures) (before_fits c.args.search.leads.now (pair / 128) (pair % 128)))
 
 pub some_alive-requires-else-some_alive : goal.some_alive-requires-else-some_alive
 some_alive-requires-else-some_alive c =
     let pair = c.args.pair in
-    (c.requires.1, omega arith, subst PatchFits (sym c.linked.ensures) (linked_fits c.args.quest c.args.leads.now (pair / 128) (pair % 128)))
+    (c.requires.0, omega arith, subst PatchFits (sym c.linked.ensures) (linked_fits c.args.search.quest.now c.args.search.leads.now (pair / 128) (pair % 128)))
 
 pub returns-then-some_alive : goal.returns-then-some_alive
 returns-then-some_alive c =
     let args = c.args in
     let alive = args.alive.now in
     let table = 256 * ((args.i - 1) % 2) in
-    let later = comes_later args.quest args.leads.now alive args.i args.pair (omega arith) in
+    let later = comes_later args.search.quest.now args.search.leads.now alive args.i args.pair (omega arith) in
     (λ e. later.1 (inl (subst (AliveIn alive table) c.before-2.ensures (c.some_alive.ensures.0 e))), λ come. c.if-some_alive.true)
 
 pub returns-else-some_alive : goal.returns-else-some_alive
@@ -38,7 +38,7 @@ returns-else-some_alive c =
     let args = c.args in
     let alive = args.alive.now in
     let table = 256 * ((args.i - 1) % 2) in
-    let later = comes_later args.quest args.leads.now alive args.i args.pair (omega arith) in (
+    let later = comes_later args.search.quest.now args.search.leads.now alive args.i args.pair (omega arith) in (
       λ e. later.1 (inr (subst (AliveIn alive table) c.linked.ensures (c.some_alive-else-some_alive.ensures.0 e))),
       λ come.
           ⊎_elim

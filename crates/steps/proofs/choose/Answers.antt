@@ -15,8 +15,8 @@ overflow_add-border c =
 pub overflow_add-from : goal.overflow_add-from
 overflow_add-from c = omega (arith, c.requires.base_bound.1.inside)
 
-pub overflow_add-to : goal.overflow_add-to
-overflow_add-to c = omega (arith, c.requires.base_bound.1.inside)
+pub overflow_add-from-2 : goal.overflow_add-from-2
+overflow_add-from-2 c = omega (arith, c.requires.base_bound.1.inside)
 
 pub slice_bounds-goes_left-end : goal.slice_bounds-goes_left-end
 slice_bounds-goes_left-end c =

@@ -5,7 +5,7 @@ use Rattle.steps.proofs.Counting.{CountedTo}
 use Rattle.steps.proofs.count_parts.Given as goal
 
 abbrev pub invariant-loop-o : goal.invariant-loop-o
-invariant-loop-o l = CountedTo l.path (record { last = l.last; first = l.first }) l.o l.n
+invariant-loop-o l = CountedTo l.path l.ends l.o l.n
 
 abbrev pub decreases-loop-o : goal.decreases-loop-o
 decreases-loop-o l = length l.path - l.o

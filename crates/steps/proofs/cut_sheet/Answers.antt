@@ -8,4 +8,4 @@ overflow_add-mid c =
     omega (arith, few_count c.automaton_of-a.ensures c.requires.0, c.requires.1)
 
 pub returns : goal.returns
-returns c = rw (c.border-at.ensures, c.automaton_of-a.ensures)
+returns c = rw (c.border.ensures, c.automaton_of-a.ensures)

@@ -7,12 +7,12 @@ pub overflow_add-mid : goal.overflow_add-mid
 overflow_add-mid c =
     omega (arith, few_count c.automaton_of-a.ensures c.requires.prepared.0, c.requires.prepared.1.based)
 
-pub overflow_add-second : goal.overflow_add-second
-overflow_add-second c =
+pub overflow_add-result : goal.overflow_add-result
+overflow_add-result c =
     let within = cut_within c.args.deck.now c.args.place.start c.args.place.len _ _ c.border-i.ensures in omega (arith, within, c.requires.prepared.1.inside)
 
-pub overflow_sub-second : goal.overflow_sub-second
-overflow_sub-second c =
+pub overflow_sub-result : goal.overflow_sub-result
+overflow_sub-result c =
     cut_within c.args.deck.now c.args.place.start c.args.place.len _ _ c.border-i.ensures
 
 pub returns : goal.returns

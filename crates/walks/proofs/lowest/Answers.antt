@@ -1,34 +1,21 @@
--- `walks::lowest` meets its contract. The loop's invariant: p is the next position of the set, and none before it reads the byte. Assumes nothing.
+-- `walks::lowest` meets its contract. The loop's invariant: none of the positions that have come reads the byte. Assumes nothing.
 use mathlib.Core.Path.{sym, ◌∙◌}
-use Prim.Native.Nat.{◌-◌, ◌<◌}
-use native.Mathlib.Omega.{arith}
-use borrow.Author.Rules.{rules}
-use Rattle.walks.proofs.Stepping.{NextOf, next_begins, next_first, next_on, NoneBefore, none_begins, none_on, none_lowest}
+use Rattle.positions.proofs.Walk.{at_inside}
+use Rattle.std.specs.Prelude.{None}
+use Rattle.walks.proofs.Stepping.{one_begins, lowest_here, one_kept, none_reads}
 use Rattle.walks.proofs.lowest.Goals as goal
 
 pub loop-p-init : goal.loop-p-init
-loop-p-init c = (next_begins c.first_from-p.ensures, none_begins c.first_from-p.ensures)
+loop-p-init c = one_begins c.into_iter-p-iterator.ensures.into_iter_gives c.below-p-items.ensures
 
 pub stands-requires : goal.stands-requires
-stands-requires c = c.requires.rows c.loop-p.p c.loop-p-test.true
+stands-requires c = c.requires.rows c.in-Some.p (at_inside c.loop-p.invariant.comes c.in-Some.ensures.steps)
 
 pub returns-then-stands : goal.returns-then-stands
-returns-then-stands c =
-    record {
-      reads = λ l. record { inside = c.loop-p-test.true; held = c.loop-p.invariant.0.at_one l; stands = sym c.stands.ensures ∙ c.if-stands.true };
-      none_lower = c.loop-p.invariant.1.none;
-    }
-
-pub loop-p-smaller : goal.loop-p-smaller
-loop-p-smaller c =
-    let below : c.loop-p.p < 128 = omega (arith, c.loop-p-test.true, c.requires.few) in
-    omega (arith, (next_first c.loop-p.invariant.0 below c.rest-left.ensures c.first_from-p-in-loop-p.ensures).from)
+returns-then-stands c = lowest_here c.in-Some.ensures.steps c.loop-p.invariant (sym c.stands.ensures ∙ c.if-stands.true)
 
 pub loop-p-preserved : goal.loop-p-preserved
-loop-p-preserved c =
-    let below : c.loop-p.p < 128 = omega (arith, c.loop-p-test.true, c.requires.few) in
-    let next = next_first c.loop-p.invariant.0 below c.rest-left.ensures c.first_from-p-in-loop-p.ensures in
-    (next_on c.loop-p.invariant.0 below c.rest-left.ensures c.first_from-p-in-loop-p.ensures, none_on (sym c.stands.ensures ∙ c.if-stands.false) next c.loop-p.invariant.1)
+loop-p-preserved c = one_kept c.in-Some.ensures.steps None c.loop-p.invariant (sym c.stands.ensures ∙ c.if-stands.false)
 
 pub returns : goal.returns
-returns c = none_lowest c.loop-p-test.false c.loop-p.invariant.1
+returns c = none_reads c.in-None.ensures.steps c.loop-p.invariant

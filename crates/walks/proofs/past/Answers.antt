@@ -1,6 +1,5 @@
 -- `walks::past` meets its contract. Assumes nothing.
 use mathlib.Core.Path.{refl, ◌∙◌}
-use borrow.Author.Rules.{rules}
 use Rattle.language.proofs.Steps.{counted}
 use Rattle.walks.proofs.past.Goals as goal
 

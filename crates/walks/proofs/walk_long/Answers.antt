@@ -1,7 +1,7 @@
 -- `walks::walk_long` meets its contract. Assumes nothing.
-use Rattle.walks.proofs.Steps.{none_kept}
-use borrow.Author.Rules.{rules}
+use native.Mathlib.Omega.{arith}
+use Rattle.walks.proofs.Steps.{zeros_kept}
 use Rattle.walks.proofs.walk_long.Goals as goal
 
 pub walk_alone-requires : goal.walk_alone-requires
-walk_alone-requires c = record { room = c.requires.room; path_len = c.requires.path_len; steps_kept = none_kept c.no_steps-steps.ensures }
+walk_alone-requires c = record { room = c.requires.room; path_len = c.requires.path_len; steps_kept = zeros_kept {n = 8192} (omega arith) c.filled-steps.ensures }

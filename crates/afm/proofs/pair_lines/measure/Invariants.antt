@@ -1,11 +1,10 @@
 -- `afm::pair_lines::measure` meets its contract: each line that is passed is counted. Assumes nothing.
-use Prim.Native.Nat.{◌-◌}
 use lib.ListN.{length}
 use Rattle.afm.proofs.Measuring.{Measuring}
 use Rattle.afm.proofs.pair_lines.measure.Given as goal
 
-abbrev pub invariant-loop-at : goal.invariant-loop-at
-invariant-loop-at l = Measuring l.form l.text l.at l.count l.bytes
+abbrev pub invariant-loop-line : goal.invariant-loop-line
+invariant-loop-line l = Measuring l.form l.text l.rest l.count l.bytes
 
-abbrev pub decreases-loop-at : goal.decreases-loop-at
-decreases-loop-at l = length l.text - l.at
+abbrev pub decreases-loop-line : goal.decreases-loop-line
+decreases-loop-line l = length l.rest

@@ -1,13 +1,12 @@
 -- `afm::section/end_fault` meets its contract. Assumes nothing.
 use mathlib.Core.Path.{sym, ◌∙◌}
-use Rattle.afm.proofs.Sections.{end_missing, end_more, end_whole}
+use Rattle.fields.specs.Runs.{pairs_same}
+use Rattle.afm.proofs.Sections.{end_missing, end_behind}
 use Rattle.afm.proofs.section.end_fault.Goals as goal
 
-pub returns-then-not-starts_with : goal.returns-then-not-starts_with
-returns-then-not-starts_with c = end_missing c.args.text.now (sym c.starts_with.ensures ∙ c.if-not-starts_with.true)
+pub returns-in-Some : goal.returns-in-Some
+returns-in-Some c =
+    end_behind c.args.text.now (sym (pairs_same _ _) ∙ c.in-Some.ensures.cases.0) c.in-Some.behind.now c.in-Some.ensures.cases.1 c.is_empty.result c.is_empty.ensures c.then_some.result c.then_some.ensures
 
-pub returns-then-text-gt13 : goal.returns-then-text-gt13
-returns-then-text-gt13 c = end_more c.args.text.now (sym c.starts_with.ensures ∙ c.if-not-starts_with.false) c.if-text-gt13.true
-
-pub returns : goal.returns
-returns c = end_whole c.args.text.now (sym c.starts_with.ensures ∙ c.if-not-starts_with.false) c.if-text-gt13.false
+pub returns-in-None : goal.returns-in-None
+returns-in-None c = end_missing c.args.text.now (sym (pairs_same _ _) ∙ c.in-None.ensures.cases)

@@ -1,5 +1,4 @@
 -- `answers::results::root_of` meets its contract: an accepted program has a node. Assumes nothing.
-use borrow.Author.Rules.{rules}
 use native.Mathlib.Omega.{arith}
 use Rattle.answers.proofs.Verdicts.{accepted_sizes}
 use Rattle.answers.proofs.results.root_of.Goals as goal

@@ -1,7 +1,6 @@
 -- `answers::results::root_path` meets its contract: the root's automaton is that of its language. Assumes nothing.
 use Rattle.paths.specs.Finding.{short_marks}
 use Rattle.answers.proofs.Giving.{root_words, root_room, path_of_root}
-use borrow.Author.Rules.{rules}
 use Rattle.answers.proofs.results.root_path.Goals as goal
 
 pub automaton_of-a-requires : goal.automaton_of-a-requires

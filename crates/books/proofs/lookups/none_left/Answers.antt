@@ -6,7 +6,7 @@ use Rattle.books.proofs.Finding.{waits_none, waits_more}
 use Rattle.books.proofs.lookups.none_left.Goals as goal
 
 pub loop-i-init : goal.loop-i-init
-loop-i-init c = (omega arith, waits_none)
+loop-i-init c = waits_none
 
 pub overflow_cast-children : goal.overflow_cast-children
 overflow_cast-children c = omega (arith, c.shared_slice_known-in-loop-i-2-1.given c.loop-i.i)
@@ -15,7 +15,7 @@ pub returns-then-waits : goal.returns-then-waits
 returns-then-waits c = record { none_left = λ e. absurd (false≢true e) }
 
 pub loop-i-preserved : goal.loop-i-preserved
-loop-i-preserved c = (omega (arith, c.loop-i-test.true), waits_more c.loop-i.invariant.1 (sym c.waits.ensures ∙ c.if-waits.false))
+loop-i-preserved c = waits_more c.loop-i.invariant (sym c.waits.ensures ∙ c.if-waits.false)
 
 pub returns : goal.returns
-returns c = let ended : c.loop-i.i ≡ c.args.count = omega (arith, c.loop-i.invariant.0, c.loop-i-test.false) in record { none_left = λ e. rw ended at c.loop-i.invariant.1 }
+returns c = let ended : c.loop-i.i ≡ c.args.count = omega (arith, c.loop-i-test.false) in record { none_left = λ e. rw ended at c.loop-i.invariant }

@@ -1,6 +1,5 @@
 -- `builder::build::alias` meets its contract. Assumes nothing.
 use Rattle.builder.proofs.Parts.{alias_built}
-use borrow.Author.Rules.{rules}
 use Rattle.builder.proofs.build.alias.Goals as goal
 
 pub returns : goal.returns

@@ -1,6 +1,5 @@
 -- `builder::build::join_rows` meets its contract. Assumes nothing.
 use Rattle.builder.proofs.Parts.{rows_joined}
-use borrow.Author.Rules.{rules}
 use Rattle.builder.proofs.build.join_rows.Goals as goal
 
 pub returns : goal.returns

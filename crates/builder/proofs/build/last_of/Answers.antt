@@ -1,7 +1,6 @@
 -- `builder::build::last_of` meets its contract. Assumes nothing.
 use Rattle.builder.proofs.Steps.{last_none, last_some}
 use native.Mathlib.Omega.{arith}
-use borrow.Author.Rules.{rules}
 use Rattle.builder.proofs.build.last_of.Goals as goal
 
 pub returns-then-count-eq0 : goal.returns-then-count-eq0

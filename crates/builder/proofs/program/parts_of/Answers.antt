@@ -1,7 +1,6 @@
 -- `builder::program::parts_of` meets its contract. Assumes nothing.
 use mathlib.Core.Path.{refl, ap}
 use Rattle.builder.specs.declared.program.Parts.TheVariants.{Same}
-use borrow.Author.Rules.{rules}
 use Rattle.builder.proofs.program.parts_of.Goals as goal
 
 pub returns-in-Word : goal.returns-in-Word

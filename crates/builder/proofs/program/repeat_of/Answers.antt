@@ -1,7 +1,5 @@
 -- `builder::program::repeat_of` meets its contract. Assumes nothing.
-use native.Mathlib.Omega.{arith}
 use mathlib.Core.Path.{refl}
-use borrow.Author.Rules.{rules}
 use Rattle.builder.proofs.program.repeat_of.Goals as goal
 
 pub build_star-requires : goal.build_star-requires

@@ -1,6 +1,5 @@
 -- `builder::program::same_as` meets its contract. Assumes nothing.
 use mathlib.Core.Path.{refl}
-use borrow.Author.Rules.{rules}
 use Rattle.builder.proofs.program.same_as.Goals as goal
 
 pub returns : goal.returns

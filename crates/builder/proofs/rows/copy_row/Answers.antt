@@ -1,6 +1,5 @@
 -- `builder::rows::copy_row` meets its contract. Assumes nothing.
 use Rattle.builder.proofs.Steps.{row_copied}
-use borrow.Author.Rules.{rules}
 use Rattle.builder.proofs.rows.copy_row.Goals as goal
 
 pub returns : goal.returns

@@ -1,5 +1,4 @@
 -- `builder::rows::only_if` meets its contract. Assumes nothing.
-use borrow.Author.Rules.{rules}
 use Rattle.builder.proofs.rows.only_if.Goals as goal
 
 pub returns-then-test : goal.returns-then-test

@@ -1,7 +1,8 @@
 -- `builder::rows::put_class` meets its contract. Assumes nothing.
-use Rattle.builder.proofs.Steps.{class_put}
-use borrow.Author.Rules.{rules}
+use native.Mathlib.Omega.{arith}
+use mathlib.Core.Path.{refl}
+use Rattle.builder.proofs.Steps.{class_put, put_by}
 use Rattle.builder.proofs.rows.put_class.Goals as goal
 
 pub returns : goal.returns
-returns c = class_put _ _ _ c.args.i c.args.class c.put_two.ensures c.put_two-2.ensures
+returns c = class_put c.args.i c.args.class (put_by _ c.args.i _ c.copy_from_slice.ensures.after refl (omega arith))

@@ -1,6 +1,5 @@
 -- `builder::rows::single` meets its contract. Assumes nothing.
 use Rattle.builder.proofs.Steps.{single_some, single_none}
-use borrow.Author.Rules.{rules}
 use Rattle.builder.proofs.rows.single.Goals as goal
 
 pub returns-then-p-count : goal.returns-then-p-count

@@ -1,28 +1,34 @@
-use mathlib.Core.Path.{ap, ◌∙◌}
-use mathlib.Core.Bool.{not}
+use mathlib.Core.Path.{◌≡◌, ap, ◌∙◌}
+use mathlib.Core.Bool.{not, true, ◌||◌}
 use native.Mathlib.Omega.{arith}
-use lib.ListN.{length-take}
-use Rattle.semantics.specs.Calls.{put_call}
+use lib.ListN.{length, length-take, length-replicate}
+use Prim.Native.Nat.{ℕ}
+use Rattle.semantics.specs.Calls.{put_call, too_long}
 use Rattle.automaton.specs.Rows.{side_of}
 use Rattle.answers.proofs.Giving.{program_gives, refused, passed, not_of_lem}
 use Rattle.calls.proofs.Replying.{refused_replies, put_replies, first_long, second_long, neither_long}
 use Rattle.answers.proofs.Texts.{text_ready}
 use Rattle.calls.proofs.put.put_with.Goals as goal
+use Rattle.calls.proofs.put.put_with.Goals.{then-sheet-gt-TEXT-via-then-sheet-gt-TEXT, then-sheet-gt-TEXT-via-else-sheet-gt-TEXT+then-source-gt-TEXT}
 
 pub returns-then-sheet-gt-TEXT : goal.returns-then-sheet-gt-TEXT
 unfolding put_call
-returns-then-sheet-gt-TEXT c = refused_replies c.refuse_put.ensures (program_gives _ c.requires.accepted (refused 12 _ c.refuse_put.ensures (first_long c.args.sheet.now c.args.source.now c.if-sheet-gt-TEXT.true)))
-
-pub returns-then-source-gt-TEXT : goal.returns-then-source-gt-TEXT
-unfolding put_call
-returns-then-source-gt-TEXT c = refused_replies c.refuse_put-then-source-gt-TEXT.ensures (program_gives _ c.requires.accepted (refused 12 _ c.refuse_put-then-source-gt-TEXT.ensures (second_long c.args.sheet.now c.args.source.now c.if-sheet-gt-TEXT.false c.if-source-gt-TEXT.true)))
+returns-then-sheet-gt-TEXT c =
+    let new = c.args.sheet.now in
+    let old = c.args.source.now in
+    let long : (too_long new || too_long old) ≡ true =
+    elim c.then-sheet-gt-TEXT.branch [
+      | then-sheet-gt-TEXT-via-then-sheet-gt-TEXT w ↦ first_long new old w.if-sheet-gt-TEXT.true
+      | then-sheet-gt-TEXT-via-else-sheet-gt-TEXT+then-source-gt-TEXT w ↦ second_long new old w.if-sheet-gt-TEXT.false w.if-source-gt-TEXT.true
+    ] in
+    refused_replies c.refuse_put.ensures (program_gives _ c.requires.accepted (refused 12 _ c.refuse_put.ensures long))
 
 pub returns-then-not-root_path : goal.returns-then-not-root_path
 unfolding put_call side_of
 returns-then-not-root_path c = refused_replies c.refuse_put-then-not-root_path.ensures (program_gives _ c.requires.accepted (passed 12 (neither_long c.args.sheet.now c.args.source.now c.if-sheet-gt-TEXT.false c.if-source-gt-TEXT.false) (refused 13 _ c.refuse_put-then-not-root_path.ensures (not_of_lem c.requires.accepted c.root_path.ensures ∙ ap not c.if-not-root_path.true))))
 
 pub root_path-requires-2 : goal.root_path-requires-2
-root_path-requires-2 c = record { ready = c.requires; text_len_bound = (c.if-sheet-gt-TEXT.false, simp length-take (omega (arith, c.no_text-positions.ensures, c.if-sheet-gt-TEXT.false))) }
+root_path-requires-2 c = record { ready = c.requires; text_len_bound = (c.if-sheet-gt-TEXT.false, simp length-take (omega (arith, ap length c.filled-positions.ensures ∙ length-replicate {A = ℕ} 4096 0, c.if-sheet-gt-TEXT.false))) }
 
 pub returns-then-not-root_path-2 : goal.returns-then-not-root_path-2
 unfolding put_call side_of

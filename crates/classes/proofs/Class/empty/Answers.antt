@@ -1,5 +1,4 @@
 -- `classes::Class::empty` meets its contract: both halves are empty. Assumes nothing.
-use borrow.Author.Rules.{rules}
 use Rattle.classes.proofs.Bytes.{nothing}
 use Rattle.classes.proofs.Class.empty.Goals as goal
 

@@ -1,5 +1,4 @@
 -- `classes::Class::first_shared` meets its contract: the first byte that the lower halves share, else that of the upper ones. Assumes nothing.
-use borrow.Author.Rules.{rules}
 use Rattle.classes.proofs.Bytes.{shared_below, shared_above, shared_none}
 use Rattle.classes.proofs.Class.first_shared.Goals as goal
 

@@ -1,6 +1,5 @@
 -- `classes::Class::from` meets its contract: the first of the bytes stands in the lower half or in the upper one. Assumes nothing.
 use native.Mathlib.Omega.{arith}
-use borrow.Author.Rules.{rules}
 use Rattle.classes.proofs.Bytes.{from_low, from_high}
 use Rattle.classes.proofs.Class.from.Goals as goal
 

@@ -1,5 +1,4 @@
 -- `classes::Class::meets` meets its contract: a byte of both stands in the lower halves or in the upper ones. Assumes nothing.
-use borrow.Author.Rules.{rules}
 use Rattle.laws.specs.Basics.{not_both}
 use Rattle.classes.proofs.Bytes.{shared_low, shared_high, shared_half}
 use Rattle.classes.proofs.Class.meets.Goals as goal

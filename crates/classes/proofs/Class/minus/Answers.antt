@@ -1,6 +1,5 @@
 -- `classes::Class::minus` meets its contract: what each half of the one holds without that of the other. Assumes nothing.
 use mathlib.Core.Bool.{not, ◌&&◌}
-use borrow.Author.Rules.{rules}
 use Rattle.classes.proofs.Bytes.{each_half}
 use Rattle.classes.proofs.Class.minus.Goals as goal
 

@@ -1,6 +1,5 @@
 -- `classes::Class::union` meets its contract: what the halves of the two hold. Assumes nothing.
 use mathlib.Core.Bool.{◌||◌}
-use borrow.Author.Rules.{rules}
 use Rattle.classes.proofs.Bytes.{each_half}
 use Rattle.classes.proofs.Class.union.Goals as goal
 

@@ -3,7 +3,7 @@ use mathlib.Core.Path.{refl, ◌∙◌}
 use native.Mathlib.Omega.{arith}
 use Rattle.lens.specs.Nodes.{sizes_are}
 use Rattle.lens.specs.Parsed.{parsed_fits}
-use Rattle.decks.proofs.Dealing.{dealt_lent, dealt_more, dealt_all, stopped_card, stopped_sheet, made_entry, entry_small, lent_short, lent_parsed, parsed_node, rest_long, deck_long, same_room_begins, same_room_kept, same_room_left}
+use Rattle.decks.proofs.Dealing.{dealt_lent, dealt_more, dealt_end, stopped_card, stopped_sheet, made_entry, entry_small, lent_short, lent_parsed, parsed_node, rest_long, deck_long, same_room_begins, same_room_kept, same_room_left}
 use borrow.Author.Rules.{rules}
 use Rattle.decks.proofs.deck.deal.Goals as goal
 
@@ -49,8 +49,8 @@ slice_bounds-text-end c = c.requires.book_over.0.fits.inside c.loop-i.i c.loop-i
 pub slice_bounds-track-end : goal.slice_bounds-track-end
 slice_bounds-track-end c = omega (arith, c.requires.book_over.0.fits.inside c.loop-i.i c.loop-i-test.true, c.requires.source_len_bound.1)
 
-pub entry_card-tried-requires : goal.entry_card-tried-requires
-entry_card-tried-requires c = let parsed = (lent_parsed c.requires.entries_parsed c.loop-i.i c.loop-i-test.true) in record { lens_node = parsed_node c.requires.built.0 parsed; parsed = parsed; below_is = c.requires.built.1; text_len_bound = (lent_short c.args.source.now c.args.book c.loop-i.i c.requires.source_len_bound.0, c.loop-i.invariant.0.card_same ∙ c.requires.path_room.1, omega (arith, rest_long c.loop-i.deck c.loop-i.at, c.if-deck-at.false)); path_room = same_room_left c.loop-i.invariant.0 c.requires.path_room.0 }
+pub entry_card-requires : goal.entry_card-requires
+entry_card-requires c = let parsed = (lent_parsed c.requires.entries_parsed c.loop-i.i c.loop-i-test.true) in record { lens_node = parsed_node c.requires.built.0 parsed; parsed = parsed; below_is = c.requires.built.1; text_len_bound = (lent_short c.args.source.now c.args.book c.loop-i.i c.requires.source_len_bound.0, c.loop-i.invariant.0.card_same ∙ c.requires.path_room.1, omega (arith, rest_long c.loop-i.deck c.loop-i.at, c.if-deck-at.false)); path_room = same_room_left c.loop-i.invariant.0 c.requires.path_room.0 }
 
 pub shape_of-marks-in_default : goal.shape_of-marks-in_default
 shape_of-marks-in_default c = (search rules) ∙ c.loop-i.invariant.0.marks_same
@@ -62,25 +62,19 @@ pub shape_of-card-in_default : goal.shape_of-card-in_default
 shape_of-card-in_default c = (search rules) ∙ c.loop-i.invariant.0.card_same
 
 pub shape_of-deck-in_default : goal.shape_of-deck-in_default
-shape_of-deck-in_default c = deck_long c.loop-i.deck c.loop-i.at c.loop-i.invariant.2.within c.entry_card-tried.new.room (search rules) ∙ c.loop-i.invariant.1
+shape_of-deck-in_default c = deck_long c.loop-i.deck c.loop-i.at c.loop-i.invariant.2.within c.entry_card.new.room (search rules) ∙ c.loop-i.invariant.1
 
 pub returns-in_default : goal.returns-in_default
-returns-in_default c = record { dealt = dealt_lent c.loop-i.invariant.2 c.entry_card-tried.new.room (search rules); all = λ e. absurd (omega (arith, e, c.loop-i-test.true)); stopped = λ h paths. omega (arith, deck_long c.loop-i.deck c.loop-i.at c.loop-i.invariant.2.within c.entry_card-tried.new.room (search rules), stopped_sheet c.loop-i.invariant.2 c.requires.book_over.0 c.requires.book_over.1 c.loop-i-test.true (omega (arith, c.entry_card-tried.ensures.too_long_lem c.in_default.is (omega (arith, paths, c.loop-i.invariant.0.path_same)), c.entry_card-tried.auto.room, rest_long c.loop-i.deck c.loop-i.at))) }
+returns-in_default c = record { dealt = dealt_lent c.loop-i.invariant.2 c.entry_card.new.room (search rules); all = λ e. absurd (omega (arith, e, c.loop-i-test.true)); stopped = λ h paths. omega (arith, deck_long c.loop-i.deck c.loop-i.at c.loop-i.invariant.2.within c.entry_card.new.room (search rules), stopped_sheet c.loop-i.invariant.2 c.requires.book_over.0 c.requires.book_over.1 c.loop-i-test.true (omega (arith, c.entry_card.ensures.too_long_lem c.in_default.is (omega (arith, paths, c.loop-i.invariant.0.path_same)), c.entry_card.auto.room, rest_long c.loop-i.deck c.loop-i.at))) }
 
 pub put_head-requires : goal.put_head-requires
-put_head-requires c = record { i_bound = (omega (arith, c.loop-i-test.true, c.requires.book_over.0.fits.few), omega (arith, deck_long c.loop-i.deck c.loop-i.at c.loop-i.invariant.2.within c.entry_card-tried.new.room (search rules), c.loop-i.invariant.2.behind_heads, c.loop-i.invariant.2.within)); at_bound = omega (arith, c.loop-i.invariant.2.within, c.loop-i.invariant.1, c.requires.dealt_to.1) }
+put_head-requires c = record { i_bound = (omega (arith, c.loop-i-test.true, c.requires.book_over.0.fits.few), omega (arith, deck_long c.loop-i.deck c.loop-i.at c.loop-i.invariant.2.within c.entry_card.new.room (search rules), c.loop-i.invariant.2.behind_heads, c.loop-i.invariant.2.within)); at_bound = omega (arith, c.loop-i.invariant.2.within, c.loop-i.invariant.1, c.requires.dealt_to.1) }
 
 pub overflow_add-at-in-loop-i : goal.overflow_add-at-in-loop-i
-overflow_add-at-in-loop-i c = omega (arith, entry_small (parsed_node c.requires.built.0 (lent_parsed c.requires.entries_parsed c.loop-i.i c.loop-i-test.true)) (made_entry c.entry_card-tried.ensures c.in-Made.is), c.loop-i.invariant.2.within, c.loop-i.invariant.1, c.requires.dealt_to.1)
-
-pub overflow_add-i : goal.overflow_add-i
-overflow_add-i c = omega (arith, c.loop-i-test.true, c.requires.book_over.0.fits.few)
-
-pub loop-i-smaller : goal.loop-i-smaller
-loop-i-smaller c = omega (arith, c.loop-i-test.true)
+overflow_add-at-in-loop-i c = omega (arith, entry_small (parsed_node c.requires.built.0 (lent_parsed c.requires.entries_parsed c.loop-i.i c.loop-i-test.true)) (made_entry c.entry_card.ensures c.in-Some.is), c.loop-i.invariant.2.within, c.loop-i.invariant.1, c.requires.dealt_to.1)
 
 pub loop-i-preserved : goal.loop-i-preserved
-loop-i-preserved c = (same_room_kept c.loop-i.invariant.0 (search rules) (search rules) (search rules), (search rules) ∙ deck_long c.loop-i.deck c.loop-i.at c.loop-i.invariant.2.within c.entry_card-tried.new.room (search rules) ∙ c.loop-i.invariant.1, dealt_more c.loop-i.invariant.2 c.entry_card-tried.new.room c.requires.book_over.0 c.requires.book_over.1 c.loop-i-test.true (parsed_node c.requires.built.0 (lent_parsed c.requires.entries_parsed c.loop-i.i c.loop-i-test.true)) (parsed_fits (lent_parsed c.requires.entries_parsed c.loop-i.i c.loop-i-test.true)) (search rules) (made_entry c.entry_card-tried.ensures c.in-Made.is) c.put_head.ensures)
+loop-i-preserved c = (same_room_kept c.loop-i.invariant.0 (search rules) (search rules) (search rules), (search rules) ∙ deck_long c.loop-i.deck c.loop-i.at c.loop-i.invariant.2.within c.entry_card.new.room (search rules) ∙ c.loop-i.invariant.1, dealt_more c.loop-i.invariant.2 c.entry_card.new.room c.requires.book_over.0 c.requires.book_over.1 c.loop-i-test.true (parsed_node c.requires.built.0 (lent_parsed c.requires.entries_parsed c.loop-i.i c.loop-i-test.true)) (parsed_fits (lent_parsed c.requires.entries_parsed c.loop-i.i c.loop-i-test.true)) (search rules) (made_entry c.entry_card.ensures c.in-Some.is) c.put_head.ensures)
 
 pub shape_of-marks : goal.shape_of-marks
 shape_of-marks c = c.loop-i.invariant.0.marks_same
@@ -95,4 +89,4 @@ pub shape_of-deck : goal.shape_of-deck
 shape_of-deck c = c.loop-i.invariant.1
 
 pub returns : goal.returns
-returns c = record { dealt = c.loop-i.invariant.2; all = λ e. dealt_all c.loop-i.invariant.2 c.requires.entries_parsed c.requires.book_over.0 e; stopped = λ h. absurd (omega (arith, h, c.loop-i-test.false)) }
+returns c = dealt_end c.loop-i.invariant.2 c.requires.entries_parsed c.requires.book_over.0 c.loop-i-test.false

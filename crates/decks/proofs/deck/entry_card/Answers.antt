@@ -20,8 +20,8 @@ pub emit-key-requires : goal.emit-key-requires
 unfolding mode_side
 emit-key-requires c = record { lens_node = c.requires.lens_node; parsed = c.requires.parsed }
 
-pub seal-sealed-requires : goal.seal-sealed-requires
-seal-sealed-requires c = record { card_len = card_long (take 4098 c.args.room.now) c.emit-key.new.out (length-take-le 4098 c.args.room.now c.requires.text_len_bound.2) (search rules); key_behind = emits_behind (take 4098 c.args.room.now) c.requires.lens_node (length-take-le 4098 c.args.room.now c.requires.text_len_bound.2) (search rules) c.emit-key.ensures }
+pub seal-requires : goal.seal-requires
+seal-requires c = record { card_len = card_long (take 4098 c.args.room.now) c.emit-key.new.out (length-take-le 4098 c.args.room.now c.requires.text_len_bound.2) (search rules); key_behind = emits_behind (take 4098 c.args.room.now) c.requires.lens_node (length-take-le 4098 c.args.room.now c.requires.text_len_bound.2) (search rules) c.emit-key.ensures }
 
 pub returns : goal.returns
-returns c = let made = source_card_made (take 4098 c.args.room.now) c.requires.below_is c.requires.lens_node.inside (sym c.has_union.ensures ∙ c.if-has_union.false) (parsed_fits c.requires.parsed) (length-take-le 4098 c.args.room.now c.requires.text_len_bound.2) (search rules) c.emit-key.ensures (search rules) c.seal-sealed.ensures in tried_made (slot_card (drop 4098 c.args.room.now) (entry_within c.requires.lens_node made) made)
+returns c = let made = source_card_made (take 4098 c.args.room.now) c.requires.below_is c.requires.lens_node.inside (sym c.has_union.ensures ∙ c.if-has_union.false) (parsed_fits c.requires.parsed) (length-take-le 4098 c.args.room.now c.requires.text_len_bound.2) (search rules) c.emit-key.ensures (search rules) c.seal.ensures in tried_made (slot_card (drop 4098 c.args.room.now) (entry_within c.requires.lens_node made) made)

@@ -5,4 +5,4 @@ use Rattle.engine.proofs.put.put.Goals as goal
 
 pub returns : goal.returns
 unfolding Owed
-returns c = gives_source c.answer_in-reply.ensures.owed c.with_tally.ensures
+returns c = gives_source c.answer_in.ensures.owed c.with_tally.ensures

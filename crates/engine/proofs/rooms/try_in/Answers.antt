@@ -8,20 +8,22 @@ use Rattle.engine.proofs.rooms.try_in.Goals as goal
 
 pub answer_with-requires : goal.answer_with-requires
 unfolding CheckedIs
-answer_with-requires c = told _ _ c.check_in-checked.ensures c.in-Accepted.is
+answer_with-requires c = told _ _ c.check_in.ensures c.in-Ok.is
 
 pub refuse_with-requires : goal.refuse_with-requires
 unfolding CheckedIs
-refuse_with-requires c = told _ _ c.check_in-checked.ensures c.in-Refused.is
+refuse_with-requires c = rw c.in-Err-Refused.field-0-is at c.in-Err-Refused.ensures
 
-pub returns-in-Accepted : goal.returns-in-Accepted
+pub returns-in-Ok : goal.returns-in-Ok
 unfolding TriedIs
-returns-in-Accepted c = record { tried_is = c.answer_with.ensures }
+returns-in-Ok c = record { tried_is = c.answer_with.ensures }
 
-pub returns-in-Refused : goal.returns-in-Refused
+pub returns-in-Err-Refused : goal.returns-in-Err-Refused
 unfolding TriedIs
-returns-in-Refused c = record { tried_is = c.refuse_with.ensures _ _ }
+returns-in-Err-Refused c = record { tried_is = c.refuse_with.ensures _ _ }
 
-pub returns-in-Small : goal.returns-in-Small
+pub returns-in-Err-Small : goal.returns-in-Err-Small
 unfolding TriedIs CheckedIs
-returns-in-Small c = record { tried_is = record { too_small = subst (TooSmall c.args.bytes.now) (search rules) (told _ _ c.check_in-checked.ensures c.in-Small.is); unchanged = refl } }
+returns-in-Err-Small c =
+    let small = rw c.in-Err-Small.field-0-is at c.in-Err-Small.ensures in
+    record { tried_is = record { too_small = subst (TooSmall c.args.bytes.now) (search rules) small; unchanged = refl } }

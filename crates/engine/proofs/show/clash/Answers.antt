@@ -4,4 +4,4 @@ use Rattle.engine.proofs.show.clash.Goals as goal
 
 pub returns : goal.returns
 unfolding Owed
-returns c = c.answer_in-reply.ensures.owed
+returns c = c.answer_in.ensures.owed

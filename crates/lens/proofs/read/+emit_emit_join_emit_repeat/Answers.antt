@@ -1,15 +1,13 @@
 -- The proof of the cycle of calls {emit, emit_join, emit_repeat}: the node falls. `emit` at a node has the measure 2 * node + 1; between it and
 -- the measures of lower nodes lie those of the join of two of them, and of the repeat that the node is. In the loop of the repeat, what is
 -- written so far is what the parts so far give, and the rest is parsed. Assumes nothing.
-use Prim.Native.Nat.{ℕ, suc, ◌+◌, ◌-◌, ◌*◌, ◌≤◌, ◌<◌, max}
+use Prim.Native.Nat.{ℕ, suc, ◌+◌, ◌*◌, ◌≤◌, ◌<◌, max}
 use native.Mathlib.Nat.{le-max_left, le-max_right, max-le, suc-max-suc}
 use native.Mathlib.Omega.{arith}
-use borrow.Author.Rules.{rules}
-use lib.ListN.{length}
-use mathlib.Core.Path.{refl}
-use Rattle.texts.specs.declared.Wrote.TheVariants.{Count, Full}
+use mathlib.Core.Path.{◌≡◌, refl}
+use Rattle.std.specs.Prelude.{Some, None}
 use Rattle.lens.specs.Nodes.{
-  lens_read,
+  no_pattern,
   shown_const,
   shown_join,
   shown_union,
@@ -22,45 +20,8 @@ use Rattle.lens.specs.Nodes.{
   given_below,
 }
 use Rattle.lens.specs.Parsed.{parsed_match, parsed_join}
-use Rattle.lens.proofs.Emission.{
-  emits_copy,
-  emits_const,
-  emits_key,
-  emits_join,
-  emits_match,
-  read_below,
-  read_lower,
-  read_parsed,
-  read_emits,
-  arm_few,
-  left_parsed,
-  right_parsed,
-  emits_left,
-  emits_right,
-  emitted_within,
-  emitted_length,
-  sum_within,
-  half_few,
-  half_inside,
-  left_half,
-  right_half,
-  join_full,
-  join_next,
-}
-use Rattle.lens.proofs.Repeats.{
-  Repeating,
-  repeat_begins,
-  repeat_ends,
-  repeat_room,
-  repeat_length,
-  path_within,
-  path_left,
-  part_moves,
-  part_within,
-  part_parsed,
-  repeat_full,
-  repeat_next,
-}
+use Rattle.lens.proofs.Emission.{emits_copy, emits_const, emits_key, emits_join, emits_match, read_below, read_lower, read_parsed, read_emits, arm_few, left_parsed, right_parsed, emits_left, emits_right, emitted_within, sum_within, half_few, half_inside, left_half, right_half, join_full, join_next}
+use Rattle.lens.proofs.Repeats.{repeat_begins, repeat_ends, repeat_room, repeat_length, path_within, path_left, part_moves, part_within, part_parsed, repeat_full, repeat_next}
 use Rattle.lens.proofs.read.+emit_emit_join_emit_repeat.Goals as goal
 
 -- the measure falls from a join to its halves, and from a node to the join of two lower ones
@@ -126,23 +87,7 @@ emit-emit-requires-in-Match t c =
 
 pub emit-returns-in-Word : goal.emit-returns-in-Word
 emit-returns-in-Word t c =
-    lens_read _ c.requires.lens_node c.node-read.ensures c.in-Word.is refl
-
-pub emit-returns-in-OneOf : goal.emit-returns-in-OneOf
-emit-returns-in-OneOf t c =
-    lens_read _ c.requires.lens_node c.node-read.ensures c.in-OneOf.is refl
-
-pub emit-returns-in-PatternJoin : goal.emit-returns-in-PatternJoin
-emit-returns-in-PatternJoin t c =
-    lens_read _ c.requires.lens_node c.node-read.ensures c.in-PatternJoin.is refl
-
-pub emit-returns-in-PatternUnion : goal.emit-returns-in-PatternUnion
-emit-returns-in-PatternUnion t c =
-    lens_read _ c.requires.lens_node c.node-read.ensures c.in-PatternUnion.is refl
-
-pub emit-returns-in-PatternRepeat : goal.emit-returns-in-PatternRepeat
-emit-returns-in-PatternRepeat t c =
-    lens_read _ c.requires.lens_node c.node-read.ensures c.in-PatternRepeat.is refl
+    no_pattern c.requires.lens_node c.node-read.ensures c.in-Word.is
 
 pub emit-returns-in-Copy : goal.emit-returns-in-Copy
 emit-returns-in-Copy t c =
@@ -205,13 +150,6 @@ emit_join-emit-requires t c =
     let a-is = c.automaton_for-a.ensures in
     let lower = left-falls c.args.left c.args.right in (omega (arith, lower, c.decreases), (known, left_half c.args.mode known parsed a-is c.border-i.ensures))
 
-pub emit_join-returns-in_default : goal.emit_join-returns-in_default
-emit_join-returns-in_default t c =
-    let known = c.requires.lens_node in
-    let parsed = c.requires.parsed_join in
-    let a-is = c.automaton_for-a.ensures in
-    join_full c.args.mode known parsed a-is c.border-i.ensures c.emit.ensures c.in_default.is
-
 pub emit_join-slice_bounds-emit-count-3 : goal.emit_join-slice_bounds-emit-count-3
 emit_join-slice_bounds-emit-count-3 t c =
     let known = c.requires.lens_node in
@@ -242,11 +180,11 @@ emit_join-slice_bounds-emit-start-4 t c =
 
 pub emit_join-slice_bounds-emit-count-5 : goal.emit_join-slice_bounds-emit-count-5
 emit_join-slice_bounds-emit-count-5 t c =
-    emitted_within c.requires.lens_node c.emit.ensures c.in-Count.is
+    emitted_within c.requires.lens_node c.emit.ensures c.in_ok-n.was
 
 pub emit_join-slice_bounds-emit-start-5 : goal.emit_join-slice_bounds-emit-start-5
 emit_join-slice_bounds-emit-start-5 t c =
-    emitted_within c.requires.lens_node c.emit.ensures c.in-Count.is
+    emitted_within c.requires.lens_node c.emit.ensures c.in_ok-n.was
 
 pub emit_join-emit-requires-2 : goal.emit_join-emit-requires-2
 emit_join-emit-requires-2 t c =
@@ -255,15 +193,6 @@ emit_join-emit-requires-2 t c =
     let a-is = c.automaton_for-a.ensures in
     let lower = right-falls c.args.left c.args.right in (omega (arith, lower, c.decreases), (c.requires.lens_node_2, right_half c.args.mode known parsed a-is c.border-i.ensures))
 
-pub emit_join-returns-in_default-emit : goal.emit_join-returns-in_default-emit
-emit_join-returns-in_default-emit t c =
-    let known = c.requires.lens_node in
-    let parsed = c.requires.parsed_join in
-    let a-is = c.automaton_for-a.ensures in
-    let first = c.emit.ensures in
-    let second = c.emit-2.ensures in
-    join_next c.args.mode known parsed a-is c.border-i.ensures first c.in-Count.is second Full c.in_default-emit.is
-
 pub emit_join-returns : goal.emit_join-returns
 emit_join-returns t c =
     let known = c.requires.lens_node in
@@ -271,7 +200,7 @@ emit_join-returns t c =
     let a-is = c.automaton_for-a.ensures in
     let first = c.emit.ensures in
     let second = c.emit-2.ensures in
-    join_next c.args.mode known parsed a-is c.border-i.ensures first c.in-Count.is second (Count _) c.in-Count-emit.is
+    join_next c.args.mode known parsed a-is c.border-i.ensures first c.in_ok-n.was second (Some _) c.in_ok-m.was
 
 pub emit_repeat-automaton_for-part-requires : goal.emit_repeat-automaton_for-part-requires
 emit_repeat-automaton_for-part-requires t c = node_prepared (child_below c.requires.lens_node c.requires.one_lens) _
@@ -309,19 +238,13 @@ emit_repeat-emit-requires t c =
     let by = c.read_by-inner.ensures in
     let s = c.requires.one_lens in (omega (arith, s.lower, read_lower by, c.decreases), (read_below by (child_below c.requires.lens_node s), read_parsed by (part_parsed c.loop-o.invariant c.loop-o-test.true c.first_loop.ensures)))
 
-pub emit_repeat-shape_of-out-in_default : goal.emit_repeat-shape_of-out-in_default
-emit_repeat-shape_of-out-in_default t c = emitted_length c.requires.lens_node (repeat_full c.loop-o.invariant c.loop-o-test.true c.first_loop.ensures (read_emits c.read_by-inner.ensures c.emit.ensures) c.in_default.is)
-
-pub emit_repeat-returns-in_default : goal.emit_repeat-returns-in_default
-emit_repeat-returns-in_default t c = repeat_full c.loop-o.invariant c.loop-o-test.true c.first_loop.ensures (read_emits c.read_by-inner.ensures c.emit.ensures) c.in_default.is
-
 pub emit_repeat-loop-o-smaller : goal.emit_repeat-loop-o-smaller
 emit_repeat-loop-o-smaller t c =
     let moves = part_moves c.loop-o.invariant c.loop-o-test.true c.first_loop.ensures in
     omega (arith, moves, c.loop-o-test.true)
 
 pub emit_repeat-loop-o-preserved : goal.emit_repeat-loop-o-preserved
-emit_repeat-loop-o-preserved t c = repeat_next c.loop-o.invariant c.loop-o-test.true c.first_loop.ensures (read_emits c.read_by-inner.ensures c.emit.ensures) c.in-Count.is
+emit_repeat-loop-o-preserved t c = repeat_next c.loop-o.invariant c.loop-o-test.true c.first_loop.ensures (read_emits c.read_by-inner.ensures c.emit.ensures) c.in_ok-m.was
 
 pub emit_repeat-shape_of-out : goal.emit_repeat-shape_of-out
 emit_repeat-shape_of-out t c = repeat_length c.loop-o.invariant
@@ -331,8 +254,8 @@ emit_repeat-returns t c = repeat_ends c.loop-o.invariant c.loop-o-test.false
 
 pub emit_join-overflow_add-result : goal.emit_join-overflow_add-result
 emit_join-overflow_add-result t c =
-    let first = emitted_within c.requires.lens_node c.emit.ensures c.in-Count.is in
-    let second = emitted_within c.requires.lens_node_2 c.emit-2.ensures c.in-Count-emit.is in
+    let first = emitted_within c.requires.lens_node c.emit.ensures c.in_ok-n.was in
+    let second = emitted_within c.requires.lens_node_2 c.emit-2.ensures c.in_ok-m.was in
     omega (arith, sum_within c.emit.new.out c.emit-2.new.out first second c.emit-2.auto.out, c.emit.auto)
 
 pub emit_repeat-overflow_add-end : goal.emit_repeat-overflow_add-end
@@ -340,6 +263,28 @@ emit_repeat-overflow_add-end t c = omega (arith, part_within c.loop-o.invariant 
 
 pub emit_repeat-overflow_add-n : goal.emit_repeat-overflow_add-n
 emit_repeat-overflow_add-n t c =
-    let part = emitted_within (child_below c.requires.lens_node c.requires.one_lens) (read_emits c.read_by-inner.ensures c.emit.ensures) c.in-Count.is in
+    let part = emitted_within (child_below c.requires.lens_node c.requires.one_lens) (read_emits c.read_by-inner.ensures c.emit.ensures) c.in_ok-m.was in
     let sum = sum_within c.loop-o.out c.emit.new.out (repeat_room c.loop-o.invariant) part c.emit.auto.out in
     omega (arith, sum, repeat_length c.loop-o.invariant)
+
+pub emit_join-returns-in_err-n : goal.emit_join-returns-in_err-n
+emit_join-returns-in_err-n t c =
+    let known = c.requires.lens_node in
+    let parsed = c.requires.parsed_join in
+    let a-is = c.automaton_for-a.ensures in
+    rw c.from_residual.ensures (join_full c.args.mode known parsed a-is c.border-i.ensures c.emit.ensures c.in_err-n.was)
+
+pub emit_join-returns-in_err-m : goal.emit_join-returns-in_err-m
+emit_join-returns-in_err-m t c =
+    let known = c.requires.lens_node in
+    let parsed = c.requires.parsed_join in
+    let a-is = c.automaton_for-a.ensures in
+    let first = c.emit.ensures in
+    let second = c.emit-2.ensures in
+    rw c.from_residual-in_err-m.ensures
+    (join_next c.args.mode known parsed a-is c.border-i.ensures first c.in_ok-n.was second None c.in_err-m.was)
+
+pub emit_repeat-returns-in_err-m : goal.emit_repeat-returns-in_err-m
+emit_repeat-returns-in_err-m t c =
+    rw c.from_residual.ensures
+    (repeat_full c.loop-o.invariant c.loop-o-test.true c.first_loop.ensures (read_emits c.read_by-inner.ensures c.emit.ensures) c.in_err-m.was)

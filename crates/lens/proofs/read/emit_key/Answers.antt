@@ -1,6 +1,5 @@
 -- `lens::read::emit_key` meets its contract. Assumes nothing.
 use mathlib.Core.Path.{sym, ◌∙◌}
-use borrow.Author.Rules.{rules}
 use Rattle.lens.proofs.read.emit_key.Goals as goal
 
 pub returns-then-is_keyed : goal.returns-then-is_keyed

@@ -2,7 +2,6 @@
 use mathlib.Core.Path.{refl}
 use mathlib.Core.Logic.{inl, inr}
 use Rattle.lens.specs.Nodes.{shown_match}
-use borrow.Author.Rules.{rules}
 use Rattle.lens.proofs.read.read_by.Goals as goal
 
 pub returns-in-Match : goal.returns-in-Match

@@ -1,7 +1,6 @@
 -- `lens::read::word_of` meets its contract: the sizes of a table that was read are right, so a word of its pool lies within it. Assumes nothing.
 use native.Mathlib.Omega.{arith}
 use Rattle.lens.specs.Nodes.{shown_word, word_not_read, word_inside, word_placed}
-use borrow.Author.Rules.{rules}
 use Rattle.lens.proofs.read.word_of.Goals as goal
 
 pub returns-in_default : goal.returns-in_default

@@ -1,16 +1,12 @@
--- `meanings::texts::is_text` meets its contract. The loop's invariant: the bytes are a text if they are from byte i on. Assumes nothing.
-use mathlib.Core.Path.{sym, ◌∙◌}
-use Rattle.meanings.proofs.TextBytes.{seen_none, seen_more, seen_other, seen_all}
+-- `meanings::texts::is_text` meets its contract. Assumes nothing.
+use Rattle.std.proofs.Common.{◌∙◌, rules, tests}
+use Rattle.std.proofs.lemmas.Iterator.{YieldsList-from_slice}
+use Rattle.std.proofs.lemmas.Iterator.Search.{all_from_yields_List}
+use Rattle.meanings.specs.Texts.{is_text_byte}
+use Rattle.meanings.proofs.TextBytes.{each_byte}
 use Rattle.meanings.proofs.texts.is_text.Goals as goal
 
-pub loop-i-init : goal.loop-i-init
-loop-i-init c = seen_none _
-
-pub returns-then-not-is_text_byte : goal.returns-then-not-is_text_byte
-returns-then-not-is_text_byte c = seen_other c.loop-i.invariant c.loop-i-test.true (sym c.is_text_byte.ensures ∙ c.if-not-is_text_byte.true)
-
-pub loop-i-preserved : goal.loop-i-preserved
-loop-i-preserved c = seen_more c.loop-i.invariant c.loop-i-test.true (sym c.is_text_byte.ensures ∙ c.if-not-is_text_byte.false)
-
 pub returns : goal.returns
-returns c = seen_all c.loop-i.invariant c.loop-i-test.false
+returns c =
+    let bytes = c.args.bytes.now in
+    all_from_yields_List is_text_byte _ _ _ c.all.ensures.ran (YieldsList-from_slice bytes cc) (λ x b q k. search (rules, tests)) ∙ each_byte bytes

@@ -1,18 +1,25 @@
 -- `meanings::texts::is_text_byte` meets its contract, test by test. Assumes nothing.
-use mathlib.Core.Logic.{⊎_elim}
-use borrow.Author.Tests.{eq-eqb, ne_eqb}
-use Rattle.meanings.proofs.TextBytes.{byte_tab, byte_newline, byte_return, byte_other}
+use Rattle.std.proofs.Common.{arith}
+use Rattle.std.proofs.lemmas.Bool.Decides.{nat_tests}
+use Rattle.meanings.specs.Texts.{is_text_byte}
 use Rattle.meanings.proofs.texts.is_text_byte.Goals as goal
 
-pub returns-then-byte-eq9 : goal.returns-then-byte-eq9
-returns-then-byte-eq9 c =
-    let byte = c.args.byte in
-    ⊎_elim
-    (λ h. byte_tab byte h)
-    (⊎_elim (λ h. byte_newline byte (eq-eqb byte 10 h.1)) (λ h. byte_return byte (eq-eqb byte 13 h.2)))
-    c.then-byte-eq9.either
+pub returns-in-9 : goal.returns-in-9
+unfolding is_text_byte
+returns-in-9 c = grind (arith, nat_tests)
 
-pub returns : goal.returns
-returns c =
-    let byte = c.args.byte in
-    byte_other byte c.if-byte-eq9.false (ne_eqb byte 10 c.if-byte-eq10.false) (ne_eqb byte 13 c.if-byte-eq13.false)
+pub returns-in-9-2 : goal.returns-in-9-2
+unfolding is_text_byte
+returns-in-9-2 c = grind (arith, nat_tests)
+
+pub returns-in-9-3 : goal.returns-in-9-3
+unfolding is_text_byte
+returns-in-9-3 c = grind (arith, nat_tests)
+
+pub returns-in_default : goal.returns-in_default
+unfolding is_text_byte
+returns-in_default c = grind (arith, nat_tests)
+
+pub returns-in_default-2 : goal.returns-in_default-2
+unfolding is_text_byte
+returns-in_default-2 c = grind (arith, nat_tests)

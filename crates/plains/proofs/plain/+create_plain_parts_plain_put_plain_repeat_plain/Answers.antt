@@ -18,15 +18,15 @@ use mathlib.Core.Path.{refl, ◌∙◌}
 use borrow.Author.Rules.{rules}
 use Rattle.plains.proofs.plain.+create_plain_parts_plain_put_plain_repeat_plain.Goals as goal
 
-pub create_plain-count_at-matches-requires : goal.create_plain-count_at-matches-requires
-create_plain-count_at-matches-requires t c = plain_room c.requires.plain_ready
+pub create_plain-count_at-requires : goal.create_plain-count_at-requires
+create_plain-count_at-requires t c = plain_room c.requires.plain_ready
 
 pub create_plain-next_counted-requires : goal.create_plain-next_counted-requires
-create_plain-next_counted-requires t c = record { lens_node = c.requires.plain_ready.lens_node; given_old = given_none c.requires.new_given; fitted = (c.requires.fitted, count_met _ _ c.requires.plain_ready.lens_node c.requires.plain_ready.below_is c.count_at-matches.ensures c.if-matches-lt-VARIES.true) }
+create_plain-next_counted-requires t c = record { lens_node = c.requires.plain_ready.lens_node; given_old = given_none c.requires.new_given; fitted = (c.requires.fitted, count_met _ _ c.requires.plain_ready.lens_node c.requires.plain_ready.below_is c.in-Some.ensures) }
 
-pub create_plain-returns-then-matches-lt-VARIES : goal.create_plain-returns-then-matches-lt-VARIES
+pub create_plain-returns-in-Some : goal.create_plain-returns-in-Some
 unfolding old_text
-create_plain-returns-then-matches-lt-VARIES t c = next_plainly c.requires.plain_ready _ (count_met _ _ c.requires.plain_ready.lens_node c.requires.plain_ready.below_is c.count_at-matches.ensures c.if-matches-lt-VARIES.true) c.next_counted.ensures
+create_plain-returns-in-Some t c = next_plainly c.requires.plain_ready _ (count_met _ _ c.requires.plain_ready.lens_node c.requires.plain_ready.below_is c.in-Some.ensures) c.next_counted.ensures
 
 pub create_plain-node-read-requires : goal.create_plain-node-read-requires
 create_plain-node-read-requires t c = record { all_sized = c.requires.plain_ready.lens_node.built.sized; k_bound = c.requires.plain_ready.lens_node.inside }
@@ -142,8 +142,8 @@ create_plain-repeat_plain-requires t c = (omega (arith, c.decreases), (c.require
 pub create_plain-next_counted-requires-in-Match : goal.create_plain-next_counted-requires-in-Match
 create_plain-next_counted-requires-in-Match t c = record { lens_node = c.requires.plain_ready.lens_node; given_old = given_none c.requires.new_given; fitted = (c.requires.fitted, match_met (shown_match c.node-read.ensures c.in-Match.is) _ _) }
 
-pub create_plain-next_counted-requires-in_default : goal.create_plain-next_counted-requires-in_default
-create_plain-next_counted-requires-in_default t c = record { lens_node = c.requires.plain_ready.lens_node; given_old = given_none c.requires.new_given; fitted = (c.requires.fitted, leaf_met c.requires.plain_ready.lens_node c.node-read.ensures _ _ (record { not_join = c.in_default.not-LensJoin; not_union = c.in_default.not-LensUnion; not_repeat = c.in_default.not-LensRepeat; not_match = c.in_default.not-Match })) }
+pub create_plain-next_counted-requires-in_default-kind : goal.create_plain-next_counted-requires-in_default-kind
+create_plain-next_counted-requires-in_default-kind t c = record { lens_node = c.requires.plain_ready.lens_node; given_old = given_none c.requires.new_given; fitted = (c.requires.fitted, leaf_met c.requires.plain_ready.lens_node c.node-read.ensures _ _ (record { not_join = c.in_default-kind.not-LensJoin; not_union = c.in_default-kind.not-LensUnion; not_repeat = c.in_default-kind.not-LensRepeat; not_match = c.in_default-kind.not-Match })) }
 
 pub create_plain-returns-in-LensJoin : goal.create_plain-returns-in-LensJoin
 create_plain-returns-in-LensJoin t c =
@@ -172,9 +172,9 @@ pub create_plain-returns-in-Match : goal.create_plain-returns-in-Match
 unfolding old_text
 create_plain-returns-in-Match t c = next_plainly c.requires.plain_ready _ (match_met (shown_match c.node-read.ensures c.in-Match.is) _ _) c.next_counted-in-Match.ensures
 
-pub create_plain-returns-in_default : goal.create_plain-returns-in_default
+pub create_plain-returns-in_default-kind : goal.create_plain-returns-in_default-kind
 unfolding old_text
-create_plain-returns-in_default t c = next_plainly c.requires.plain_ready _ (leaf_met c.requires.plain_ready.lens_node c.node-read.ensures _ _ (record { not_join = c.in_default.not-LensJoin; not_union = c.in_default.not-LensUnion; not_repeat = c.in_default.not-LensRepeat; not_match = c.in_default.not-Match })) c.next_counted-in_default.ensures
+create_plain-returns-in_default-kind t c = next_plainly c.requires.plain_ready _ (leaf_met c.requires.plain_ready.lens_node c.node-read.ensures _ _ (record { not_join = c.in_default-kind.not-LensJoin; not_union = c.in_default-kind.not-LensUnion; not_repeat = c.in_default-kind.not-LensRepeat; not_match = c.in_default-kind.not-Match })) c.next_counted-in_default-kind.ensures
 
 pub parts_plain-ends_of-olds-requires : goal.parts_plain-ends_of-olds-requires
 parts_plain-ends_of-olds-requires t c = node_words (child_below c.requires.plain_ready.lens_node c.requires.one_lens)
@@ -237,7 +237,7 @@ parts_plain-put_plain-plain-requires t c =
     let parting = (c.loop-o.invariant.0 no_book no_over (no_asks _ _)) in
     let one = c.requires.one_lens in
     let given = c.requires.given_old.sheet_given in
-    let sheet = part_given parting c.loop-o-test.true c.first_loop.ensures given in (omega (arith, c.decreases, one.lower), (plain_below c.requires.plain_ready (child_below c.requires.plain_ready.lens_node one), (given_at (record { sheet_given = sheet; old_fits = part_old parting given.deck_room c.next_old-next.ensures }) c.in-At.is, parting.kept.within)))
+    let sheet = part_given parting c.loop-o-test.true c.first_loop.ensures given in (omega (arith, c.decreases, one.lower), (plain_below c.requires.plain_ready (child_below c.requires.plain_ready.lens_node one), (given_at (record { sheet_given = sheet; old_fits = part_old parting given.deck_room c.next_old-next.ensures }) c.in-Some.is, parting.kept.within)))
 
 pub parts_plain-create_plain-plain-requires : goal.parts_plain-create_plain-plain-requires
 parts_plain-create_plain-plain-requires t c =
@@ -246,11 +246,11 @@ parts_plain-create_plain-plain-requires t c =
     let given = c.requires.given_old.sheet_given in
     let sheet = part_given parting c.loop-o-test.true c.first_loop.ensures given in (omega (arith, c.decreases, one.lower), (plain_below c.requires.plain_ready (child_below c.requires.plain_ready.lens_node one), (sheet, parting.kept.within)))
 
-pub parts_plain-loop-o-smaller-in-At : goal.parts_plain-loop-o-smaller-in-At
-parts_plain-loop-o-smaller-in-At t c = omega (arith, part_inside (c.loop-o.invariant.0 no_book no_over (no_asks _ _)) c.loop-o-test.true c.first_loop.ensures)
+pub parts_plain-loop-o-smaller-in-Some : goal.parts_plain-loop-o-smaller-in-Some
+parts_plain-loop-o-smaller-in-Some t c = omega (arith, part_inside (c.loop-o.invariant.0 no_book no_over (no_asks _ _)) c.loop-o-test.true c.first_loop.ensures)
 
-pub parts_plain-loop-o-preserved-in-At : goal.parts_plain-loop-o-preserved-in-At
-parts_plain-loop-o-preserved-in-At t c =
+pub parts_plain-loop-o-preserved-in-Some : goal.parts_plain-loop-o-preserved-in-Some
+parts_plain-loop-o-preserved-in-Some t c =
     let parting = c.loop-o.invariant.0 in
     let more = c.loop-o-test.true in
     let part = c.put_plain-plain.new.path in (
@@ -262,7 +262,7 @@ parts_plain-loop-o-preserved-in-At t c =
           more
           c.first_loop.ensures
           c.next_old-next.ensures
-          (old_put c.in-At.is (c.put_plain-plain.ensures.writes b over quiet))
+          (old_put c.in-Some.is (c.put_plain-plain.ensures.writes b over quiet))
           (search rules),
       part_back (parting no_book no_over (no_asks _ _)) more c.first_loop.ensures part (search rules) ∙ c.loop-o.invariant.1,
       (search rules) ∙ c.loop-o.invariant.2,
@@ -284,7 +284,7 @@ parts_plain-loop-o-preserved t c =
           more
           c.first_loop.ensures
           c.next_old-next.ensures
-          (old_created c.in-Nothing.is (c.create_plain-plain.ensures.writes b over quiet))
+          (old_created c.in-None.is (c.create_plain-plain.ensures.writes b over quiet))
           (search rules),
       part_back (parting no_book no_over (no_asks _ _)) more c.first_loop.ensures part (search rules) ∙ c.loop-o.invariant.1,
       (search rules) ∙ c.loop-o.invariant.2,
@@ -298,15 +298,15 @@ parts_plain-returns t c =
     let one = c.requires.one_lens in
     record { writes = λ b over quiet. parting_ends (c.loop-o.invariant.0 b over (child_asks c.requires.plain_ready one quiet)) one (omega (arith, c.loop-o-test.false)) }
 
-pub put_plain-count_at-matches-requires : goal.put_plain-count_at-matches-requires
-put_plain-count_at-matches-requires t c = plain_room c.requires.plain_ready
+pub put_plain-count_at-requires : goal.put_plain-count_at-requires
+put_plain-count_at-requires t c = plain_room c.requires.plain_ready
 
 pub put_plain-next_counted-requires : goal.put_plain-next_counted-requires
-put_plain-next_counted-requires t c = record { lens_node = c.requires.plain_ready.lens_node; given_old = given_onto c.requires.given; fitted = (c.requires.fitted, count_met _ _ c.requires.plain_ready.lens_node c.requires.plain_ready.below_is c.count_at-matches.ensures c.if-matches-lt-VARIES.true) }
+put_plain-next_counted-requires t c = record { lens_node = c.requires.plain_ready.lens_node; given_old = given_onto c.requires.given; fitted = (c.requires.fitted, count_met _ _ c.requires.plain_ready.lens_node c.requires.plain_ready.below_is c.in-Some.ensures) }
 
-pub put_plain-returns-then-matches-lt-VARIES : goal.put_plain-returns-then-matches-lt-VARIES
+pub put_plain-returns-in-Some : goal.put_plain-returns-in-Some
 unfolding old_text
-put_plain-returns-then-matches-lt-VARIES t c = next_plainly c.requires.plain_ready _ (count_met _ _ c.requires.plain_ready.lens_node c.requires.plain_ready.below_is c.count_at-matches.ensures c.if-matches-lt-VARIES.true) c.next_counted.ensures
+put_plain-returns-in-Some t c = next_plainly c.requires.plain_ready _ (count_met _ _ c.requires.plain_ready.lens_node c.requires.plain_ready.below_is c.in-Some.ensures) c.next_counted.ensures
 
 pub put_plain-node-read-requires : goal.put_plain-node-read-requires
 put_plain-node-read-requires t c = record { all_sized = c.requires.plain_ready.lens_node.built.sized; k_bound = c.requires.plain_ready.lens_node.inside }
@@ -415,11 +415,11 @@ put_plain-choose-choice-requires t c =
     let known = c.requires.plain_ready.lens_node in
     let s = shown_union c.node-read.ensures c.in-LensUnion.is in record { prepared = (node_prepared (left_below known s) Source, node_prepared (left_below known s) Sheet, node_prepared (right_below known s) Sheet); base_bound = (omega (arith, c.requires.given.sheet_given.parsed.few), place_inside c.requires.given.old_parsed, c.requires.given.sheet_given.deck_room); len_bound = (c.requires.given.sheet_given.new_short, parsed_length c.requires.given.sheet_given.parsed) }
 
-pub put_plain-put_plain-requires-in-At : goal.put_plain-put_plain-requires-in-At
-put_plain-put_plain-requires-in-At t c =
+pub put_plain-put_plain-requires-in-Some-old : goal.put_plain-put_plain-requires-in-Some-old
+put_plain-put_plain-requires-in-Some-old t c =
     let s = shown_union c.node-read.ensures c.in-LensUnion.is in
     let arm = choice_arm c.requires.plain_ready.lens_node s c.requires.given c.choose-choice.ensures in
-    let given = choice_given c.requires.plain_ready.lens_node s c.requires.given c.choose-choice.ensures in (omega (arith, c.decreases, arm.lower), (plain_below c.requires.plain_ready (lens_below c.requires.plain_ready.lens_node arm.arm arm.lower arm.arm_is), (given_at given c.in-At.is, c.requires.fitted)))
+    let given = choice_given c.requires.plain_ready.lens_node s c.requires.given c.choose-choice.ensures in (omega (arith, c.decreases, arm.lower), (plain_below c.requires.plain_ready (lens_below c.requires.plain_ready.lens_node arm.arm arm.lower arm.arm_is), (given_at given c.in-Some-old.is, c.requires.fitted)))
 
 pub put_plain-create_plain-requires : goal.put_plain-create_plain-requires
 put_plain-create_plain-requires t c =
@@ -432,8 +432,8 @@ put_plain-repeat_plain-requires t c = (omega (arith, c.decreases), (c.requires.p
 pub put_plain-next_counted-requires-in-Match : goal.put_plain-next_counted-requires-in-Match
 put_plain-next_counted-requires-in-Match t c = record { lens_node = c.requires.plain_ready.lens_node; given_old = given_onto c.requires.given; fitted = (c.requires.fitted, match_met (shown_match c.node-read.ensures c.in-Match.is) _ _) }
 
-pub put_plain-next_counted-requires-in_default : goal.put_plain-next_counted-requires-in_default
-put_plain-next_counted-requires-in_default t c = record { lens_node = c.requires.plain_ready.lens_node; given_old = given_onto c.requires.given; fitted = (c.requires.fitted, leaf_met c.requires.plain_ready.lens_node c.node-read.ensures _ _ (record { not_join = c.in_default.not-LensJoin; not_union = c.in_default.not-LensUnion; not_repeat = c.in_default.not-LensRepeat; not_match = c.in_default.not-Match })) }
+pub put_plain-next_counted-requires-in_default-kind : goal.put_plain-next_counted-requires-in_default-kind
+put_plain-next_counted-requires-in_default-kind t c = record { lens_node = c.requires.plain_ready.lens_node; given_old = given_onto c.requires.given; fitted = (c.requires.fitted, leaf_met c.requires.plain_ready.lens_node c.node-read.ensures _ _ (record { not_join = c.in_default-kind.not-LensJoin; not_union = c.in_default-kind.not-LensUnion; not_repeat = c.in_default-kind.not-LensRepeat; not_match = c.in_default-kind.not-Match })) }
 
 pub put_plain-returns-in-LensJoin : goal.put_plain-returns-in-LensJoin
 put_plain-returns-in-LensJoin t c =
@@ -448,17 +448,17 @@ put_plain-returns-in-LensJoin t c =
           (c.put_plain.ensures.writes b over (rw (far_is known s c.requires.given.sheet_given cut_is) far));
     }
 
-pub put_plain-returns-in-At : goal.put_plain-returns-in-At
-put_plain-returns-in-At t c =
+pub put_plain-returns-in-Some-old : goal.put_plain-returns-in-Some-old
+put_plain-returns-in-Some-old t c =
     let s = shown_union c.node-read.ensures c.in-LensUnion.is in
     let arm = choice_arm c.requires.plain_ready.lens_node s c.requires.given c.choose-choice.ensures in
-    record { writes = λ b over quiet. union_writes s arm (old_put c.in-At.is (c.put_plain-in-At.ensures.writes b over (arm_asks c.requires.plain_ready s arm (lens_below c.requires.plain_ready.lens_node arm.arm arm.lower arm.arm_is) quiet))) }
+    record { writes = λ b over quiet. union_writes s arm (old_put c.in-Some-old.is (c.put_plain-in-Some-old.ensures.writes b over (arm_asks c.requires.plain_ready s arm (lens_below c.requires.plain_ready.lens_node arm.arm arm.lower arm.arm_is) quiet))) }
 
-pub put_plain-returns-in-Nothing : goal.put_plain-returns-in-Nothing
-put_plain-returns-in-Nothing t c =
+pub put_plain-returns-in-None : goal.put_plain-returns-in-None
+put_plain-returns-in-None t c =
     let s = shown_union c.node-read.ensures c.in-LensUnion.is in
     let arm = choice_arm c.requires.plain_ready.lens_node s c.requires.given c.choose-choice.ensures in
-    record { writes = λ b over quiet. union_writes s arm (old_created c.in-Nothing.is (c.create_plain.ensures.writes b over (arm_asks c.requires.plain_ready s arm (lens_below c.requires.plain_ready.lens_node arm.arm arm.lower arm.arm_is) quiet))) }
+    record { writes = λ b over quiet. union_writes s arm (old_created c.in-None.is (c.create_plain.ensures.writes b over (arm_asks c.requires.plain_ready s arm (lens_below c.requires.plain_ready.lens_node arm.arm arm.lower arm.arm_is) quiet))) }
 
 pub put_plain-returns-in-LensRepeat : goal.put_plain-returns-in-LensRepeat
 unfolding old_text
@@ -468,34 +468,34 @@ pub put_plain-returns-in-Match : goal.put_plain-returns-in-Match
 unfolding old_text
 put_plain-returns-in-Match t c = next_plainly c.requires.plain_ready _ (match_met (shown_match c.node-read.ensures c.in-Match.is) _ _) c.next_counted-in-Match.ensures
 
-pub put_plain-returns-in_default : goal.put_plain-returns-in_default
+pub put_plain-returns-in_default-kind : goal.put_plain-returns-in_default-kind
 unfolding old_text
-put_plain-returns-in_default t c = next_plainly c.requires.plain_ready _ (leaf_met c.requires.plain_ready.lens_node c.node-read.ensures _ _ (record { not_join = c.in_default.not-LensJoin; not_union = c.in_default.not-LensUnion; not_repeat = c.in_default.not-LensRepeat; not_match = c.in_default.not-Match })) c.next_counted-in_default.ensures
+put_plain-returns-in_default-kind t c = next_plainly c.requires.plain_ready _ (leaf_met c.requires.plain_ready.lens_node c.node-read.ensures _ _ (record { not_join = c.in_default-kind.not-LensJoin; not_union = c.in_default-kind.not-LensUnion; not_repeat = c.in_default-kind.not-LensRepeat; not_match = c.in_default-kind.not-Match })) c.next_counted-in_default-kind.ensures
 
 pub repeat_plain-ends_of-ends-requires : goal.repeat_plain-ends_of-ends-requires
 repeat_plain-ends_of-ends-requires t c = node_words (child_below c.requires.plain_ready.lens_node c.requires.one_lens)
 
-pub repeat_plain-count_at-each-requires : goal.repeat_plain-count_at-each-requires
-repeat_plain-count_at-each-requires t c = plain_room (plain_below c.requires.plain_ready (child_below c.requires.plain_ready.lens_node c.requires.one_lens))
+pub repeat_plain-count_at-requires : goal.repeat_plain-count_at-requires
+repeat_plain-count_at-requires t c = plain_room (plain_below c.requires.plain_ready (child_below c.requires.plain_ready.lens_node c.requires.one_lens))
 
 pub repeat_plain-overflow_mul-matches : goal.repeat_plain-overflow_mul-matches
 repeat_plain-overflow_mul-matches t c =
     let given = c.requires.given_old.sheet_given in
-    omega (arith, product_small c.count_parts.result c.if-each-lt-VARIES.true (omega (arith, c.count_parts.ensures.at_most, parsed_length given.parsed, given.new_short)))
+    omega (arith, product_small _ c.count_parts.result c.in-Some.ensures (omega (arith, c.count_parts.ensures.at_most, parsed_length given.parsed, given.new_short)))
 
 pub repeat_plain-next_counted-requires : goal.repeat_plain-next_counted-requires
 repeat_plain-next_counted-requires t c =
     let ready = c.requires.plain_ready in
     let s = c.requires.one_lens in
     let given = c.requires.given_old in
-    let there = repeat_counted ready.lens_node ready.below_is s _ _ _ c.count_at-each.ensures c.if-each-lt-VARIES.true (c.count_parts.ensures.counts _ _ _ _ _ _ (child_below ready.lens_node s) s c.ends_of-ends.ensures given.sheet_given.parsed) in record { lens_node = ready.lens_node; given_old = given; fitted = (c.requires.fitted, there) }
+    let there = repeat_counted ready.lens_node ready.below_is s _ _ _ c.in-Some.ensures (c.count_parts.ensures.counts _ _ _ _ _ _ (child_below ready.lens_node s) s c.ends_of-ends.ensures given.sheet_given.parsed) in record { lens_node = ready.lens_node; given_old = given; fitted = (c.requires.fitted, there) }
 
-pub repeat_plain-returns-then-each-lt-VARIES : goal.repeat_plain-returns-then-each-lt-VARIES
-repeat_plain-returns-then-each-lt-VARIES t c =
+pub repeat_plain-returns-in-Some : goal.repeat_plain-returns-in-Some
+repeat_plain-returns-in-Some t c =
     let ready = c.requires.plain_ready in
     let s = c.requires.one_lens in
     let given = c.requires.given_old in
-    let there = repeat_counted ready.lens_node ready.below_is s _ _ _ c.count_at-each.ensures c.if-each-lt-VARIES.true (c.count_parts.ensures.counts _ _ _ _ _ _ (child_below ready.lens_node s) s c.ends_of-ends.ensures given.sheet_given.parsed) in
+    let there = repeat_counted ready.lens_node ready.below_is s _ _ _ c.in-Some.ensures (c.count_parts.ensures.counts _ _ _ _ _ _ (child_below ready.lens_node s) s c.ends_of-ends.ensures given.sheet_given.parsed) in
     next_plainly ready _ there c.next_counted.ensures
 
 pub repeat_plain-parts_plain-requires : goal.repeat_plain-parts_plain-requires

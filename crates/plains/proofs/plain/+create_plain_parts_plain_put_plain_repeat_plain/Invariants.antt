@@ -23,7 +23,7 @@ decreases-repeat_plain l = 4 * l.spot.node + 1
 
 abbrev pub invariant-parts_plain-loop-o : goal.invariant-parts_plain-loop-o
 invariant-parts_plain-loop-o l =
-    ((b : Book) → BookOver 4096 b → AsksNone l.below l.child b → Parting l.bytes l.prepared l.child l.base l.last l.first l.olds l.new l.deck l.initial.left (done_with l.initial.plain b) l.initial.out l.path l.left l.o l.out (done_with l.plain b))
+    ((b : Book) → BookOver 4096 b → AsksNone l.below l.child b → Parting l.bytes l.prepared l.child l.base l.ends.last l.ends.first l.olds l.new l.deck l.initial.left (done_with l.initial.plain b) l.initial.out l.path l.left l.o l.out (done_with l.plain b))
     × (length l.path ≡ length l.initial.path)
     × (length l.out ≡ length l.initial.out)
 

@@ -1,4 +1,5 @@
 -- `readings::line::line_with` meets its contract: the line of the last node is given. Assumes nothing.
+use native.Mathlib.Nat.{sub-zero}
 use native.Mathlib.Omega.{arith}
 use Rattle.answers.proofs.Verdicts.{accepted_sizes}
 use Rattle.answers.proofs.Giving.{program_gives}
@@ -20,5 +21,5 @@ pub returns : goal.returns
 unfolding line_call
 returns c =
     let l = root_line_lem c.requires.accepted c.node_count-count.ensures c.node-root.ensures in
-    let front = puts_front (puts_as l.line_is c.put_accepted-length.ensures.puts) (omega (arith, c.put_accepted-length.ensures.short, c.no_line-line.ensures)) in
+    let front = rw sub-zero at (puts_front (puts_as l.line_is c.put_accepted-length.ensures.puts) (omega (arith, c.put_accepted-length.ensures.short))) in
     program_gives _ c.requires.accepted (rw front at c.give.ensures)

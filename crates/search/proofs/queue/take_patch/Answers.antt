@@ -1,22 +1,30 @@
--- `search::queue::take_patch` meets its contract. The loop's invariant: p is one of the rows, or past all, and the pairs of those before it are
--- found. Assumes nothing.
+-- `search::queue::take_patch` meets its contract. The loop's invariant: those are found whose row is not left. Assumes nothing.
+use mathlib.Core.Path.{ap, subst, sym, ◌∙◌}
 use native.Mathlib.Omega.{arith}
-use Rattle.search.proofs.Queues.{patch_begins, patch_more, patch_all}
+use Rattle.positions.specs.declared.Below.{Below}
+use Rattle.search.specs.Queue.{Found}
+use Rattle.search.proofs.Queues.{IsWithin, PatchPast, patch_begins, patch_more, patch_all, within_after}
 use Rattle.search.proofs.queue.take_patch.Goals as goal
 
 pub loop-p-init : goal.loop-p-init
 loop-p-init c =
-    (c.first_from-p.ensures.held, patch_begins c.args.patch c.requires.queue c.first_from-p.ensures)
-
-pub take_row-n-requires : goal.take_row-n-requires
-take_row-n-requires c = record { queue = c.loop-p.invariant.1.queue; row_bound = omega (arith, c.requires.patch_fits.base_low) }
+    let walk = c.into_iter-p-iterator.ensures.into_iter_gives ∙ c.below-p-items.ensures in
+    let args = c.args in (
+      subst (λ (b : Below). IsWithin b.left args.patch.rows) (sym walk) (λ p h. h),
+      ap (λ (b : Below). b.end) walk,
+      subst
+          (λ (b : Below). Found (PatchPast args.patch b.left) args.order.now args.fresh.now args.count args.order.now args.fresh.now args.count)
+          (sym walk)
+          (patch_begins args.patch c.requires.queue),
+    )
 
 pub loop-p-preserved : goal.loop-p-preserved
 loop-p-preserved c =
+    let taken = c.in-Some.ensures.steps in
     let inv = c.loop-p.invariant in
-    let held = inv.0 c.loop-p-test.true in
-    let first = c.first_from-p-in-loop-p.ensures in
-    (first.held, patch_more c.args.patch held first inv.1 c.take_row-n.ensures)
+    (within_after taken _ inv.0, taken.same_end ∙ inv.1, patch_more c.args.patch taken inv.0 inv.2 c.take_row-n.ensures)
 
 pub returns : goal.returns
-returns c = patch_all c.args.patch c.loop-p-test.false c.loop-p.invariant.1
+returns c =
+    let inv = c.loop-p.invariant in
+    patch_all c.args.patch c.in-None.ensures.steps (omega (arith, inv.1)) inv.2

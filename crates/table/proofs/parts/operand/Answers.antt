@@ -4,8 +4,8 @@ use Rattle.laws.specs.RightSizes.{right_of}
 use native.Mathlib.Omega.{arith}
 use Rattle.table.proofs.parts.operand.Goals as goal
 
-pub node_count-n-requires : goal.node_count-n-requires
-node_count-n-requires c = let h = right_of c.args.bytes.now c.requires.within.sizes_right in omega (arith, c.requires.within.inside)
+pub node_count-requires : goal.node_count-requires
+node_count-requires c = let h = right_of c.args.bytes.now c.requires.within.sizes_right in omega (arith, c.requires.within.inside)
 
 pub overflow_add-result : goal.overflow_add-result
 overflow_add-result c =
@@ -23,10 +23,10 @@ pub overflow_add-result-3 : goal.overflow_add-result-3
 overflow_add-result-3 c =
     let h = right_of c.args.bytes.now c.requires.within.sizes_right in omega (arith, c.requires.within.inside)
 
-pub bounds-bytes-n : goal.bounds-bytes-n
-bounds-bytes-n c =
+pub bounds-bytes-node_count : goal.bounds-bytes-node_count
+bounds-bytes-node_count c =
     let h = right_of c.args.bytes.now c.requires.within.sizes_right in omega (arith, c.requires.within.inside)
 
 pub returns : goal.returns
 unfolding at
-returns c = rw c.node_count-n.ensures
+returns c = rw c.node_count.ensures

@@ -1,6 +1,5 @@
 -- `table::round::store` meets its contract: a node's four words.
 use Rattle.table.proofs.Measures.{stored}
-use borrow.Author.Rules.{rules}
 use lib.ListN.{length-set}
 use native.Mathlib.Omega.{arith}
 use Rattle.table.proofs.round.store.Goals as goal
@@ -12,4 +11,4 @@ pub bounds-prepared-at-3 : goal.bounds-prepared-at-3
 bounds-prepared-at-3 c = simp length-set (omega arith)
 
 pub returns : goal.returns
-returns c = stored c.args.prepared.now c.args.k c.args.node c.requires
+returns c = rw c.from.ensures (stored c.args.prepared.now c.args.k c.args.node c.requires)

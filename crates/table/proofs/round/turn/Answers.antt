@@ -1,30 +1,27 @@
 -- `table::round::turn` meets its contract: a node's turn in the first round. The tests decide the four lines in order, and what is stored is one more sized node.
-use Rattle.semantics.specs.Table.{is_broken, nested, node_at, over_limit, tree_at, trees, unknown_kind}
+use Rattle.semantics.specs.Table.{is_broken, node_at, tree_at, trees}
 use Rattle.laws.specs.RightSizes.{right_of}
-use Rattle.table.proofs.Turns.{fault_0, fault_2, fault_3, fault_4, fault_5, kept_is, limits_are, refused, sized_more, unknown_is}
-use Rattle.table.specs.Rules.{Within}
-use borrow.Author.Rules.{rules}
+use Rattle.table.specs.Prepared.{refusal}
+use Rattle.table.proofs.Decoding.{tag_names}
+use Rattle.table.proofs.Measures.{smalls, nests_is}
+use Rattle.table.proofs.Turns.{unknown, known, kept_is, fault_2, fault_3, fault_4, fault_5, no_fault, limits_are, refused, sized_more}
 use borrow.Author.Tests.{not-false, not-true}
-use mathlib.Core.Bool.{false, not}
-use mathlib.Core.Path.{◌∙◌, ◌≡◌, ap, sym}
+use mathlib.Core.Bool.{false}
+use mathlib.Core.Path.{◌≡◌, ◌∙◌, sym}
 use native.Mathlib.Omega.{arith}
 use Rattle.table.proofs.round.turn.Goals as goal
 
-pub kind_byte-kind-requires : goal.kind_byte-kind-requires
-kind_byte-kind-requires c = record { sizes_right = c.requires.sized.sizes_right; inside = c.requires.inside }
+pub kind_byte-requires : goal.kind_byte-requires
+kind_byte-requires c =
+    record { sizes_right = c.requires.sized.sizes_right; inside = c.requires.inside }
 
-pub returns-then-not-known : goal.returns-then-not-known
-returns-then-not-known c =
-    refused c.args.bytes.now c.args.k 2 _ (fault_2 c.args.bytes.now c.args.k ((unknown_is (node_at c.args.bytes.now c.args.k) ∙ (rw (c.known.ensures, c.kind_byte-kind.ensures))) ∙ ap not c.if-not-known.true)) (omega arith)
+pub returns-in_default : goal.returns-in_default
+returns-in_default c =
+    refused c.args.bytes.now c.args.k (refusal 2 c.args.k) _ (fault_2 c.args.bytes.now c.args.k (unknown (node_at c.args.bytes.now c.args.k) (rw (c.in_default.is, c.kind_byte.ensures) at c.of.ensures)))
 
-pub operand-a-requires : goal.operand-a-requires
-operand-a-requires c = record { within = record { sizes_right = c.requires.sized.sizes_right; inside = c.requires.inside }; i_bound = omega arith }
-
-pub operand-b-requires : goal.operand-b-requires
-operand-b-requires c = record { within = record { sizes_right = c.requires.sized.sizes_right; inside = c.requires.inside }; i_bound = omega arith }
-
-pub operand-c-requires : goal.operand-c-requires
-operand-c-requires c = record { within = record { sizes_right = c.requires.sized.sizes_right; inside = c.requires.inside }; i_bound = omega arith }
+pub read-requires : goal.read-requires
+read-requires c =
+    record { sizes_right = c.requires.sized.sizes_right; inside = c.requires.inside }
 
 pub keeps-requires : goal.keeps-requires
 keeps-requires c =
@@ -33,25 +30,36 @@ keeps-requires c =
 
 pub returns-then-not-keeps : goal.returns-then-not-keeps
 returns-then-not-keeps c =
-    refused c.args.bytes.now c.args.k 3 _ (fault_3 c.args.bytes.now c.args.k ((unknown_is (node_at c.args.bytes.now c.args.k) ∙ (rw (c.known.ensures, c.kind_byte-kind.ensures))) ∙ ap not c.if-not-known.false) (not-false _ (sym (c.keeps.ensures ∙ (rw c.kind_byte-kind.ensures (kept_is c.args.bytes.now c.args.k _ _ _ c.requires.sized.sizes_right c.requires.inside c.operand-a.ensures c.operand-b.ensures c.operand-c.ensures))) ∙ c.if-not-keeps.true))) (omega arith)
+    let q = tag_names c.of.result c.in-Some.is (rw c.kind_byte.ensures at c.of.ensures) in
+    let u = known (node_at c.args.bytes.now c.args.k) _ q in
+    refused c.args.bytes.now c.args.k (refusal 3 c.args.k) _ (fault_3 c.args.bytes.now c.args.k u (not-false _ (sym (c.keeps.ensures ∙ kept_is c.requires.sized.sizes_right c.requires.inside c.read.ensures q) ∙ c.if-not-keeps.true)))
 
 pub measured-node-requires : goal.measured-node-requires
-measured-node-requires c = record { sized_below = c.requires; k_value = (not-true _ (sym (c.keeps.ensures ∙ (rw c.kind_byte-kind.ensures (kept_is c.args.bytes.now c.args.k _ _ _ c.requires.sized.sizes_right c.requires.inside c.operand-a.ensures c.operand-b.ensures c.operand-c.ensures))) ∙ c.if-not-keeps.false)) }
+measured-node-requires c =
+    let q = tag_names c.of.result c.in-Some.is (rw c.kind_byte.ensures at c.of.ensures) in
+    let w : is_broken (tree_at (trees c.args.bytes.now) c.args.k) ≡ false = not-true _ (sym (c.keeps.ensures ∙ kept_is c.requires.sized.sizes_right c.requires.inside c.read.ensures q) ∙ c.if-not-keeps.false) in
+    record { sized_below = c.requires; k_value = w }
 
 pub nests-requires : goal.nests-requires
-nests-requires c = record { sized_below = c.requires; k_value = (not-true _ (sym (c.keeps.ensures ∙ (rw c.kind_byte-kind.ensures (kept_is c.args.bytes.now c.args.k _ _ _ c.requires.sized.sizes_right c.requires.inside c.operand-a.ensures c.operand-b.ensures c.operand-c.ensures))) ∙ c.if-not-keeps.false)) }
+nests-requires c =
+    smalls c.args.bytes.now c.args.k c.args.prepared.now c.requires _ c.measured-node.ensures.shows
 
 pub returns-then-nests : goal.returns-then-nests
 returns-then-nests c =
-    refused c.args.bytes.now c.args.k 4 _
-    (fault_4 c.args.bytes.now c.args.k ((unknown_is (node_at c.args.bytes.now c.args.k) ∙ (rw (c.known.ensures, c.kind_byte-kind.ensures))) ∙ ap not c.if-not-known.false) (not-true _ (sym (c.keeps.ensures ∙ (rw c.kind_byte-kind.ensures (kept_is c.args.bytes.now c.args.k _ _ _ c.requires.sized.sizes_right c.requires.inside c.operand-a.ensures c.operand-b.ensures c.operand-c.ensures))) ∙ c.if-not-keeps.false)) (sym c.nests.ensures ∙ c.if-nests.true))
-    (omega arith)
+    let q = tag_names c.of.result c.in-Some.is (rw c.kind_byte.ensures at c.of.ensures) in
+    let u = known (node_at c.args.bytes.now c.args.k) _ q in
+    let w : is_broken (tree_at (trees c.args.bytes.now) c.args.k) ≡ false = not-true _ (sym (c.keeps.ensures ∙ kept_is c.requires.sized.sizes_right c.requires.inside c.read.ensures q) ∙ c.if-not-keeps.false) in
+    let n = sym (c.nests.ensures ∙ nests_is c.args.bytes.now c.args.k c.args.prepared.now c.requires _ c.measured-node.ensures.shows) ∙ c.if-nests.true in
+    refused c.args.bytes.now c.args.k (refusal 4 c.args.k) _ (fault_4 c.args.bytes.now c.args.k u w n)
 
 pub returns-then-over_limits : goal.returns-then-over_limits
 returns-then-over_limits c =
-    refused c.args.bytes.now c.args.k 5 _
-    (fault_5 c.args.bytes.now c.args.k ((unknown_is (node_at c.args.bytes.now c.args.k) ∙ (rw (c.known.ensures, c.kind_byte-kind.ensures))) ∙ ap not c.if-not-known.false) (not-true _ (sym (c.keeps.ensures ∙ (rw c.kind_byte-kind.ensures (kept_is c.args.bytes.now c.args.k _ _ _ c.requires.sized.sizes_right c.requires.inside c.operand-a.ensures c.operand-b.ensures c.operand-c.ensures))) ∙ c.if-not-keeps.false)) (sym c.nests.ensures ∙ c.if-nests.false) ((sym (limits_are c.args.bytes.now c.args.k c.measured-node.result c.measured-node.ensures) ∙ sym c.over_limits.ensures) ∙ c.if-over_limits.true))
-    (omega arith)
+    let q = tag_names c.of.result c.in-Some.is (rw c.kind_byte.ensures at c.of.ensures) in
+    let u = known (node_at c.args.bytes.now c.args.k) _ q in
+    let w : is_broken (tree_at (trees c.args.bytes.now) c.args.k) ≡ false = not-true _ (sym (c.keeps.ensures ∙ kept_is c.requires.sized.sizes_right c.requires.inside c.read.ensures q) ∙ c.if-not-keeps.false) in
+    let n = sym (c.nests.ensures ∙ nests_is c.args.bytes.now c.args.k c.args.prepared.now c.requires _ c.measured-node.ensures.shows) ∙ c.if-nests.false in
+    let l = sym (c.over_limits.ensures ∙ limits_are c.args.bytes.now c.args.k c.measured-node.result c.measured-node.ensures) ∙ c.if-over_limits.true in
+    refused c.args.bytes.now c.args.k (refusal 5 c.args.k) _ (fault_5 c.args.bytes.now c.args.k u w n l)
 
 pub store-requires : goal.store-requires
 store-requires c =
@@ -59,12 +67,12 @@ store-requires c =
 
 pub returns : goal.returns
 returns c =
-    let m = c.measured-node in
-    let w = (not-true _ (sym (c.keeps.ensures ∙ (rw c.kind_byte-kind.ensures (kept_is c.args.bytes.now c.args.k _ _ _ c.requires.sized.sizes_right c.requires.inside c.operand-a.ensures c.operand-b.ensures c.operand-c.ensures))) ∙ c.if-not-keeps.false)) in
-    let n = (sym c.nests.ensures ∙ c.if-nests.false) in
-    let l = (sym (limits_are c.args.bytes.now c.args.k c.measured-node.result c.measured-node.ensures) ∙ sym c.over_limits.ensures) ∙ c.if-over_limits.false in
+    let q = tag_names c.of.result c.in-Some.is (rw c.kind_byte.ensures at c.of.ensures) in
+    let u = known (node_at c.args.bytes.now c.args.k) _ q in
+    let w : is_broken (tree_at (trees c.args.bytes.now) c.args.k) ≡ false = not-true _ (sym (c.keeps.ensures ∙ kept_is c.requires.sized.sizes_right c.requires.inside c.read.ensures q) ∙ c.if-not-keeps.false) in
+    let n = sym (c.nests.ensures ∙ nests_is c.args.bytes.now c.args.k c.args.prepared.now c.requires _ c.measured-node.ensures.shows) ∙ c.if-nests.false in
+    let l = sym (c.over_limits.ensures ∙ limits_are c.args.bytes.now c.args.k c.measured-node.result c.measured-node.ensures) ∙ c.if-over_limits.false in
     record {
-      fault_is = fault_0 c.args.bytes.now c.args.k ((unknown_is (node_at c.args.bytes.now c.args.k) ∙ (rw (c.known.ensures, c.kind_byte-kind.ensures))) ∙ ap not c.if-not-known.false) w n l;
-      sized = λ z.
-          sized_more c.args.bytes.now c.args.k c.args.prepared.now c.store.new.prepared m.result c.requires.sized c.store.ensures m.ensures w n l;
+      fault_is = no_fault c.args.bytes.now c.args.k u w n l;
+      sized = λ z. sized_more c.args.bytes.now c.args.k c.args.prepared.now c.store.new.prepared c.measured-node.result c.requires.sized c.store.ensures c.measured-node.ensures w n l;
     }

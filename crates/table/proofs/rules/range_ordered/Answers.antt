@@ -1,12 +1,13 @@
 -- `table::rules::range_ordered` meets its contract: a range's rule.
 use Rattle.table.specs.Rules.{range_ordered}
-use borrow.Author.Tests.{le-leb, lt-leb}
+use native.Mathlib.Omega.{arith}
+use Rattle.std.proofs.lemmas.Bool.Decides.{nat_tests}
 use Rattle.table.proofs.rules.range_ordered.Goals as goal
 
-pub returns-then-b-a : goal.returns-then-b-a
+pub returns-then-operands : goal.returns-then-operands
 unfolding range_ordered
-returns-then-b-a c = rw (lt-leb c.args.a c.args.b c.if-b-a.true)
+returns-then-operands c = grind (arith, nat_tests)
 
-pub returns : goal.returns
+pub returns-else-operands : goal.returns-else-operands
 unfolding range_ordered
-returns c = rw (le-leb c.args.a c.args.b c.if-b-a.false)
+returns-else-operands c = grind (arith, nat_tests)

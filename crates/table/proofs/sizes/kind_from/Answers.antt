@@ -1,61 +1,61 @@
--- `table::sizes::kind_from` meets its contract: the kind of a known kind byte, with its operands.
-use Rattle.semantics.specs.Table.{kind_of, two}
-use Rattle.table.proofs.KindBytes.{kind_number, only_match}
-use Rattle.table.specs.Rules.{decoded}
-use borrow.Author.Rules.{rules}
-use mathlib.Core.Option.{some-injective}
-use mathlib.Core.Path.{ap}
-use Rattle.semantics.specs.Table as S
+-- `table::sizes::kind_from` meets its contract: the kind of a tag, with its operands.
+use Rattle.table.specs.Rules.{decoded, named}
+use Rattle.semantics.specs.Table.{two}
+use native.Mathlib.Omega.{arith}
 use Rattle.table.proofs.sizes.kind_from.Goals as goal
 
-pub returns-in-0 : goal.returns-in-0
-unfolding kind_of decoded two
-returns-in-0 c = λ κ e. ap (λ q. decoded q c.args.a c.args.b c.args.c c.args.at c.args.pool) (some-injective S.Word κ (rw c.in-0.is at e))
+pub overflow_add-result : goal.overflow_add-result
+unfolding two
+overflow_add-result c = omega arith
 
-pub returns-in-1 : goal.returns-in-1
-unfolding kind_of decoded two
-returns-in-1 c = λ κ e. ap (λ q. decoded q c.args.a c.args.b c.args.c c.args.at c.args.pool) (some-injective S.Range κ (rw c.in-1.is at e))
+pub returns-in-Word : goal.returns-in-Word
+unfolding decoded named
+returns-in-Word c = rw c.in-Word.is (cc)
 
-pub returns-in-2 : goal.returns-in-2
-unfolding kind_of decoded two
-returns-in-2 c = λ κ e. ap (λ q. decoded q c.args.a c.args.b c.args.c c.args.at c.args.pool) (some-injective S.PatternJoin κ (rw c.in-2.is at e))
+pub returns-in-Range : goal.returns-in-Range
+unfolding decoded named
+returns-in-Range c = rw c.in-Range.is (cc)
 
-pub returns-in-3 : goal.returns-in-3
-unfolding kind_of decoded two
-returns-in-3 c = λ κ e. ap (λ q. decoded q c.args.a c.args.b c.args.c c.args.at c.args.pool) (some-injective S.PatternUnion κ (rw c.in-3.is at e))
+pub returns-in-PatternJoin : goal.returns-in-PatternJoin
+unfolding decoded named
+returns-in-PatternJoin c = rw c.in-PatternJoin.is (cc)
 
-pub returns-in-4 : goal.returns-in-4
-unfolding kind_of decoded two
-returns-in-4 c = λ κ e. ap (λ q. decoded q c.args.a c.args.b c.args.c c.args.at c.args.pool) (some-injective S.PatternRepeat κ (rw c.in-4.is at e))
+pub returns-in-PatternUnion : goal.returns-in-PatternUnion
+unfolding decoded named
+returns-in-PatternUnion c = rw c.in-PatternUnion.is (cc)
 
-pub returns-in-5 : goal.returns-in-5
-unfolding kind_of decoded two
-returns-in-5 c = λ κ e. ap (λ q. decoded q c.args.a c.args.b c.args.c c.args.at c.args.pool) (some-injective S.Set κ (rw c.in-5.is at e))
+pub returns-in-PatternRepeat : goal.returns-in-PatternRepeat
+unfolding decoded named
+returns-in-PatternRepeat c = rw c.in-PatternRepeat.is (cc)
 
-pub returns-in-16 : goal.returns-in-16
-unfolding kind_of decoded two
-returns-in-16 c = λ κ e. ap (λ q. decoded q c.args.a c.args.b c.args.c c.args.at c.args.pool) (some-injective S.Copy κ (rw c.in-16.is at e))
+pub returns-in-Set : goal.returns-in-Set
+unfolding decoded named
+returns-in-Set c = rw c.in-Set.is (cc)
 
-pub returns-in-17 : goal.returns-in-17
-unfolding kind_of decoded two
-returns-in-17 c = λ κ e. ap (λ q. decoded q c.args.a c.args.b c.args.c c.args.at c.args.pool) (some-injective S.Const κ (rw c.in-17.is at e))
+pub returns-in-Copy : goal.returns-in-Copy
+unfolding decoded named
+returns-in-Copy c = rw c.in-Copy.is (cc)
 
-pub returns-in-18 : goal.returns-in-18
-unfolding kind_of decoded two
-returns-in-18 c = λ κ e. ap (λ q. decoded q c.args.a c.args.b c.args.c c.args.at c.args.pool) (some-injective S.Key κ (rw c.in-18.is at e))
+pub returns-in-Const : goal.returns-in-Const
+unfolding decoded named
+returns-in-Const c = rw c.in-Const.is (cc)
 
-pub returns-in-19 : goal.returns-in-19
-unfolding kind_of decoded two
-returns-in-19 c = λ κ e. ap (λ q. decoded q c.args.a c.args.b c.args.c c.args.at c.args.pool) (some-injective S.LensJoin κ (rw c.in-19.is at e))
+pub returns-in-Key : goal.returns-in-Key
+unfolding decoded named
+returns-in-Key c = rw c.in-Key.is (cc)
 
-pub returns-in-20 : goal.returns-in-20
-unfolding kind_of decoded two
-returns-in-20 c = λ κ e. ap (λ q. decoded q c.args.a c.args.b c.args.c c.args.at c.args.pool) (some-injective S.LensUnion κ (rw c.in-20.is at e))
+pub returns-in-LensJoin : goal.returns-in-LensJoin
+unfolding decoded named
+returns-in-LensJoin c = rw c.in-LensJoin.is (cc)
 
-pub returns-in-21 : goal.returns-in-21
-unfolding kind_of decoded two
-returns-in-21 c = λ κ e. ap (λ q. decoded q c.args.a c.args.b c.args.c c.args.at c.args.pool) (some-injective S.LensRepeat κ (rw c.in-21.is at e))
+pub returns-in-LensUnion : goal.returns-in-LensUnion
+unfolding decoded named
+returns-in-LensUnion c = rw c.in-LensUnion.is (cc)
 
-pub returns-in_default : goal.returns-in_default
-unfolding decoded
-returns-in_default c = λ κ e. rw (only_match c.args.kind κ (kind_number c.args.kind κ e) c.in_default.in_default-own.rest.0.0.0.0.0.0.0.0.0.0.0.1 c.in_default.in_default-own.rest.0.0.0.0.0.0.0.0.0.0.1 c.in_default.in_default-own.rest.0.0.0.0.0.0.0.0.0.1 c.in_default.in_default-own.rest.0.0.0.0.0.0.0.0.1 c.in_default.in_default-own.rest.0.0.0.0.0.0.0.1 c.in_default.in_default-own.rest.0.0.0.0.0.0.1 c.in_default.in_default-own.rest.0.0.0.0.0.1 c.in_default.in_default-own.rest.0.0.0.0.1 c.in_default.in_default-own.rest.0.0.0.1 c.in_default.in_default-own.rest.0.0.1 c.in_default.in_default-own.rest.0.1 c.in_default.in_default-own.rest.1)
+pub returns-in-LensRepeat : goal.returns-in-LensRepeat
+unfolding decoded named
+returns-in-LensRepeat c = rw c.in-LensRepeat.is (cc)
+
+pub returns-in-Match : goal.returns-in-Match
+unfolding decoded named
+returns-in-Match c = rw c.in-Match.is (cc)

@@ -1,7 +1,5 @@
 -- `table::sizes::over_one` meets its contract: the sizes of a node with one child.
-use borrow.Author.Rules.{rules}
-use mathlib.Core.Path.{refl}
 use Rattle.table.proofs.sizes.over_one.Goals as goal
 
 pub returns : goal.returns
-returns c = record { size_is = rw c.word.ensures; source_is = c.word-2.ensures; sheet_is = c.word-3.ensures; match_is = rw c.word-4.ensures; kind_is = refl }
+returns c = let h = c.sized-child.ensures in record { size_is = rw h.size_is; source_is = h.source_is; sheet_is = h.sheet_is; match_is = h.match_is; kind_is = h.kind_is }

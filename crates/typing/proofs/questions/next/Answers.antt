@@ -2,7 +2,6 @@
 use mathlib.Core.Path.{◌∙◌, ap}
 use mathlib.Core.Bool.{Bool, ◌&&◌, ◌||◌}
 use Rattle.positions.specs.Positions.{holds}
-use borrow.Author.Rules.{rules}
 use Rattle.typing.proofs.questions.next.Goals as goal
 
 pub returns : goal.returns

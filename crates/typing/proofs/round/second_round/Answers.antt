@@ -1,27 +1,26 @@
--- `typing::round::second_round` meets its contract. The loop's invariant: the nodes so far passed, and the room for pairs has its size; the measure is what is left of the nodes.
--- Assumes nothing.
-use Prim.Native.Nat.{◌-◌}
+-- `typing::round::second_round` meets its contract. The invariant of the loop: the nodes so far have passed.
 use native.Mathlib.Omega.{arith}
 use borrow.Author.Rules.{rules}
-use Rattle.typing.specs.Stages.{PairRoom}
+use mathlib.Core.Path.{◌≡◌}
+use Rattle.std.specs.Prelude.{Err}
 use Rattle.typing.proofs.Faults.{sizes}
-use Rattle.typing.proofs.Turns.{Passed, passed_begins, passed_more, passed_refused, passed_all}
+use Rattle.typing.proofs.Turns.{passed_begins, passed_more, passed_refused, passed_all}
 use Rattle.typing.proofs.round.second_round.Goals as goal
 
-pub node_count-n-requires : goal.node_count-n-requires
-node_count-n-requires c = let h = sizes c.requires in omega arith
+pub node_count-k-end-requires : goal.node_count-k-end-requires
+node_count-k-end-requires c = let h = sizes c.requires in omega arith
 
 pub loop-k-init : goal.loop-k-init
-loop-k-init c = (passed_begins c.node_count-n.ensures, (c.blank-shares.ensures.size, c.blank-led.ensures.size, c.blank-cells.ensures.size))
+loop-k-init c = passed_begins c.node_count-k-end.ensures
 
-pub node_fault-number-requires : goal.node_fault-number-requires
-node_fault-number-requires c = record { built = c.requires; k_bound = omega (arith, c.loop-k.invariant.0.count_is); pair_room = c.loop-k.invariant.1 }
-
-pub returns-then-number-ne0 : goal.returns-then-number-ne0
-returns-then-number-ne0 c = passed_refused c.loop-k.invariant.0 c.loop-k-test.true c.node_fault-number.ensures c.if-number-ne0.true
+pub node_fault-requires : goal.node_fault-requires
+node_fault-requires c = record { built = c.requires; k_bound = omega arith }
 
 pub loop-k-preserved : goal.loop-k-preserved
-loop-k-preserved c = (passed_more c.loop-k.invariant.0 c.loop-k-test.true c.node_fault-number.ensures c.if-number-ne0.false, (search rules, search rules, search rules))
+loop-k-preserved c = passed_more c.loop-k.invariant c.loop-k-test.true c.node_fault.ensures c.in_ok-node_fault.was
+
+pub returns-in_err-node_fault : goal.returns-in_err-node_fault
+returns-in_err-node_fault c = let e : c.from_residual.result ≡ Err c.in_err-node_fault.field-0.0 = search rules in rw e (passed_refused c.loop-k.invariant c.loop-k-test.true c.node_fault.ensures c.in_err-node_fault.was)
 
 pub returns : goal.returns
-returns c = passed_all c.loop-k.invariant.0 c.loop-k-test.false
+returns c = passed_all c.loop-k.invariant c.loop-k-test.false

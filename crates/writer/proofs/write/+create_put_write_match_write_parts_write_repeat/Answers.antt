@@ -287,11 +287,11 @@ put-choose-choice-requires t c =
     let known = c.requires.ready.lens_node in
     let s = shown_union c.node-read.ensures c.in-LensUnion.is in record { prepared = (node_prepared (left_below known s) Source, node_prepared (left_below known s) Sheet, node_prepared (right_below known s) Sheet); base_bound = (omega (arith, c.requires.given.sheet_given.parsed.few), place_inside c.requires.given.old_parsed, c.requires.given.sheet_given.deck_room); len_bound = (c.requires.given.sheet_given.new_short, parsed_length c.requires.given.sheet_given.parsed) }
 
-pub put-put-requires-in-At : goal.put-put-requires-in-At
-put-put-requires-in-At t c =
+pub put-put-requires-in-Some : goal.put-put-requires-in-Some
+put-put-requires-in-Some t c =
     let s = shown_union c.node-read.ensures c.in-LensUnion.is in
     let arm = choice_arm c.requires.ready.lens_node s c.requires.given c.choose-choice.ensures in
-    let given = choice_given c.requires.ready.lens_node s c.requires.given c.choose-choice.ensures in (omega (arith, c.decreases, arm.lower), (arm_ready arm c.requires.ready, (given_at given c.in-At.is, c.requires.within_buffer)))
+    let given = choice_given c.requires.ready.lens_node s c.requires.given c.choose-choice.ensures in (omega (arith, c.decreases, arm.lower), (arm_ready arm c.requires.ready, (given_at given c.in-Some.is, c.requires.within_buffer)))
 
 pub put-create-requires : goal.put-create-requires
 put-create-requires t c =
@@ -315,15 +315,15 @@ put-returns-in-LensJoin t c =
     let cut_is = c.cut_sheet-cut.ensures in
     join_put known s c.requires.given.sheet_given cut_is c.requires.given.old_parsed c.halves_of-halves.ensures c.put-done.ensures c.put.ensures
 
-pub put-returns-in-At : goal.put-returns-in-At
-put-returns-in-At t c =
+pub put-returns-in-Some : goal.put-returns-in-Some
+put-returns-in-Some t c =
     let s = shown_union c.node-read.ensures c.in-LensUnion.is in
-    union_writes s (choice_arm c.requires.ready.lens_node s c.requires.given c.choose-choice.ensures) (old_put c.in-At.is c.put-in-At.ensures)
+    union_writes s (choice_arm c.requires.ready.lens_node s c.requires.given c.choose-choice.ensures) (old_put c.in-Some.is c.put-in-Some.ensures)
 
-pub put-returns-in-Nothing : goal.put-returns-in-Nothing
-put-returns-in-Nothing t c =
+pub put-returns-in-None : goal.put-returns-in-None
+put-returns-in-None t c =
     let s = shown_union c.node-read.ensures c.in-LensUnion.is in
-    union_writes s (choice_arm c.requires.ready.lens_node s c.requires.given c.choose-choice.ensures) (old_created c.in-Nothing.is c.create.ensures)
+    union_writes s (choice_arm c.requires.ready.lens_node s c.requires.given c.choose-choice.ensures) (old_created c.in-None.is c.create.ensures)
 
 pub put-returns-in-LensRepeat : goal.put-returns-in-LensRepeat
 unfolding old_text
@@ -342,16 +342,16 @@ pub write_match-find_entry-lookup-requires : goal.write_match-find_entry-lookup-
 write_match-find_entry-lookup-requires t c = record { lens_node = c.requires.ready.lens_node; new_given = c.requires.new_given.0; looks_in = (c.requires.ready.looks_in, c.requires.within_buffer.1) }
 
 pub write_match-put-requires : goal.write_match-put-requires
-write_match-put-requires t c = (omega (arith, c.decreases), (found_ready c.requires.ready c.find_entry-lookup.ensures, (given_at (found_given c.requires.ready c.find_entry-lookup.ensures c.requires.new_given.0) c.in-At.is, (c.requires.within_buffer.0, (search rules) ∙ c.requires.within_buffer.1))))
+write_match-put-requires t c = (omega (arith, c.decreases), (found_ready c.requires.ready c.find_entry-lookup.ensures, (given_at (found_given c.requires.ready c.find_entry-lookup.ensures c.requires.new_given.0) c.in-Some.is, (c.requires.within_buffer.0, (search rules) ∙ c.requires.within_buffer.1))))
 
 pub write_match-create-requires : goal.write_match-create-requires
 write_match-create-requires t c = (omega (arith, c.decreases), (found_ready c.requires.ready c.find_entry-lookup.ensures, (c.requires.new_given.0, (c.requires.within_buffer.0, (search rules) ∙ c.requires.within_buffer.1))))
 
-pub write_match-returns-in-At : goal.write_match-returns-in-At
-write_match-returns-in-At t c = match_writes c.find_entry-lookup.ensures c.wrapping_add_usize-met.ensures.value (inner_met _ _ c.requires.new_given.1) (old_put c.in-At.is c.put.ensures)
+pub write_match-returns-in-Some : goal.write_match-returns-in-Some
+write_match-returns-in-Some t c = match_writes c.find_entry-lookup.ensures c.wrapping_add_usize.ensures.value (inner_met _ _ c.requires.new_given.1) (old_put c.in-Some.is c.put.ensures)
 
-pub write_match-returns-in-Nothing : goal.write_match-returns-in-Nothing
-write_match-returns-in-Nothing t c = match_writes c.find_entry-lookup.ensures c.wrapping_add_usize-met.ensures.value (inner_met _ _ c.requires.new_given.1) (old_created c.in-Nothing.is c.create.ensures)
+pub write_match-returns-in-None : goal.write_match-returns-in-None
+write_match-returns-in-None t c = match_writes c.find_entry-lookup.ensures c.wrapping_add_usize.ensures.value (inner_met _ _ c.requires.new_given.1) (old_created c.in-None.is c.create.ensures)
 
 pub write_parts-ends_of-olds-requires : goal.write_parts-ends_of-olds-requires
 write_parts-ends_of-olds-requires t c = node_words (child_below c.requires.ready.lens_node c.requires.one_lens)
@@ -414,7 +414,7 @@ write_parts-put-done-requires t c =
     let parting = c.loop-o.invariant.0 in
     let one = c.requires.one_lens in
     let given = c.requires.given_old.sheet_given in
-    let sheet = part_given parting c.loop-o-test.true c.first_loop.ensures given in (omega (arith, c.decreases, one.lower), (ready_left c.requires.ready (child_below c.requires.ready.lens_node one) parting.kept.over parting.kept.same_entries, (given_at (record { sheet_given = sheet; old_fits = part_old parting given.deck_room c.next_old-next.ensures }) c.in-At.is, (parting.kept.within, c.loop-o.invariant.2 ∙ c.requires.within_buffer.1))))
+    let sheet = part_given parting c.loop-o-test.true c.first_loop.ensures given in (omega (arith, c.decreases, one.lower), (ready_left c.requires.ready (child_below c.requires.ready.lens_node one) parting.kept.over parting.kept.same_entries, (given_at (record { sheet_given = sheet; old_fits = part_old parting given.deck_room c.next_old-next.ensures }) c.in-Some.is, (parting.kept.within, c.loop-o.invariant.2 ∙ c.requires.within_buffer.1))))
 
 pub write_parts-create-done-requires : goal.write_parts-create-done-requires
 write_parts-create-done-requires t c =
@@ -423,15 +423,15 @@ write_parts-create-done-requires t c =
     let given = c.requires.given_old.sheet_given in
     let sheet = part_given parting c.loop-o-test.true c.first_loop.ensures given in (omega (arith, c.decreases, one.lower), (ready_left c.requires.ready (child_below c.requires.ready.lens_node one) parting.kept.over parting.kept.same_entries, (sheet, (parting.kept.within, c.loop-o.invariant.2 ∙ c.requires.within_buffer.1))))
 
-pub write_parts-loop-o-smaller-in-At : goal.write_parts-loop-o-smaller-in-At
-write_parts-loop-o-smaller-in-At t c = omega (arith, part_inside c.loop-o.invariant.0 c.loop-o-test.true c.first_loop.ensures)
+pub write_parts-loop-o-smaller-in-Some : goal.write_parts-loop-o-smaller-in-Some
+write_parts-loop-o-smaller-in-Some t c = omega (arith, part_inside c.loop-o.invariant.0 c.loop-o-test.true c.first_loop.ensures)
 
-pub write_parts-loop-o-preserved-in-At : goal.write_parts-loop-o-preserved-in-At
-write_parts-loop-o-preserved-in-At t c =
+pub write_parts-loop-o-preserved-in-Some : goal.write_parts-loop-o-preserved-in-Some
+write_parts-loop-o-preserved-in-Some t c =
     let parting = c.loop-o.invariant.0 in
     let more = c.loop-o-test.true in
     let part = c.put-done.new.path in (
-      parting_next parting part c.requires.given_old.sheet_given.deck_room more c.first_loop.ensures c.next_old-next.ensures (old_put c.in-At.is c.put-done.ensures) (search rules),
+      parting_next parting part c.requires.given_old.sheet_given.deck_room more c.first_loop.ensures c.next_old-next.ensures (old_put c.in-Some.is c.put-done.ensures) (search rules),
       part_back parting more c.first_loop.ensures part (search rules) ∙ c.loop-o.invariant.1,
       (search rules) ∙ c.loop-o.invariant.2,
       (search rules) ∙ c.loop-o.invariant.3,
@@ -445,7 +445,7 @@ write_parts-loop-o-preserved t c =
     let parting = c.loop-o.invariant.0 in
     let more = c.loop-o-test.true in
     let part = c.create-done.new.path in (
-      parting_next parting part c.requires.given_old.sheet_given.deck_room more c.first_loop.ensures c.next_old-next.ensures (old_created c.in-Nothing.is c.create-done.ensures) (search rules),
+      parting_next parting part c.requires.given_old.sheet_given.deck_room more c.first_loop.ensures c.next_old-next.ensures (old_created c.in-None.is c.create-done.ensures) (search rules),
       part_back parting more c.first_loop.ensures part (search rules) ∙ c.loop-o.invariant.1,
       (search rules) ∙ c.loop-o.invariant.2,
       (search rules) ∙ c.loop-o.invariant.3,

@@ -19,7 +19,7 @@ decreases-write_repeat l = 4 * l.spot.node + 1
 
 abbrev pub invariant-write_parts-loop-o : goal.invariant-write_parts-loop-o
 invariant-write_parts-loop-o l =
-    Parting l.bytes l.prepared l.child l.base l.last l.first l.olds l.new l.deck l.initial.left l.initial.done l.initial.out l.path l.left l.o l.out l.done
+    Parting l.bytes l.prepared l.child l.base l.ends.last l.ends.first l.olds l.new l.deck l.initial.left l.initial.done l.initial.out l.path l.left l.o l.out l.done
     × (length l.path ≡ length l.initial.path)
     × (length l.card ≡ length l.initial.card)
     × (length l.out ≡ length l.initial.out)

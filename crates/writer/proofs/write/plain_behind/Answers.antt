@@ -5,20 +5,20 @@ use Rattle.plains.proofs.Counting.{count_met}
 use Rattle.plains.proofs.Unasked.{none_asked}
 use Rattle.writer.proofs.write.plain_behind.Goals as goal
 
-pub count_at-matches-requires : goal.count_at-matches-requires
-count_at-matches-requires c = below_room c.requires.ready
+pub count_at-requires : goal.count_at-requires
+count_at-requires c = below_room c.requires.ready
 
 pub next_counted-more-requires : goal.next_counted-more-requires
 next_counted-more-requires c =
-    let ready = c.requires.ready in record { lens_node = ready.lens_node; given_old = c.requires.given_old; fitted = (c.requires.within_buffer.0, count_met _ _ ready.lens_node ready.below_is c.count_at-matches.ensures c.if-matches-lt-VARIES.true) }
+    let ready = c.requires.ready in record { lens_node = ready.lens_node; given_old = c.requires.given_old; fitted = (c.requires.within_buffer.0, count_met _ _ ready.lens_node ready.below_is c.in-Some.ensures) }
 
-pub returns-then-matches-lt-VARIES : goal.returns-then-matches-lt-VARIES
-returns-then-matches-lt-VARIES c =
+pub returns-in-Some : goal.returns-in-Some
+returns-in-Some c =
     let ready = c.requires.ready in
     plain_writes
     (λ l e. none_asked c.args.deck.now l ready.lens_node ready.below_is ready.looks_in.over c.requires.within_buffer.1 e)
     ready.looks_in.over
-    (count_met _ _ ready.lens_node ready.below_is c.count_at-matches.ensures c.if-matches-lt-VARIES.true)
+    (count_met _ _ ready.lens_node ready.below_is c.in-Some.ensures)
     c.next_counted-more.ensures.counted
     c.next_counted-more.ensures.next
 

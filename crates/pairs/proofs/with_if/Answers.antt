@@ -1,9 +1,0 @@
--- `pairs::with_if` meets its contract. Assumes nothing.
-use borrow.Author.Rules.{rules}
-use Rattle.pairs.proofs.with_if.Goals as goal
-
-pub returns-then-test : goal.returns-then-test
-returns-then-test c = λ q. rw c.if-test.true (c.with.ensures q)
-
-pub returns : goal.returns
-returns c = λ q. rw c.if-test.false

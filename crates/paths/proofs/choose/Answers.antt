@@ -1,7 +1,0 @@
--- `paths::choose` meets its contract. Assumes nothing.
-use native.Mathlib.Omega.{arith}
-use borrow.Author.Rules.{rules}
-use Rattle.paths.proofs.choose.Goals as goal
-
-pub walk_blocks-requires : goal.walk_blocks-requires
-walk_blocks-requires c = record { room = c.requires.room; leads = c.requires.leads; in_bounds = (omega (arith, c.requires.in_bounds.0), omega (arith, c.requires.in_bounds.1), c.requires.in_bounds.2); path_len = c.requires.path_len; walked = c.requires.walked; marked = c.mark_blocks.ensures }

@@ -1,8 +1,0 @@
--- `search::patches::no_patch` meets its contract. Assumes nothing.
-use mathlib.Core.Path.{refl}
-use Rattle.search.specs.Pairs.{no_patch, no_set}
-use Rattle.search.proofs.patches.no_patch.Goals as goal
-
-pub returns : goal.returns
-unfolding no_patch no_set
-returns c = refl

@@ -1,2 +1,0 @@
--- What the reading functions promise.
-pub mod Files
