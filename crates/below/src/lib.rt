@@ -14,7 +14,7 @@ use positions::Set;
 use table::{Kind, Table};
 
 // What is kept in place of a count that depends on the texts, or is too large.
-const VARIES: u64 = 65536;
+pub const VARIES: u64 = 65536;
 
 // Whether no match at or below a node has one of these children.
 pub fn asks_none(below: &[u64], node: usize, children: Set) -> bool
@@ -32,12 +32,20 @@ pub fn has_union(below: &[u64], node: usize) -> bool
     below[4 * node + 2] == 1
 }
 
-// How many matches a put meets at a node, if that depends on no text.
-pub fn count_at(below: &[u64], node: usize) -> Option<u64>
+// How many matches a put meets at a node, as it is kept: `VARIES` where that depends on the texts.
+pub fn count_at(below: &[u64], node: usize) -> u64
+    requires { 4 * node + 4 ≤ length below.now }
+    ensures { result ≡ count_at below.now node }
+{
+    below[4 * node + 3]
+}
+
+// The same, if it depends on no text.
+pub fn even_count(below: &[u64], node: usize) -> Option<u64>
     requires { 4 * node + 4 ≤ length below.now }
     ensures { result ≡ counted (count_at below.now node) }
 {
-    counted(below[4 * node + 3])
+    counted(count_at(below, node))
 }
 
 // A count, if it is one that is kept.
@@ -62,7 +70,7 @@ fn at_node(below: &[u64], node: usize) -> Standing
     Standing {
         asked: set_at(below, 4 * node),
         union: has_union(below, node),
-        count: count_at(below, node),
+        count: even_count(below, node),
     }
 }
 

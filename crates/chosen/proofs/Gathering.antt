@@ -87,7 +87,7 @@ module _ {bytes t before after : Text} {number start end : ℕ} {answer : Answer
       (given : GivesText (get_call bytes (take (end - start) (drop start t)) (length before)) before after answer)
       (kept : length after ≡ length before)
     where
-      sheet_result : {m : ℕ} → answer ≡ Ok m → SheetOfPart bytes t number before after m
+      pub sheet_result : {m : ℕ} → answer ≡ Ok m → SheetOfPart bytes t number before after m
       unfolding answer_for buffer_after
       sheet_result {m} e =
           record {
@@ -99,7 +99,7 @@ module _ {bytes t before after : Text} {number start end : ℕ} {answer : Answer
                 (cc, gave.buffer_is);
           }
 
-      sheet_refusal : {r : Refusal} → answer ≡ Err r → SheetOfPart bytes t number before after 0
+      pub sheet_refusal : {r : Refusal} → answer ≡ Err r → SheetOfPart bytes t number before after 0
       unfolding answer_for
       sheet_refusal {r} e =
           record {

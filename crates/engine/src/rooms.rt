@@ -48,7 +48,10 @@ fn answer_with(
     ensures { Owes call bytes.now sheet.now source.now out.old out.new result }
 {
     match call {
-        Call::Check => uncounted(Ok(node_count(bytes))),
+        Call::Check => {
+            let length = node_count(bytes);
+            uncounted(Ok(length))
+        }
         Call::Get => uncounted(get_with(bytes, prepared, source, out)),
         Call::Put => put_with(bytes, prepared, sheet, source, out),
         Call::Create => uncounted(create_with(bytes, prepared, sheet, out)),

@@ -100,12 +100,12 @@ module _ {limit : ℕ} {t : Text} {i number : ℕ} (inv : Counts limit t i numbe
 
 -- ---- Whether digits are a number up to a limit
 
-zero_leads : (t : Text) → 1 < length t → get_or t 0 0 ≡ 48 → leading_zero t ≡ true
+pub zero_leads : (t : Text) → 1 < length t → get_or t 0 0 ≡ 48 → leading_zero t ≡ true
 unfolding leading_zero
 zero_leads [] h e = absurd (omega arith)
 zero_leads (d ∷ t) h e = and_of (eqb d 48) (ltb 0 (length t)) (eq-eqb d 48 e) (lt-ltb 0 (length t) (omega arith))
 
-no_zero_leads : (t : Text) → (1 < length t → ¬ (get_or t 0 0 ≡ 48)) → leading_zero t ≡ false
+pub no_zero_leads : (t : Text) → (1 < length t → ¬ (get_or t 0 0 ≡ 48)) → leading_zero t ≡ false
 unfolding leading_zero
 no_zero_leads [] h = refl
 no_zero_leads (d ∷ t) h = go (ltb 0 (length t)) refl

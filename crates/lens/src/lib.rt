@@ -20,13 +20,14 @@ pub enum Mode {
 }
 
 impl Mode {
-    // The side of the text that is read.
+    // The side of the text that is read. Key and create stand apart, so that the must-fail edit `key_by_source` turns one of them alone.
     fn side(self) -> Side
         ensures { result ≡ side_for self }
     {
         match self {
             Mode::Get | Mode::SourceKey => Side::Source,
-            Mode::Key | Mode::Create => Side::Sheet,
+            Mode::Key => Side::Sheet,
+            Mode::Create => Side::Sheet,
         }
     }
 

@@ -1,31 +1,36 @@
 -- A text put into a buffer from a place on, and a number's digits.
 use mathlib.Core.Path.{◌≡◌, refl, sym, ap, ◌∙◌}
 use mathlib.Core.Bool.{Bool, true, false}
-use mathlib.Core.List.{[], ◌∷◌, ◌++◌, append_assoc}
+use mathlib.Core.List.{[], ◌∷◌, ◌++◌, append-nil, append_assoc}
 use Prim.Native.Nat.{ℕ, zero, suc, ◌+◌, ◌-◌, ◌/◌, ◌%◌, ◌^◌, ◌≤◌, ◌<◌}
 use native.Mathlib.Omega.{arith}
 use native.Mathlib.Nat.{pow-suc, pow-le-pow_right}
-use lib.ListN.{length, take, drop, length-append}
-use lib.Seq.{sets-eq, drop-drop}
+use lib.ListN.{length, take, drop, length-append, length-drop, drop_of_length-le}
+use lib.Seq.{sets-eq, take_all, drop-drop}
 use lib.Dec.{leb}
 use borrow.Author.Tests.{lt-ltb, le-ltb, leb-true, leb-false}
 use Rattle.semantics.specs.Text.{Text}
 use Rattle.semantics.specs.Calls.{digits, decimal}
 use Rattle.io.specs.Digits.{IsDigitCount, hex_digit_ascii}
 use Rattle.io.specs.Digits.{last_digits as shownDigits}
+use Rattle.texts.specs.Overlay.{Wrote, Writes, overlay, overlay_fits}
 use Rattle.lines.specs.Line.{Puts}
 
--- A text is copied into the part of a buffer from one place to another, which is lent and given back as the prover says it.
+-- A text that fits is written into the buffer from a place on, which is lent and given back as the prover says it.
 pub puts_lent :
-    (text before : Text) (at : ℕ)
+    (text before rest : Text) (at : ℕ) {wrote : Wrote}
     → at + length text ≤ length before
-    → Puts text at (at + length text) before (take at before ++ (text ++ drop (at + length text - at) (drop at before)))
-puts_lent text before at h =
-    let long : at + length text - at ≡ length text = omega arith in
-    let behind : drop (at + length text - at) (drop at before) ≡ drop (at + length text) before =
-    ap (λ (n : ℕ). drop n (drop at before)) long ∙ drop-drop (length text) at before in
+    → Writes text (take (length before - at) (drop at before)) rest wrote
+    → Puts text at (at + length text) before (take at before ++ (rest ++ drop (length before - at) (drop at before)))
+puts_lent text before rest at h w =
+    let reaches : length (drop at before) ≤ length before - at = rw length-drop (omega arith) in
+    let fits : length text ≤ length (drop at before) = rw length-drop (omega arith) in
+    let lent : take (length before - at) (drop at before) ≡ drop at before = take_all (length before - at) (drop at before) reaches in
+    let behind : drop (length text) (drop at before) ≡ drop (at + length text) before = drop-drop (length text) at before in
+    let rest_is : rest ≡ text ++ drop (at + length text) before =
+    w.buffer_is ∙ ap (overlay text) lent ∙ overlay_fits text (drop at before) fits ∙ ap (λ (l : Text). text ++ l) behind in
     record {
-      after_is = rw behind (sym (sets-eq text before at h ∙ append_assoc (take at before) text (drop (at + length text) before)));
+      after_is = rw (drop_of_length-le (drop at before) reaches, append-nil, rest_is) (sym (sets-eq text before at h ∙ append_assoc (take at before) text (drop (at + length text) before)));
       next_is = refl;
     }
 

@@ -6,14 +6,15 @@ ghost use Rattle.semantics.specs.Calls.{decimal, field};
 ghost use Rattle.semantics.specs.Tally.{counts_line};
 ghost use Rattle.lines.specs.Line.{Puts, accepted_line, refused_line, counts};
 
+use texts::write_text;
+
 // Kept by hand: `Puts` speaks of the buffer and the place before and after, so each function is lent the buffer and answers the place.
 pub fn put_text(text: &[u8], at: usize, out: &mut [u8]) -> usize
     requires { at + length text.now ≤ length out.old }
     ensures { Puts text.now at result out.old out.new }
 {
-    let end = at + text.len();
-    out[at..end].copy_from_slice(text);
-    end
+    write_text(text, &mut out[at..]);
+    at + text.len()
 }
 
 // How many digits a number has, which are at most 20.

@@ -1,5 +1,5 @@
 -- What the numbers tell: number 0 says that there is a result, clash's outcome says which answer it is, and different answers have different numbers.
-use Rattle.std.specs.Prelude.{◌≡◌, refl, ◌↔◌, ℕ, length, Ok}
+use Rattle.std.specs.Prelude.{◌≡◌, refl, ◌↔◌, ℕ, length, Some, None, Ok, Err}
 use Rattle.std.proofs.Common.{ap, arith}
 use Rattle.semantics.specs.Text.{Text}
 use Rattle.semantics.specs.Calls.{gives, refuses, check_call, get_call, put_call, create_call}
@@ -11,7 +11,10 @@ use Rattle.sections.specs.Afm.{import_call, export_call}
 use Rattle.sections.proofs.RoundTrips.{import_named, export_named}
 use Rattle.laws.specs.Basics.{never}
 use Rattle.laws.specs.Refusals.{Named, check_named, get_named, put_named, create_named}
-use Rattle.answers.specs.Outcomes.{answer_for, put_answer_for, clash_answer_for}
+use Rattle.table.specs.declared.Refusal.{Refusal}
+use Rattle.table.specs.Prepared.{refusal}
+use Rattle.answers.specs.declared.Clash.{Clash}
+use Rattle.answers.specs.Outcomes.{ClashAnswer, clash_found, answer_for, put_answer_for, clash_answer_for}
 use Rattle.noontrough.specs.declared.Numbers.{Numbers}
 use Rattle.noontrough.specs.declared.PutNumbers.{PutNumbers}
 use Rattle.noontrough.specs.declared.ClashNumbers.{ClashNumbers}
@@ -210,29 +213,31 @@ put_numbers_differ (refuses number node) (refuses number' node') n n' named name
     let nodes : node ≡ node' = ap (λ (m : PutNumbers). m.node) e in
     cc
 
--- clash's, of which the outcome comes first
+-- clash's, whatever the answers: the outcome comes first
+clash_answers_differ : (answer answer' : ClashAnswer) → clash_numbers_of answer ≡ clash_numbers_of answer' → answer ≡ answer'
+clash_answers_differ (Ok None) (Ok None) e = refl
+clash_answers_differ (Ok None) (Ok (Some c)) e = let z : ◌≡◌ {A = ℕ} 0 1 = ap (λ (m : ClashNumbers). m.outcome) e in absurd (omega arith)
+clash_answers_differ (Ok None) (Err r) e = let z : ◌≡◌ {A = ℕ} 0 2 = ap (λ (m : ClashNumbers). m.outcome) e in absurd (omega arith)
+clash_answers_differ (Ok (Some c)) (Ok None) e = let z : ◌≡◌ {A = ℕ} 1 0 = ap (λ (m : ClashNumbers). m.outcome) e in absurd (omega arith)
+clash_answers_differ (Ok (Some c)) (Ok (Some c')) e =
+    let numbers : c.number ≡ c'.number = ap (λ (m : ClashNumbers). m.number) e in
+    let nodes : c.node ≡ c'.node = ap (λ (m : ClashNumbers). m.node) e in
+    let lengths : c.length ≡ c'.length = ap (λ (m : ClashNumbers). m.length) e in
+    let firsts : c.first ≡ c'.first = ap (λ (m : ClashNumbers). m.first) e in
+    let seconds : c.second ≡ c'.second = ap (λ (m : ClashNumbers). m.second) e in
+    let same : clash_found c.number c.node c.length c.first c.second ≡ clash_found c'.number c'.node c'.length c'.first c'.second = cc in
+    ap (λ (x : Clash). Ok (Some x)) same
+clash_answers_differ (Ok (Some c)) (Err r) e = let z : ◌≡◌ {A = ℕ} 1 2 = ap (λ (m : ClashNumbers). m.outcome) e in absurd (omega arith)
+clash_answers_differ (Err r) (Ok None) e = let z : ◌≡◌ {A = ℕ} 2 0 = ap (λ (m : ClashNumbers). m.outcome) e in absurd (omega arith)
+clash_answers_differ (Err r) (Ok (Some c)) e = let z : ◌≡◌ {A = ℕ} 2 1 = ap (λ (m : ClashNumbers). m.outcome) e in absurd (omega arith)
+clash_answers_differ (Err r) (Err r') e =
+    let numbers : r.number ≡ r'.number = ap (λ (m : ClashNumbers). m.number) e in
+    let nodes : r.node ≡ r'.node = ap (λ (m : ClashNumbers). m.node) e in
+    let same : refusal r.number r.node ≡ refusal r'.number r'.node = cc in
+    ap (λ (x : Refusal). Err x) same
+
 pub clash_numbers_differ :
     (outcome outcome' : Clashes.Outcome)
     → clash_numbers_of (clash_answer_for outcome) ≡ clash_numbers_of (clash_answer_for outcome')
     → clash_answer_for outcome ≡ clash_answer_for outcome'
-unfolding clash_answer_for
-clash_numbers_differ no_clash no_clash e = refl
-clash_numbers_differ no_clash (clash number node t ends) e = let z : ◌≡◌ {A = ℕ} 0 1 = ap (λ (m : ClashNumbers). m.outcome) e in absurd (omega arith)
-clash_numbers_differ no_clash (refused number node) e = let z : ◌≡◌ {A = ℕ} 0 2 = ap (λ (m : ClashNumbers). m.outcome) e in absurd (omega arith)
-clash_numbers_differ (clash number node t ends) no_clash e = let z : ◌≡◌ {A = ℕ} 1 0 = ap (λ (m : ClashNumbers). m.outcome) e in absurd (omega arith)
-clash_numbers_differ (clash number node t ends) (clash number' node' t' ends') e =
-    let numbers : number ≡ number' = ap (λ (m : ClashNumbers). m.number) e in
-    let nodes : node ≡ node' = ap (λ (m : ClashNumbers). m.node) e in
-    let lengths : length t ≡ length t' = ap (λ (m : ClashNumbers). m.length) e in
-    let firsts : ends.0 ≡ ends'.0 = ap (λ (m : ClashNumbers). m.first) e in
-    let seconds : ends.1 ≡ ends'.1 = ap (λ (m : ClashNumbers). m.second) e in
-    cc
-clash_numbers_differ (clash number node t ends) (refused number' node') e =
-    let z : ◌≡◌ {A = ℕ} 1 2 = ap (λ (m : ClashNumbers). m.outcome) e in absurd (omega arith)
-clash_numbers_differ (refused number node) no_clash e = let z : ◌≡◌ {A = ℕ} 2 0 = ap (λ (m : ClashNumbers). m.outcome) e in absurd (omega arith)
-clash_numbers_differ (refused number node) (clash number' node' t ends) e =
-    let z : ◌≡◌ {A = ℕ} 2 1 = ap (λ (m : ClashNumbers). m.outcome) e in absurd (omega arith)
-clash_numbers_differ (refused number node) (refused number' node') e =
-    let numbers : number ≡ number' = ap (λ (m : ClashNumbers). m.number) e in
-    let nodes : node ≡ node' = ap (λ (m : ClashNumbers). m.node) e in
-    cc
+clash_numbers_differ outcome outcome' = clash_answers_differ (clash_answer_for outcome) (clash_answer_for outcome')

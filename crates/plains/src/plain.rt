@@ -12,7 +12,7 @@ ghost use Rattle.counted.specs.Counted.{Fitted};
 ghost use Rattle.plains.specs.Writing.{PlainReady, WritesPlainly};
 
 use automaton::Side;
-use below::count_at;
+use below::even_count;
 use books::Place;
 use counted::{Plain, next_counted};
 use cuts::{Ends, first_loop};
@@ -42,7 +42,7 @@ pub fn put_plain(
 {
     let Spot { node, base } = spot;
     let old = Some(place);
-    if let Some(matches) = count_at(below, node) {
+    if let Some(matches) = even_count(below, node) {
         return next_counted(
             plain,
             matches as usize,
@@ -133,7 +133,7 @@ pub fn create_plain(
 {
     let Spot { node, base } = spot;
     let old = None;
-    if let Some(matches) = count_at(below, node) {
+    if let Some(matches) = even_count(below, node) {
         return next_counted(
             plain,
             matches as usize,
@@ -202,7 +202,7 @@ fn repeat_plain(
 {
     let base = spot.base;
     let ends = ends_of(prepared, child, Side::Sheet, base);
-    if let Some(each) = count_at(below, child) {
+    if let Some(each) = even_count(below, child) {
         let matches = (each as usize) * count_parts(path, ends);
         return next_counted(
             plain, matches, bytes, prepared, spot, new, path, old, deck, out,

@@ -2,7 +2,7 @@
 ghost use Rattle.std.specs.Prelude.{◌≡◌, true, ◌↔◌, List, ℕ, ◌+◌, ◌≤◌, ◌<◌, length, get_or};
 ghost use Rattle.semantics.specs.Text.{Text};
 ghost use Rattle.search.specs.Graph.{Accepts};
-ghost use Rattle.search.specs.Pairs.{begins_in};
+ghost use Rattle.search.specs.Pairs.{begins_in, QuestFits};
 ghost use Rattle.search.specs.Searches.{graph_at};
 ghost use Rattle.search.specs.Queue.{Queue};
 ghost use Rattle.search.specs.Layers.{AllFresh, Filled};
@@ -26,6 +26,7 @@ pub fn fill_layers(
     fresh: &mut [u64],
     starts: &mut [u16],
 ) -> usize
+    requires quest_fits { QuestFits search.quest.now }
     requires queue { Queue order.old fresh.old 0 }
     requires order_len_bound { (length order.old ≤ 32768) × (length order.old + 2 ≤ length starts.old) }
     ensures { (prepared : List ℕ) → AllFresh (graph_at prepared search.entry) order.old fresh.old → (t : Text) → Accepts (graph_at prepared search.entry) t → Filled (graph_at prepared search.entry) order.new starts.new result }

@@ -1,8 +1,8 @@
 // Pairs of positions, in patches: some rows, and in each of them some columns.
-ghost use Rattle.std.specs.Prelude.{◌≡◌};
-ghost use Rattle.search.specs.Pairs.{in_patch, no_patch, begins_in};
+ghost use Rattle.std.specs.Prelude.{◌≡◌, ◌<◌, length};
+ghost use Rattle.search.specs.Pairs.{in_patch, no_patch, begins_in, before_of};
 
-use automaton::Automaton;
+use automaton::{Automaton, set_at};
 use positions::Set;
 
 // The pairs with a row of `rows`, counted from `base`, and a column of `columns`.
@@ -55,5 +55,26 @@ impl Quest {
         let row = pair / 128;
         let column = pair % 128;
         self.early.has(row, column) || self.late.has(row, column)
+    }
+}
+
+// The pairs of its own kind that may come before a pair, whatever the quest. `leads` has for each position those that it may follow: the part's, from 128 on
+// the whole's, from 256 on the rest's.
+pub fn before(leads: &[u64], row: usize, column: usize) -> Patch
+    requires { (length leads.now ≡ 768) × (row < 256) × (column < 128) }
+    ensures { result ≡ before_of leads.now row column }
+{
+    let rows = set_at(leads, 2 * row);
+    if row < 128 {
+        return Patch {
+            base: 0,
+            rows,
+            columns: set_at(leads, 2 * column),
+        };
+    }
+    Patch {
+        base: 128,
+        rows,
+        columns: set_at(leads, 2 * (256 + column)),
     }
 }

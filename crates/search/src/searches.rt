@@ -1,17 +1,16 @@
 // What is searched for, and how its pairs lead to each other.
-ghost use Rattle.std.specs.Prelude.{◌≡◌, ◌<◌, length};
-ghost use Rattle.search.specs.Pairs.{before_of, linked_of, QuestFits};
+ghost use Rattle.std.specs.Prelude.{◌≡◌, ◌≤◌, ◌<◌, length};
+ghost use Rattle.search.specs.Pairs.{before_of, linked_of};
 
-use crate::patches::{Patch, Quest};
+use crate::patches::{Patch, Quest, before};
 use automaton::set_at;
-use positions::Set;
 
 // A quest, and for each position those that it may follow: the part's, from 128 on the whole's, from 256 on the rest's.
 #[derive(Clone, Copy)]
 pub struct Search<'a> {
     pub quest: &'a Quest,
     pub leads: &'a [u64],
-    pub ghost fits: { (length leads.now ≡ 768) × QuestFits quest.now },
+    pub ghost fits: { (length leads.now ≡ 768) × (quest.now.part.count ≤ 128) },
 }
 
 impl Search<'_> {
@@ -20,19 +19,7 @@ impl Search<'_> {
         requires { (row < 256) × (column < 128) }
         ensures { result ≡ before_of self.entry.leads.now row column }
     {
-        let rows = set_at(self.leads, 2 * row);
-        if row < 128 {
-            return Patch {
-                base: 0,
-                rows,
-                columns: set_at(self.leads, 2 * column),
-            };
-        }
-        Patch {
-            base: 128,
-            rows,
-            columns: set_at(self.leads, 2 * (256 + column)),
-        }
+        before(self.leads, row, column)
     }
 
     // The early pairs that may come before a late one.

@@ -4,7 +4,7 @@
 ghost use Rattle.std.specs.Prelude.{◌≡◌, true, ◌↔◌, ℕ, ◌≤◌, ◌<◌, length, get_or};
 ghost use Rattle.clash.specs.Clash.{Given};
 ghost use Rattle.search.specs.Graph.{Accepts};
-ghost use Rattle.search.specs.Pairs.{held_in, pair_in, left_row, right_row, PatchFits, PairRoom};
+ghost use Rattle.search.specs.Pairs.{held_in, pair_in, left_row, right_row, PatchFits, QuestFits, PairRoom};
 ghost use Rattle.search.specs.Searches.{graph_at};
 ghost use Rattle.spelling.specs.Texts.{comes_at, LowerByte, LowestByte, Among, Marked, NoneAlive, EntriesRoom, WrittenOut};
 
@@ -148,6 +148,7 @@ pub fn write_text(
     alive: &mut [u64],
     out: &mut [u8],
 )
+    requires quest_fits { QuestFits search.quest.now }
     requires none_alive { NoneAlive alive.old }
     requires out_in_bounds { (length out.old < length starts.now) × EntriesRoom prepared.now search.quest.now order.now (get_or starts.now (length out.old) 0) }
     requires written_out { WrittenOut (graph_at prepared.now search) order.now starts.now (length out.old) }

@@ -1,33 +1,61 @@
--- A text that is copied into a buffer, whole or as much of it as fits, and the same of a key. Assumes nothing.
+-- A text that is copied into a buffer, byte by byte: what is copied, one byte more, and what was written at the end; and the same of a key. Assumes nothing.
 use mathlib.Core.Path.{◌≡◌, refl, sym, ap, ◌∙◌}
 use mathlib.Core.Bool.{Bool, true, false}
-use mathlib.Core.List.{◌++◌}
-use Prim.Native.Nat.{ℕ, ◌-◌, ◌≤◌, ◌<◌, min}
+use mathlib.Core.List.{◌++◌, append_assoc, append-nil}
+use Prim.Native.Nat.{ℕ, suc, ◌+◌, ◌-◌, ◌≤◌, ◌<◌, min}
+use native.Mathlib.Numerals.{add-one}
 use native.Mathlib.Omega.{arith}
-use lib.ListN.{length, take, drop}
+use lib.ListN.{length, take, drop, get_or, set, length-append, length-take, length-drop}
+use lib.Seq.{take-suc, drop-cons, set_at, length-take-le, take-length, drop-length}
 use Rattle.semantics.specs.Text.{Text, all_spaces}
 use Rattle.std.specs.Prelude.{Some, None}
 use Rattle.texts.specs.Overlay.{Wrote}
 use Rattle.texts.specs.Overlay.{Lays, Writes, has_room, overlay_length, overlay_fits, overlay_over, wrote_room, wrote_none, wrote_fits, wrote_over, count_fits, full_over}
 use Rattle.texts.specs.Cutting.{rest_lent}
 
--- The whole text is copied, and behind it the buffer is as it was.
-pub copied_whole :
-    {text before copied : Text}
-    → length text ≤ length before
-    → copied ≡ text
-    → Writes text before (copied ++ drop (length text) before) (Some (length text))
-copied_whole {text} {before} fits e =
-    record { buffer_is = rw (overlay_fits text before fits, e) refl; answer_is = sym (wrote_fits false text before fits) }
+-- The first i bytes of the text stand in front, and behind them the buffer is as it was.
+pub record Copied (text before after : Text) (i : ℕ) : Type 0 where
+  pub in_text : i ≤ length text
+  pub in_buffer : i ≤ length before
+  pub copied_is : after ≡ take i text ++ drop i before
 
--- The buffer is full, and there is more.
-pub copied_full :
-    {text before after : Text}
-    → length before < length text
-    → after ≡ take (length before) text
-    → Writes text before after None
-copied_full {text} {before} over e =
-    record { buffer_is = e ∙ sym (overlay_over text before (omega arith)); answer_is = sym (wrote_over text before over) }
+module _ {text before after : Text} {i : ℕ} (copied : Copied text before after i) where
+  -- the buffer keeps its length
+  pub copied_length : length after ≡ length before
+  copied_length = rw (copied.copied_is, length-append, length-take, length-drop) (omega arith)
+
+  -- one byte more
+  pub copied_more : i < length text → i < length after → Copied text before (set after i (get_or text i 0)) (i + 1)
+  copied_more h k =
+      let room : i < length before = omega (arith, copied_length) in
+      record {
+        in_text = omega arith;
+        in_buffer = omega arith;
+        copied_is =
+            rw (copied.copied_is, drop-cons before i 0 room)
+            (set_at (take i text) (get_or before i 0) (drop (suc i) before) (get_or text i 0) i (length-take-le i text copied.in_text)
+            ∙ rw (add-one, take-suc text i 0 h, append_assoc));
+      }
+
+  -- the whole text is copied
+  pub copied_all : length text ≤ i → Writes text before after (Some (length text))
+  copied_all h =
+      let e : i ≡ length text = omega (arith, copied.in_text) in
+      let fits : length text ≤ length before = omega (arith, copied.in_buffer) in
+      record {
+        buffer_is = rw (overlay_fits text before fits, copied.copied_is, e, take-length text);
+        answer_is = sym (wrote_fits false text before fits);
+      }
+
+  -- the buffer is full, and there is more
+  pub copied_full : i < length text → length after ≤ i → Writes text before after None
+  copied_full h k =
+      let e : i ≡ length before = omega (arith, copied_length, copied.in_buffer) in
+      let below : length before ≤ length text = omega arith in
+      record {
+        buffer_is = rw (overlay_over text before below, copied.copied_is, e, drop-length before, append-nil);
+        answer_is = sym (wrote_over text before (omega arith));
+      }
 
 -- ---- A text whose trailing spaces don't count, once as much of it is written as fits
 

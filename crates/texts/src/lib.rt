@@ -12,14 +12,14 @@ use padding::all_spaces;
 pub fn write_text(text: &[u8], out: &mut [u8]) -> Option<usize>
     ensures { Writes text.now out.old out.new result }
 {
-    let n = text.len();
-    let room = out.len();
-    if room < n {
-        out.copy_from_slice(&text[..room]);
-        return None;
+    // byte by byte: most texts are a few bytes or none, for which a call of the library's copy is dear
+    for (i, byte) in text.iter().enumerate() {
+        if out.len() <= i {
+            return None;
+        }
+        out[i] = *byte;
     }
-    out[..n].copy_from_slice(text);
-    Some(n)
+    Some(text.len())
 }
 
 // The same of a text whose trailing spaces don't count: those that have no room are left out. What is behind the room tells whether they are trailing ones.

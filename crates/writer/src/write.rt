@@ -15,7 +15,7 @@ ghost use Rattle.plains.specs.Writing.{AsksNone, NoMatch, WithinBuffer, WritesBe
 ghost use Rattle.matches.specs.WithBook.{Ready, WritesMatch};
 
 use automaton::Side;
-use below::{asks_none, count_at};
+use below::{asks_none, even_count};
 use books::Place;
 use counted::{Plain, next_counted};
 use cuts::{Ends, first_loop};
@@ -49,7 +49,7 @@ fn plain_behind(
         wrote: done.wrote,
         met: done.met,
     };
-    if let Some(matches) = count_at(below, spot.node) {
+    if let Some(matches) = even_count(below, spot.node) {
         let more = next_counted(
             plain,
             matches as usize,

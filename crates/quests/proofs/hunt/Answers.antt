@@ -14,7 +14,7 @@ pub fill_fresh-requires-clause-cleared : goal.fill_fresh-requires-clause-cleared
 fill_fresh-requires-clause-cleared c = rw c.filled-fresh.ensures (cleared_zeros 512)
 
 pub fill_layers-length-requires : goal.fill_layers-length-requires
-fill_layers-length-requires c = record { queue = (begins_fresh c.requires.rooms c.requires.answerable.0 c.fill_tables.ensures c.fill_fresh.ensures c.requires.count_in_bounds.0).queue; order_len_bound = (c.requires.count_in_bounds.1, c.requires.count_in_bounds.2) }
+fill_layers-length-requires c = record { quest_fits = c.requires.answerable.0; queue = (begins_fresh c.requires.rooms c.requires.answerable.0 c.fill_tables.ensures c.fill_fresh.ensures c.requires.count_in_bounds.0).queue; order_len_bound = (c.requires.count_in_bounds.1, c.requires.count_in_bounds.2) }
 
 pub overflow_add-length : goal.overflow_add-length
 overflow_add-length c = omega (arith, filled_deep (c.fill_layers-length.ensures _ (begins_fresh c.requires.rooms c.requires.answerable.0 c.fill_tables.ensures c.fill_fresh.ensures c.requires.count_in_bounds.0) _ (some_accepted c.requires.rooms c.requires.answerable.0 c.fill_tables.ensures c.requires.answerable.1)), c.requires.count_in_bounds.1)
@@ -24,7 +24,7 @@ returns-then-out-length c = λ test asks. hunted_short c.requires.rooms c.requir
 
 pub write_text-requires : goal.write_text-requires
 write_text-requires c =
-    let filled = c.fill_layers-length.ensures _ (begins_fresh c.requires.rooms c.requires.answerable.0 c.fill_tables.ensures c.fill_fresh.ensures c.requires.count_in_bounds.0) _ (some_accepted c.requires.rooms c.requires.answerable.0 c.fill_tables.ensures c.requires.answerable.1) in record { none_alive = none_alive (rw c.filled-alive.ensures (cleared_zeros 1024)); out_in_bounds = (simp length-take (omega (arith, filled_deep filled, c.if-out-length.false, c.requires.count_in_bounds.2)), entries_room c.requires.rooms c.requires.answerable.0 c.fill_tables.ensures filled _ (simp length-take (omega (arith, c.if-out-length.false)))); written_out = record { depth = c.fill_layers-length.result; one_more = simp length-take (omega (arith, c.if-out-length.false)); filled = filled } }
+    let filled = c.fill_layers-length.ensures _ (begins_fresh c.requires.rooms c.requires.answerable.0 c.fill_tables.ensures c.fill_fresh.ensures c.requires.count_in_bounds.0) _ (some_accepted c.requires.rooms c.requires.answerable.0 c.fill_tables.ensures c.requires.answerable.1) in record { quest_fits = c.requires.answerable.0; none_alive = none_alive (rw c.filled-alive.ensures (cleared_zeros 1024)); out_in_bounds = (simp length-take (omega (arith, filled_deep filled, c.if-out-length.false, c.requires.count_in_bounds.2)), entries_room c.requires.rooms c.requires.answerable.0 c.fill_tables.ensures filled _ (simp length-take (omega (arith, c.if-out-length.false)))); written_out = record { depth = c.fill_layers-length.result; one_more = simp length-take (omega (arith, c.if-out-length.false)); filled = filled } }
 
 pub returns : goal.returns
 returns c =

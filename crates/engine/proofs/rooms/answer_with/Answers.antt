@@ -6,12 +6,12 @@ use Rattle.engine.specs.Rooms.{Owed}
 use Rattle.engine.proofs.Tries.{owes_as, clash_accepts}
 use Rattle.engine.proofs.rooms.answer_with.Goals as goal
 
-pub node_count-requires : goal.node_count-requires
-node_count-requires c = let right = accepted_sizes c.requires.accepted in omega arith
+pub node_count-length-requires : goal.node_count-length-requires
+node_count-length-requires c = let right = accepted_sizes c.requires.accepted in omega arith
 
 pub returns-in-Check : goal.returns-in-Check
 unfolding Owed
-returns-in-Check c = owes_as c.in-Check.is (record { owed = record { answer_is = c.uncounted.ensures ∙ check_accepts c.args.bytes.now _ c.requires.accepted c.node_count.ensures; buffer_is = refl } })
+returns-in-Check c = owes_as c.in-Check.is (record { owed = record { answer_is = c.uncounted.ensures ∙ check_accepts c.args.bytes.now _ c.requires.accepted c.node_count-length.ensures; buffer_is = refl } })
 
 pub returns-in-Get : goal.returns-in-Get
 unfolding Owed

@@ -9,4 +9,8 @@ returns-in-Get c = elim c.in-Get.is [ inl e ↦ rw e | inr e ↦ rw e ]
 
 pub returns-in-Key : goal.returns-in-Key
 unfolding side_for
-returns-in-Key c = elim c.in-Key.is [ inl e ↦ rw e | inr e ↦ rw e ]
+returns-in-Key c = rw c.in-Key.is
+
+pub returns-in-Create : goal.returns-in-Create
+unfolding side_for
+returns-in-Create c = rw c.in-Create.is

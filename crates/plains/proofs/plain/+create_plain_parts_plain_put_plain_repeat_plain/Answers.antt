@@ -18,8 +18,8 @@ use mathlib.Core.Path.{refl, ◌∙◌}
 use borrow.Author.Rules.{rules}
 use Rattle.plains.proofs.plain.+create_plain_parts_plain_put_plain_repeat_plain.Goals as goal
 
-pub create_plain-count_at-requires : goal.create_plain-count_at-requires
-create_plain-count_at-requires t c = plain_room c.requires.plain_ready
+pub create_plain-even_count-requires : goal.create_plain-even_count-requires
+create_plain-even_count-requires t c = plain_room c.requires.plain_ready
 
 pub create_plain-next_counted-requires : goal.create_plain-next_counted-requires
 create_plain-next_counted-requires t c = record { lens_node = c.requires.plain_ready.lens_node; given_old = given_none c.requires.new_given; fitted = (c.requires.fitted, count_met _ _ c.requires.plain_ready.lens_node c.requires.plain_ready.below_is c.in-Some.ensures) }
@@ -298,8 +298,8 @@ parts_plain-returns t c =
     let one = c.requires.one_lens in
     record { writes = λ b over quiet. parting_ends (c.loop-o.invariant.0 b over (child_asks c.requires.plain_ready one quiet)) one (omega (arith, c.loop-o-test.false)) }
 
-pub put_plain-count_at-requires : goal.put_plain-count_at-requires
-put_plain-count_at-requires t c = plain_room c.requires.plain_ready
+pub put_plain-even_count-requires : goal.put_plain-even_count-requires
+put_plain-even_count-requires t c = plain_room c.requires.plain_ready
 
 pub put_plain-next_counted-requires : goal.put_plain-next_counted-requires
 put_plain-next_counted-requires t c = record { lens_node = c.requires.plain_ready.lens_node; given_old = given_onto c.requires.given; fitted = (c.requires.fitted, count_met _ _ c.requires.plain_ready.lens_node c.requires.plain_ready.below_is c.in-Some.ensures) }
@@ -475,8 +475,8 @@ put_plain-returns-in_default-kind t c = next_plainly c.requires.plain_ready _ (l
 pub repeat_plain-ends_of-ends-requires : goal.repeat_plain-ends_of-ends-requires
 repeat_plain-ends_of-ends-requires t c = node_words (child_below c.requires.plain_ready.lens_node c.requires.one_lens)
 
-pub repeat_plain-count_at-requires : goal.repeat_plain-count_at-requires
-repeat_plain-count_at-requires t c = plain_room (plain_below c.requires.plain_ready (child_below c.requires.plain_ready.lens_node c.requires.one_lens))
+pub repeat_plain-even_count-requires : goal.repeat_plain-even_count-requires
+repeat_plain-even_count-requires t c = plain_room (plain_below c.requires.plain_ready (child_below c.requires.plain_ready.lens_node c.requires.one_lens))
 
 pub repeat_plain-overflow_mul-matches : goal.repeat_plain-overflow_mul-matches
 repeat_plain-overflow_mul-matches t c =

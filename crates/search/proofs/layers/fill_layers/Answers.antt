@@ -26,7 +26,7 @@ loop-from-preserved c =
     let room : length c.loop-from.order + 2 ≤ length c.loop-from.starts = omega (arith, simp length-set at c.loop-from.invariant.same_starts) in
     let asked = c.some_begins in
     let begun = λ (i : ℕ). begins_in c.args.search.quest.now i ≡ true in
-    turn_more c.loop-from.invariant c.args.search.fits.1 room c.loop-from-test.true
+    turn_more c.loop-from.invariant c.requires.quest_fits room c.loop-from-test.true
     (λ begins. not_both (asked.ensures.1 (part_of_some c.loop-from.order _ _ c.loop-from.invariant.inside begun begins)) c.if-not-some_begins.true)
     c.visit_layer-next.ensures
 
@@ -43,4 +43,4 @@ pub returns-after-loop-from : goal.returns-after-loop-from
 returns-after-loop-from c = λ prepared all_fresh t accepted.
     let args = c.args in
     let first = first_layer args.search.quest.now args.search.leads.now args.starts.now prepared (omega arith) c.take_patch-to.ensures all_fresh in
-    absurd (turn_none c.loop-from.invariant prepared c.args.search.fits.1 c.loop-from-test.false first t accepted)
+    absurd (turn_none c.loop-from.invariant prepared c.requires.quest_fits c.loop-from-test.false first t accepted)

@@ -5,8 +5,8 @@ use Rattle.plains.proofs.Counting.{count_met}
 use Rattle.plains.proofs.Unasked.{none_asked}
 use Rattle.writer.proofs.write.plain_behind.Goals as goal
 
-pub count_at-requires : goal.count_at-requires
-count_at-requires c = below_room c.requires.ready
+pub even_count-requires : goal.even_count-requires
+even_count-requires c = below_room c.requires.ready
 
 pub next_counted-more-requires : goal.next_counted-more-requires
 next_counted-more-requires c =

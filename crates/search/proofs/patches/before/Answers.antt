@@ -1,7 +1,7 @@
--- `search::searches::Search::before` meets its contract. Assumes nothing.
+-- `search::patches::before` meets its contract. Assumes nothing.
 use borrow.Author.Tests.{lt-ltb, le-ltb}
 use Rattle.search.specs.Pairs.{before_of}
-use Rattle.search.proofs.searches.Search.before.Goals as goal
+use Rattle.search.proofs.patches.before.Goals as goal
 
 pub returns-then-row-lt128 : goal.returns-then-row-lt128
 unfolding before_of
