@@ -1,7 +1,6 @@
 -- The first and the last line of a section. Assumes nothing.
 use mathlib.Core.Path.{◌≡◌, refl, sym, ap, ◌∙◌}
-use mathlib.Core.Bool.{Bool, true, false, not, cond}
-use Rattle.std.specs.Bool.{then_some}
+use mathlib.Core.Bool.{Bool, true, false, cond}
 use mathlib.Core.List.{List, [], ◌∷◌, ◌++◌, append_assoc, append-nil}
 use mathlib.Core.Option.{Option, none, some}
 use Prim.Native.Nat.{ℕ, ◌+◌, ◌≤◌, ◌<◌}
@@ -104,18 +103,13 @@ module _ (t : Text) (starts : same_text (take 13 t) last_line ≡ true) where
 
   -- what is behind it tells
   pub end_behind :
-      (behind : Text)
+      (behind : Text) (fault : Maybe ℕ)
       → behind ≡ drop 13 t
-      → (empty : Bool)
-      → empty ≡ eqb (length behind) 0
-      → (fault : Maybe ℕ)
-      → fault ≡ then_some (not empty) 2
+      → (length behind ≡ 0 → fault ≡ None)
+      → (0 < length behind → fault ≡ Some 2)
       → EndFault t fault
-  end_behind behind is empty empty_is fault fault_is = go empty empty_is fault_is
-    where
-      go : (e : Bool) → e ≡ eqb (length behind) 0 → fault ≡ then_some (not e) 2 → EndFault t fault
-      go true h f = rw f (end_whole (ap length (sym is) ∙ eqb-true (length behind) 0 (sym h)))
-      go false h f = rw f (end_more (omega (arith, ap length is, eqb-false (length behind) 0 (sym h))))
+  end_behind [] fault is nothing more = rw (nothing refl) (end_whole (ap length (sym is)))
+  end_behind (b ∷ behind) fault is nothing more = rw (more (omega arith)) (end_more (omega (arith, ap length is)))
 
 -- a text that does not
 module _ (t : Text) (other : same_text (take 13 t) last_line ≡ false) where

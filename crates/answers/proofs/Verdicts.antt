@@ -11,11 +11,14 @@ use Rattle.semantics.specs.Calls.{refuses, verdict, program, with_program, check
 use Rattle.laws.specs.Basics.{all_append}
 use Rattle.laws.specs.NodeTrees.{lens_tree}
 use Rattle.laws.specs.Accepted.{Quiet, quiet_iff, gives_iff, accepted_iff}
-use Rattle.table.specs.Prepared.{table_lines, table_answer, answer_for}
+use Rattle.table.specs.Prepared.{table_lines, TableAnswer, table_answer, answer_for}
 use Rattle.table.specs.Prepared.{refusal}
 use Rattle.table.specs.declared.Refusal.{Refusal}
+use Rattle.table.specs.declared.Table.{Table}
 use Rattle.laws.specs.RightSizes.{Right, right_of}
-use Rattle.typing.specs.Round.{typing_answer, answer_of}
+use Rattle.typing.specs.Round.{TypingAnswer, typing_answer, answer_of}
+use Rattle.automaton.specs.Built.{Built}
+use Rattle.answers.specs.declared.Hindrance.TheVariants.{Refused}
 use Rattle.answers.specs.Answers.{IsAccepted, TooSmall, Checked, CheckedIs}
 use Rattle.answers.specs.Outcomes as A
 use Rattle.std.specs.Prelude.{Ok, Err}
@@ -130,6 +133,23 @@ ready_none bytes t e = go (first_that_holds (table_lines bytes)) e
     go none e = refl
     go (some l) e = never (cc)
 
+-- so one that is not refused has none,
+pub unrefused_none : (bytes : Text) (answer : TableAnswer) → answer ≡ table_answer bytes → ((r : Refusal) → answer ≡ Err r → ⊥) → first_that_holds (table_lines bytes) ≡ none
+unrefused_none bytes (Ok t) is other = ready_none bytes t is
+unrefused_none bytes (Err r) is other = absurd (other r refl)
+
+-- and one that is refused is told so by a check in a lent slice
+pub table_told :
+    (bytes : Text) (answer : TableAnswer) (checked : Checked) (prepared : List ℕ)
+    → answer ≡ table_answer bytes
+    → ((t : Table) → answer ≡ Ok t → ⊥)
+    → ((r : Refusal) → answer ≡ Err r → checked ≡ Err (Refused r))
+    → CheckedIs bytes checked prepared
+unfolding CheckedIs
+table_told bytes (Ok t) checked prepared is other told = absurd (other t refl)
+table_told bytes (Err r) checked prepared is other told =
+    rw (told r refl) (record { refuses_it = table_refuses bytes r is; built = λ late. let low = table_number bytes r is in absurd (omega arith) })
+
 module _ (bytes : Text) (table-passes : first_that_holds (table_lines bytes) ≡ none) where
   second_decides : first_that_holds (lines bytes) ≡ first_that_holds (second_round 0 (trees bytes))
   second_decides = rw (lines_are bytes) (first_right (table_lines bytes) (second_round 0 (trees bytes)) table-passes)
@@ -151,6 +171,18 @@ module _ (bytes : Text) (table-passes : first_that_holds (table_lines bytes) ≡
           let r = (accepted_iff bytes).1 ((quiet_iff bytes).0 (none_quiet (lines bytes) (second_decides ∙ found))) in
           record { root = r.0; gives_root = r.1 }
       go (some l) found e = never (cc)
+
+  -- what the second round answers is told by a check in a lent slice
+  pub typing_told :
+      (answer : TypingAnswer) (checked : Checked) (prepared : List ℕ)
+      → answer ≡ typing_answer bytes
+      → (answer ≡ Ok tt → checked ≡ Ok tt)
+      → ((r : Refusal) → answer ≡ Err r → checked ≡ Err (Refused r))
+      → Built bytes prepared
+      → CheckedIs bytes checked prepared
+  unfolding CheckedIs
+  typing_told (Ok t) checked prepared is passed told built = rw (passed refl) (record { accepted = typing_accepts is; built = built })
+  typing_told (Err r) checked prepared is passed told built = rw (told r refl) (record { refuses_it = typing_refuses r is; built = λ late. built })
 
 -- ---- What a check in a lent slice says
 

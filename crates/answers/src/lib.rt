@@ -77,7 +77,8 @@ pub fn check_in(bytes: &[u8], prepared: &mut [u64]) -> Result<(), Hindrance>
     requires { 1536 ≤ length prepared.old }
     ensures { CheckedIs bytes.now result prepared.new }
 {
-    Table::read(bytes, prepared)?;
+    // read for its refusal, and for the sizes that it leaves in the slice
+    let _table = Table::read(bytes, prepared)?;
     build_in(bytes, prepared)
 }
 
@@ -92,6 +93,5 @@ fn build_in(bytes: &[u8], prepared: &mut [u64]) -> Result<(), Hindrance>
         return Err(Hindrance::Small);
     }
     build_all(bytes, prepared);
-    second_round(bytes, prepared)?;
-    Ok(())
+    second_round(bytes, prepared).map_err(Hindrance::from)
 }

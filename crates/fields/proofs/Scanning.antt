@@ -1,6 +1,6 @@
 -- The start of a text: names, numbers and values. Assumes nothing.
 use mathlib.Core.Path.{◌≡◌, refl, sym, ap, ◌∙◌}
-use mathlib.Core.Bool.{Bool, true, false, not, ◌&&◌, cond}
+use mathlib.Core.Bool.{Bool, true, false, ◌&&◌, cond}
 use mathlib.Core.List.{[], ◌∷◌}
 use Prim.Native.Nat.{ℕ, suc, ◌+◌, ◌-◌, ◌*◌, ◌≤◌, ◌<◌}
 use native.Mathlib.Omega.{arith}
@@ -13,22 +13,18 @@ use Rattle.std.specs.Cmp.Lexicographic.{pointwise}
 use borrow.Author.Tests.{lt-ltb, le-ltb, le-leb, ltb-true, eq-eqb, ne_eqb}
 use Rattle.std.specs.Prelude.{Option, Some, None, MatchOption}
 use Rattle.std.specs.List.{prefix_len}
-use Rattle.std.specs.Char.{is_ascii_graphic}
+use Rattle.std.specs.Bool.{then_some}
 use Rattle.semantics.specs.Text.{Text}
 use Rattle.laws.specs.Basics.{cond_true, cond_false, and_of, not_both, false_of_not_true}
 use Rattle.sections.specs.Afm.{semicolon, kpx_word, nought, begins_with, each, is_name_byte, is_name, is_digit, number_from, number_of, leading_zero, is_number, is_value}
 use Rattle.sections.proofs.Splitting.{is_space, and_left, and_right, each_both, name_of, number_of_lem, is_number_lem, value_none, value_plain, value_minus, digit_range}
 use Rattle.fields.specs.declared.Digits.{Digits}
 use Rattle.fields.specs.declared.Form.TheVariants.{Kpx, Sheet}
-use Rattle.fields.specs.Scan.{run, front, name_length, number_in, value_front, value_length, separator_length, lead_length, IsBehind, NoWord, HasWord, NoLead}
-use Rattle.fields.specs.Runs.{front_length, front_each, length_if_true, length_if_false, number_in_is, number_in_none, number_in_some, byte_same, pairs_same, none_some, word_length_true}
+use Rattle.fields.specs.Scan.{run, front, name_length, number_in, value_front, value_length, separator_length, lead_length, Finds, IsBehind, NoWord, HasWord, NoLead}
+use Rattle.fields.specs.Runs.{run_within, front_length, front_each, length_if_true, length_if_false, number_in_is, number_in_none, number_in_some, byte_same, pairs_same, none_some, word_length_true}
 use Rattle.fields.specs.Lines.{begins_one}
 
--- ---- One byte, and a run of them
-
-pub graphic : (b : ℕ) → is_ascii_graphic b && not (eqb b 59) ≡ is_name_byte b
-unfolding is_name_byte
-graphic b = refl
+-- ---- A run of bytes
 
 pub run_prefix : (test : ℕ → Bool) (t : Text) → prefix_len test t ≡ run test t
 unfolding run
@@ -56,6 +52,18 @@ module _ (t : Text) where
   name_none h =
       length_if_false is_name (front is_name_byte t)
       (false_of_not_true _ (λ e. h (omega (arith, (name_of (front is_name_byte t) e).some, front_length is_name_byte t)) (omega (arith, (name_of (front is_name_byte t) e).short, front_length is_name_byte t))))
+
+  -- the length of the run is found where it is that of a name, and nothing is where it is not
+  pub name_found :
+      (n : ℕ) (inside : Bool)
+      → n ≡ run is_name_byte t
+      → (inside ≡ true → (1 ≤ n) × (n ≤ 63))
+      → (inside ≡ false → 1 ≤ n → n ≤ 63 → ⊥)
+      → Finds (name_length t) t (then_some inside n)
+  name_found n true is within beyond =
+      let (some, short) = within refl in
+      (is ∙ name_short (omega arith) (omega arith), omega arith, omega (arith, run_within is_name_byte t))
+  name_found n false is within beyond = name_none (λ some short. beyond refl (omega arith) (omega arith))
 
 -- ---- A number: the digits from i on are still to come
 

@@ -39,6 +39,7 @@ pub struct PairLine<'a> {
     pub rest: &'a [u8],
 }
 
+#[tactic(auto, unfolding(sections::specs::Afm::is_name_byte))]
 fn is_name_byte(byte: u8) -> bool
     ensures { result ≡ is_name_byte byte }
 {
@@ -50,10 +51,7 @@ fn name_length(text: &[u8]) -> Option<usize>
     ensures { Finds (name_length text.now) text.now result }
 {
     let count = text.iter().take_while(|byte| is_name_byte(**byte)).count();
-    match count {
-        1..=NAME => Some(count),
-        _ => None,
-    }
+    (1..=NAME).contains(&count).then_some(count)
 }
 
 // The digits that a text begins with.

@@ -1,5 +1,5 @@
 -- Sets that are gathered on a walk over the positions of another: what the loops over the positions cite. Assumes nothing.
-use mathlib.Core.Path.{◌≡◌, refl, sym, subst, ◌∙◌}
+use mathlib.Core.Path.{◌≡◌, sym, ap, ◌∙◌}
 use mathlib.Core.Bool.{true, false}
 use mathlib.Core.Logic.{◌↔◌, inl, inr, ⊎_elim}
 use Prim.Native.Nat.{ℕ, ◌<◌}
@@ -21,19 +21,23 @@ pub record GatheredOn (gives : ℕ → ℕ → Type 0) (due : Set) (count : ℕ)
   pub held_iff : (q : ℕ) → (holds s q ≡ true) ↔ ((p : ℕ) × (p < count) × (holds walk.left p ≡ false) × gives p q)
 
 module _ {gives : ℕ → ℕ → Type 0} {due : Set} {count : ℕ} where
-  -- No position has come, and positions that are not due give nothing.
+  -- No position has come of those that are due, and positions that are not due give nothing.
+  pub walk_from :
+      {walk : Below} {s : Set} → ((p q : ℕ) → gives p q → holds due p ≡ true)
+      → walk.end ≡ count → ((p : ℕ) → holds walk.left p ≡ holds due p) → Empty s → GatheredOn gives due count walk s
+  walk_from only ends same none =
+      record {
+        same_end = ends;
+        left_due = λ p h. sym (same p) ∙ h;
+        held_iff = λ q. (λ e. absurd (not_both e (none q)), λ (p, l, gone, g). absurd (not_both (only p q g) (sym (same p) ∙ gone)));
+      }
+
   pub walk_begins :
       {walk of : Below} {s : Set} → ((p q : ℕ) → gives p q → holds due p ≡ true)
       → walk ≡ of → of ≡ record { left = due; end = count } → Empty s → GatheredOn gives due count walk s
-  walk_begins {s = s} only same begun none = subst (λ w. GatheredOn gives due count w s) (sym (same ∙ begun)) begins
-    where
-      begins : GatheredOn gives due count (record { left = due; end = count }) s
-      begins =
-          record {
-            same_end = refl;
-            left_due = λ p h. h;
-            held_iff = λ q. (λ e. absurd (not_both e (none q)), λ (p, l, gone, g). absurd (not_both (only p q g) gone));
-          }
+  walk_begins only same begun none =
+      let from = same ∙ begun in
+      walk_from only (ap (λ w. w.end) from) (λ p. ap (λ w. holds w.left p) from) none
 
   -- A position comes.
   pub walk_due : {walk after : Below} {n : ℕ} {s : Set} → GatheredOn gives due count walk s → Taken walk n after → (n < count) × (holds due n ≡ true)

@@ -103,7 +103,10 @@ fn same_as_last(prepared: &[u64], start: usize, x: usize) -> bool
     requires { row_at (start + x + 1) ≤ length prepared.now }
     ensures { result ≡ same_as_last prepared.now start x }
 {
-    0 < x && automaton::alike(prepared, start + (x - 1), start + x)
+    match x.checked_sub(1) {
+        Some(before) => automaton::alike(prepared, start + before, start + x),
+        None => false,
+    }
 }
 
 // The positions that share a byte with position x, once the rows before it are known. In a run of positions with the same bytes all have the same, so

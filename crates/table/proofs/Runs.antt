@@ -1,14 +1,18 @@
 -- The runs that stand in a part of the table: the one of a range, and those of a set, each of which is asked whether it is reversed.
-use mathlib.Core.Path.{◌≡◌, refl, ap, ◌∙◌}
-use mathlib.Core.Bool.{Bool, not, ◌&&◌, ◌||◌}
-use mathlib.Core.List.{List, [], ◌∷◌}
-use Prim.Native.Nat.{ℕ, zero, suc, ◌+◌, ◌*◌, ◌≤◌, ◌<◌}
+use mathlib.Core.Path.{◌≡◌, refl, ap, ◌∙◌, subst}
+use mathlib.Core.Bool.{Bool, true, not, cond, ◌&&◌, ◌||◌}
+use mathlib.Core.List.{List, [], ◌∷◌, ◌++◌}
+use Prim.Native.Nat.{ℕ, suc, ◌+◌, ◌*◌, ◌<◌, min}
 use native.Mathlib.Omega.{arith}
+use denote.Ref.{Bor}
 use lib.Dec.{leb, ltb}
 use lib.ListN.{length, take, drop, get_or}
 use lib.Seq.{drop-cons, drop-drop}
 use Rattle.std.specs.List.{list_all}
-use Rattle.std.specs.Simd.{first_chunks}
+use Rattle.std.specs.declared.slice.Chunks.{Chunks}
+use Rattle.std.specs.Slice.Iter.{chunks_size, chunks_rest, chunks_steps}
+use Rattle.std.proofs.lemmas.Iterator.{YieldsList}
+use Rattle.std.proofs.lemmas.Iterator.Splits.{YieldsList-from_shown_while}
 use Rattle.std.proofs.lemmas.Bool.Decides.{nat_tests}
 use Rattle.semantics.specs.Text.{Text, some_passes}
 use Rattle.semantics.specs.Pattern.{Class, range}
@@ -51,20 +55,45 @@ pool_part bytes start len = ap (take len) (drop-drop start (3 + 4 * node_count b
 
 -- ---- The runs of a set, each a pair of bytes
 
--- whether a pair is no reversed run
-unfoldable pub in_order : List ℕ → Bool
-in_order run = leb (get_or run 0 0) (get_or run 1 0)
+-- the pairs of a text, and the byte that is left over
+pub pairs_of : Text → List Text
+pairs_of [] = []
+pairs_of (a ∷ []) = (a ∷ []) ∷ []
+pairs_of (a ∷ b ∷ xs) = (a ∷ b ∷ []) ∷ pairs_of xs
+
+no_pair : (xs : Text) → length xs ≡ 0 → length (pairs_of xs) ≡ 0
+unfolding pairs_of
+no_pair [] e = refl
+no_pair (a ∷ xs) e = absurd (omega arith)
+
+-- what `chunks(2)` gives next
+next_pair : (xs part rest : Text) → xs ≡ part ++ rest → length part ≡ min 2 (length xs) → 0 < length xs → pairs_of xs ≡ part ∷ pairs_of rest
+unfolding pairs_of
+next_pair xs [] rest e l h = absurd (omega arith)
+next_pair xs (a ∷ []) [] e l h = ap pairs_of e
+next_pair xs (a ∷ []) (b ∷ rest) e l h = absurd (omega (arith, ap length e))
+next_pair xs (a ∷ b ∷ []) rest e l h = ap pairs_of e
+next_pair xs (a ∷ b ∷ c ∷ part) rest e l h = absurd (omega arith)
+
+-- what `chunks(2)` gives in all
+pub YieldsList-from_pairs : {s : Chunks ℕ} (xs : Text) → chunks_size s ≡ 2 → chunks_rest s ≡ xs → YieldsList chunks_steps (λ y. y.now) s (pairs_of xs)
+YieldsList-from_pairs {s} xs size rest =
+    subst (λ ys. YieldsList chunks_steps (λ y. y.now) s (pairs_of ys)) rest
+    (YieldsList-from_shown_while {S = Chunks ℕ} {A = Bor Text} {B = Text} chunks_steps (λ y. y.now) (λ t. pairs_of (chunks_rest t)) (λ t. chunks_size t ≡ 2)
+    (λ t u h k. no_pair (chunks_rest t) k.1.0)
+    (λ t x u h k. (k.0 ∙ h, next_pair (chunks_rest t) x.now (chunks_rest u) k.1.0 (rw h at k.1.1) k.1.2))
+    s size)
+
+-- whether a pair is no reversed run; the byte that is left over is none
+unfoldable pub in_order : Text → Bool
+in_order run = cond (ltb 1 (length run)) (leb (get_or run 0 0) (get_or run 1 0)) true
 
 one_more : (a b : ℕ) (s : Bool) → (leb a b && not s) ≡ not (ltb b a || s)
 one_more a b s = grind (arith, nat_tests)
 
--- each pair is asked; a byte that is left over is none
-pub runs_asked : (n : ℕ) (xs : Text) → 2 * n ≤ length xs → length xs < 2 * n + 2 → list_all in_order (first_chunks 2 n xs) ≡ not (some_passes reversed (runs_of xs))
-unfolding in_order some_passes reversed runs_of
-runs_asked zero [] h l = refl
-runs_asked zero (a ∷ []) h l = refl
-runs_asked zero (a ∷ b ∷ xs) h l = absurd (omega arith)
-runs_asked (suc n) [] h l = absurd (omega arith)
-runs_asked (suc n) (a ∷ []) h l = absurd (omega arith)
-runs_asked (suc n) (a ∷ b ∷ xs) h l =
-    ap (λ r. leb a b && r) (runs_asked n xs (omega arith) (omega arith)) ∙ one_more a b (some_passes reversed (runs_of xs))
+-- each run is asked; a byte that is left over is none
+pub runs_asked : (xs : Text) → list_all in_order (pairs_of xs) ≡ not (some_passes reversed (runs_of xs))
+unfolding pairs_of in_order some_passes reversed runs_of
+runs_asked [] = refl
+runs_asked (a ∷ []) = refl
+runs_asked (a ∷ b ∷ xs) = ap (λ r. leb a b && r) (runs_asked xs) ∙ one_more a b (some_passes reversed (runs_of xs))

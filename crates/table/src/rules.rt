@@ -47,12 +47,14 @@ fn range_ordered(operands: Operands) -> bool
     operands.a <= operands.b && operands.c == 0
 }
 
-// Whether none of the runs of a set is reversed. Each is a pair of bytes.
+// Whether none of the runs of a set is reversed. Each is a pair of bytes; one that is left over is no run.
 fn runs_ordered(pairs: &[u8]) -> bool
     ensures { result ≡ not (some_passes reversed (runs_of pairs.now)) }
 {
-    let (runs, _) = pairs.as_chunks::<2>();
-    runs.iter().all(|run| run[0] <= run[1])
+    pairs.chunks(2).all(|run| match run {
+        [first, last, ..] => first <= last,
+        _ => true,
+    })
 }
 
 fn set_fits(bytes: &[u8], operands: Operands) -> bool

@@ -33,7 +33,10 @@ fn fails(prepared: &[u64], child: usize, node: usize, side: Side, rooms: &mut Ro
     ensures { (r : Pattern) → Speaks prepared.now child side r → Speaks prepared.now node side (star r) → result ≡ bad_repeat r }
 {
     let part = automaton_of(prepared, child, side);
-    part.nullable || cut_twice(prepared, child, node, side, rooms)
+    if part.nullable {
+        return true;
+    }
+    cut_twice(prepared, child, node, side, rooms)
 }
 
 // The first typing line of a const, node k, that holds: its default word is not in its pattern.
@@ -140,10 +143,11 @@ fn node_fault(bytes: &[u8], prepared: &[u64], k: usize, rooms: &mut Rooms) -> Re
         | Kind::OneOf { .. }
         | Kind::PatternJoin { .. }
         | Kind::PatternUnion { .. }
-        | Kind::PatternRepeat { .. }
         | Kind::Copy { .. }
         | Kind::Key { .. }
         | Kind::Match { .. } => Ok(()),
+        // Inside a pattern nothing is cut, so that a repeat of one may be as ambiguous as it likes.
+        Kind::PatternRepeat { .. } => Ok(()),
     }
 }
 

@@ -1,15 +1,20 @@
 -- `language::step_back` meets its contract, by the law of a step backward. The loop's invariant: the set has what the positions give that have
 -- come. Assumes nothing.
-use mathlib.Core.Path.{refl, sym, ◌∙◌}
+use mathlib.Core.Path.{◌≡◌, refl, sym, ◌∙◌}
+use Prim.Native.Nat.{ℕ}
+use borrow.Author.Rules.{rules}
+use Rattle.std.proofs.Common.{tests}
 use Rattle.laws.specs.Basics.{not_both}
 use Rattle.positions.specs.Positions.{holds}
 use Rattle.language.proofs.Gathering.{grown_not, grown_by}
-use Rattle.language.proofs.Walking.{walk_begins, walk_due, walk_on, walk_all}
+use Rattle.language.proofs.Walking.{walk_from, walk_due, walk_on, walk_all}
 use Rattle.language.proofs.Steps.{behind_steps}
 use Rattle.language.proofs.step_back.Goals as goal
 
 pub loop-p-init : goal.loop-p-init
-loop-p-init c = walk_begins (λ p q g. g.stood.held) c.into_iter-p-iterator.ensures.into_iter_gives c.below-p-items.ensures c.empty-set.ensures
+loop-p-init c =
+    let same : (p : ℕ) → holds c.into_iter-p-iterator.result.left p ≡ holds c.args.behind p = λ p. search (rules, tests) in
+    walk_from (λ p q g. g.stood.held) (search rules) same c.empty-set.ensures
 
 pub stands-requires : goal.stands-requires
 stands-requires c = c.requires.room.rows c.in-Some.p (walk_due c.loop-p.invariant c.in-Some.ensures.steps).0

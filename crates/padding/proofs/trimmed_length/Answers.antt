@@ -1,5 +1,6 @@
 -- `padding::trimmed_length` meets its contract: only spaces stand behind the last other byte. Assumes nothing.
 use Rattle.std.proofs.Common.{◌≡◌, ℕ, ◌+◌, ◌-◌, ◌<◌, ◌≤◌, length, get_or, arith, rules}
+use Rattle.semantics.specs.Text.{trimmed}
 use Rattle.padding.proofs.Spaces.{front_length}
 use Rattle.padding.proofs.trimmed_length.Goals as goal
 
@@ -17,4 +18,5 @@ pub returns-in-None : goal.returns-in-None
 returns-in-None c =
     let text = c.args.text.now in
     let spaces : (k : ℕ) → 0 ≤ k → k < length text → get_or text k 0 ≡ 32 = search rules in
-    front_length text 0 (omega arith) spaces (λ some. absurd (omega arith))
+    let none_left : 0 ≡ length (trimmed text) = front_length text 0 (omega arith) spaces (λ some. absurd (omega arith)) in
+    search rules

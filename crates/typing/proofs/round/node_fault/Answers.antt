@@ -10,7 +10,7 @@ use Prim.Native.Nat.{ℕ}
 use Rattle.semantics.specs.Text.{Text}
 use Rattle.std.specs.Prelude.{Ok}
 use Rattle.table.specs.declared.Node.{Node}
-use Rattle.table.specs.declared.Kind.TheVariants.{Word, OneOf, PatternJoin, PatternUnion, PatternRepeat, Copy, Key, Match}
+use Rattle.table.specs.declared.Kind.TheVariants.{Word, OneOf, PatternJoin, PatternUnion, Copy, Key, Match}
 use Rattle.table.specs.Rules.{NodeRead}
 use Rattle.typing.specs.Round.{typing_fault}
 use Rattle.typing.proofs.round.node_fault.Goals as goal
@@ -22,7 +22,6 @@ module _ {bytes : Text} {k : ℕ} {node : Node} (read : NodeRead bytes k node) w
       ⊎ ((x : ℕ) × (y : ℕ) × (node.kind ≡ OneOf x y))
       ⊎ ((x : ℕ) × (y : ℕ) × (node.kind ≡ PatternJoin x y))
       ⊎ ((x : ℕ) × (y : ℕ) × (node.kind ≡ PatternUnion x y))
-      ⊎ ((x : ℕ) × (node.kind ≡ PatternRepeat x))
       ⊎ ((x : ℕ) × (node.kind ≡ Copy x))
       ⊎ ((x : ℕ) × (node.kind ≡ Key x))
       ⊎ ((x : ℕ) × (node.kind ≡ Match x))
@@ -34,8 +33,7 @@ module _ {bytes : Text} {k : ℕ} {node : Node} (read : NodeRead bytes k node) w
   no_lines (inr (inr (inr (inl (x, y, e))))) = no_fault read (shown read e).tree_is refl
   no_lines (inr (inr (inr (inr (inl (x, e)))))) = no_fault read (shown read e).tree_is refl
   no_lines (inr (inr (inr (inr (inr (inl (x, e))))))) = no_fault read (shown read e).tree_is refl
-  no_lines (inr (inr (inr (inr (inr (inr (inl (x, e)))))))) = no_fault read (shown read e).tree_is refl
-  no_lines (inr (inr (inr (inr (inr (inr (inr (x, e)))))))) = no_fault read (shown read e).tree_is refl
+  no_lines (inr (inr (inr (inr (inr (inr (x, e))))))) = no_fault read (shown read e).tree_is refl
 
 pub const_fault-requires : goal.const_fault-requires
 unfolding Shows
@@ -71,3 +69,7 @@ returns-in-LensRepeat c = repeat_fault c.requires.built c.requires.k_bound (show
 
 pub returns-in-Word : goal.returns-in-Word
 returns-in-Word c = no_lines c.node.ensures c.in-Word.is
+
+pub returns-in-PatternRepeat : goal.returns-in-PatternRepeat
+unfolding Shows tree_lines
+returns-in-PatternRepeat c = no_fault c.node.ensures (shown c.node.ensures c.in-PatternRepeat.is).tree_is refl
