@@ -2,6 +2,7 @@
 use Rattle.std.proofs.Common.{sym, ◌∙◌, inl}
 use Rattle.fields.specs.Runs.{pairs_same}
 use Rattle.fields.proofs.Scanning.{nothing, word_behind}
+use borrow.Author.Rules.{rules}
 use Rattle.fields.proofs.after_word.Goals as goal
 
 pub returns-in_err-rest : goal.returns-in_err-rest
@@ -9,4 +10,4 @@ returns-in_err-rest c = nothing _ c.from_residual.ensures (inl (sym (pairs_same 
 
 pub returns : goal.returns
 returns c =
-    word_behind c.args.word.now c.args.text.now c.in_ok-rest.rest.now c.after_spaces.result c.in_ok-rest.ensures.cases.0 c.in_ok-rest.ensures.cases.1 c.after_spaces.ensures
+    word_behind c.args.word.now c.args.text.now c.in_ok-rest.rest.now _ c.in_ok-rest.ensures.cases.0 c.in_ok-rest.ensures.cases.1 (search rules)
