@@ -26,7 +26,9 @@ use Rattle.texts.specs.Overlay.{Wrote, Writes, overlay, overlay_length, overlay_
 use Rattle.lens.specs.Emitting.{LensNode}
 use Rattle.table.specs.declared.Refusal.{Refusal}
 use Rattle.answers.specs.declared.Sourced.{Sourced}
+use Rattle.answers.specs.declared.Tally.{Tally as Counts}
 use Rattle.answers.specs.Outcomes.{Answer, PutAnswer, answer_for, GivesText, untallied}
+use Rattle.answers.specs.Replies.{with_tally}
 use Rattle.answers.specs.Answers.{IsAccepted, Ready}
 use Rattle.answers.specs.Results.{Counted, Finishes, RootPath, Makes, GivesMade}
 use Rattle.answers.proofs.Verdicts.{accepted_sizes, root_tree}
@@ -228,7 +230,18 @@ give_long text {before} long is = refused 16 (gives text) is (lt-ltb (min (lengt
 
 -- ---- The counts of a put
 
--- they are left out of its answer
+-- they stand beside the length of a result,
+pub tallied :
+    (answer : Answer) (n : Counts) (r : PutAnswer) (made : ℕ → Sourced → Type 0)
+    → MatchResult answer (λ length. IsOkAnd r (made length)) (λ e. r ≡ Err e)
+    → ((length : ℕ) (x : Sourced) → made length x → x ≡ record { length = length; tally = n })
+    → r ≡ with_tally answer n
+unfolding with_tally
+tallied (Ok length) n (Ok x) made is each = ap Ok (each length x is)
+tallied (Ok length) n (Err e) made is each = absurd is
+tallied (Err e) n r made is each = is
+
+-- and are left out again
 pub left_out :
     (answer : PutAnswer) (r : Answer) (told : Sourced → ℕ → Type 0)
     → MatchResult answer (λ made. IsOkAnd r (told made)) (λ e. r ≡ Err e)
